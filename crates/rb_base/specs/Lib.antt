@@ -1,0 +1,5 @@
+pub mod Bits
+pub mod Faults
+pub mod Keywords
+pub mod Lines
+pub mod Rules

@@ -1,0 +1,3 @@
+/// A byte's offset in a source.
+#[derive(Clone, Copy, Debug, PartialEq, Eq, PartialOrd, Ord)]
+pub struct Place(pub u32);
