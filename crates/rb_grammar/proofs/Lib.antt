@@ -1,0 +1,12 @@
+pub mod Separating
+pub mod OneSpelling
+pub mod Laying
+pub mod Scanning
+pub mod Lexing
+pub mod Following
+pub mod Barring
+pub mod Steps
+pub mod Bridge
+pub mod OneReading
+pub mod Beginnings
+pub mod Judgement

@@ -1,0 +1,5 @@
+use Rattle.std.proofs.Common.{◌≡◌, ℕ, ◌+◌, ◌<◌, get_or}
+use Rattle.rb_grammar.proofs.separators.body_len.Given as goal
+
+abbrev pub invariant-loop-i : goal.invariant-loop-i
+invariant-loop-i l = (k : ℕ) → k + 1 < l.i → get_or l.text k 0 ≡ 42 → get_or l.text (k + 1) 0 ≡ 47 → ⊥

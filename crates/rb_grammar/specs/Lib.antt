@@ -1,0 +1,9 @@
+pub mod Separators
+pub mod Lexemes
+pub mod Spelling
+pub mod Printing
+pub mod Forms
+pub mod Readings
+pub mod Firsts
+pub mod Brackets
+pub mod Judging
