@@ -1,0 +1,12 @@
+pub mod Tests
+pub mod Spelling
+pub mod Printing
+pub mod TreeText
+pub mod Names
+pub mod Nets
+pub mod Steps
+pub mod OneRun
+pub mod HasRun
+pub mod Constants
+pub mod ValuesFit
+pub mod OneTree
