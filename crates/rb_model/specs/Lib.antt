@@ -1,0 +1,14 @@
+pub mod Effects
+pub mod Kept
+pub mod Ports
+pub mod Items
+pub mod Machine
+pub mod Protocol
+pub mod Run
+pub mod References
+pub mod SoundField
+pub mod Sound
+pub mod Header
+pub mod Agreement
+pub mod Own
+pub mod PinsHave
