@@ -1,0 +1,10 @@
+pub mod Spelled
+pub mod Split
+pub mod Ended
+pub mod Named
+pub mod FirstForm
+pub mod FirstText
+pub mod FirstRun
+pub mod FirstAgrees
+pub mod FirstSound
+pub mod Appending

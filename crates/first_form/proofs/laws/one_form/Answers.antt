@@ -1,0 +1,5 @@
+use Rattle.first_form.proofs.Split.{one}
+use Rattle.first_form.proofs.laws.one_form.Goals as goal
+
+pub returns : goal.returns
+returns c = one
