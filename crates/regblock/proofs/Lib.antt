@@ -1,0 +1,4 @@
+pub mod Rows
+pub mod CompleteRuns
+pub mod Causes
+pub mod Headlines

@@ -1,0 +1,31 @@
+use Rattle.regblock.proofs.Rows.{Ends-written}
+use Rattle.regblock.proofs.CompleteRuns.{complete}
+use Rattle.regblock.proofs.Causes.{usage_cause, read_fault_cause, too_long_cause, write_fault_cause}
+use Rattle.regblock.proofs.Headlines.{done, refused}
+use Rattle.first_form.proofs.FirstSound.{sound}
+use Rattle.first_form.proofs.Named.{named}
+use Rattle.regblock.proofs.top_call.run.Goals as goal
+
+pub returns-in-Ok-clause-ends : goal.returns-in-Ok-clause-ends
+returns-in-Ok-clause-ends g c = Ends-written _ _ _ _ _ _ _ _ c.in-Ok.ensures c.write.ensures
+
+pub returns-in-Ok-clause-done : goal.returns-in-Ok-clause-done
+returns-in-Ok-clause-done g c = done _ _ _ _ _ _ (returns-in-Ok-clause-ends g c) (λ source f is. sound f (named source f is))
+
+pub returns-in-Ok-clause-refused : goal.returns-in-Ok-clause-refused
+returns-in-Ok-clause-refused g c = refused _ _ _ _ _ _ (returns-in-Ok-clause-ends g c)
+
+pub returns-in-Ok-clause-complete : goal.returns-in-Ok-clause-complete
+returns-in-Ok-clause-complete g c = complete _ _ _ _ _ _ (returns-in-Ok-clause-ends g c)
+
+pub returns-in-Ok-clause-usage : goal.returns-in-Ok-clause-usage
+returns-in-Ok-clause-usage g c = usage_cause _ _ _ _ _ _ (returns-in-Ok-clause-ends g c)
+
+pub returns-in-Ok-clause-read_fault : goal.returns-in-Ok-clause-read_fault
+returns-in-Ok-clause-read_fault g c = read_fault_cause _ _ _ _ _ _ (returns-in-Ok-clause-ends g c)
+
+pub returns-in-Ok-clause-too_long : goal.returns-in-Ok-clause-too_long
+returns-in-Ok-clause-too_long g c = too_long_cause _ _ _ _ _ _ (returns-in-Ok-clause-ends g c)
+
+pub returns-in-Ok-clause-write_fault : goal.returns-in-Ok-clause-write_fault
+returns-in-Ok-clause-write_fault g c = write_fault_cause _ _ _ _ _ _ (returns-in-Ok-clause-ends g c)

@@ -1,0 +1,9 @@
+pub mod Words
+pub mod Text
+pub mod Status
+pub mod Outcome
+pub mod Ends
+pub mod Complete
+pub mod Headline
+pub mod Command
+pub mod Answer

@@ -1,0 +1,12 @@
+//! The register compiler: a command line, files by name, and two texts.
+#![tactic(auto)]
+
+mod answer;
+mod status;
+#[cfg(test)]
+mod tests;
+mod top_call;
+mod words;
+
+pub use status::Status;
+pub use top_call::run;

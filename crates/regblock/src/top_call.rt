@@ -1,0 +1,56 @@
+//! The top call.
+
+ghost use Rattle.std.specs.Prelude.{◌≡◌, ◌⊎◌, List, ℕ};
+ghost use Rattle.rb_edge.specs.Count.{Rose};
+ghost use Rattle.rb_edge.specs.Shelf.{IsLonger};
+ghost use Rattle.regblock.specs.Words.{texts, Command, compile, Asks, AsksNothing};
+ghost use Rattle.regblock.specs.Outcome.{FailedRead, Outcome, StopsAt, files_of};
+ghost use Rattle.regblock.specs.Ends.{Ends, passage};
+ghost use Rattle.regblock.specs.Complete.{IsComplete};
+ghost use Rattle.regblock.specs.Headline.{IsCompiled, IsToldFailure};
+
+use crate::Status;
+use crate::answer::answer_words;
+use rb_edge::{Shelf, Sink};
+use std::alloc::Global;
+
+/// Does what the words ask for: the words after the program's name, files from the shelf, texts to the sinks.
+///
+/// All memory is taken before the first byte is written. The text for err is written before that for out.
+pub fn run<S: Shelf, O: Sink, E: Sink>(
+    alloc: Global,
+    words: &[String],
+    shelf: &mut S,
+    out: &mut O,
+    err: &mut E,
+) -> Status
+    // A module that was written is right, and a refusal names the first failure.
+    ensures done { (file : List ℕ) → Asks (texts words.now) (compile file) → result ≡ Status.Done
+        → IsCompiled (S.contents shelf.old) file (passage E.told E.faults err.old err.new) (passage O.told O.faults out.old out.new) }
+    ensures refused { (file : List ℕ) → Asks (texts words.now) (compile file) → result ≡ Status.Refused
+        → IsToldFailure (S.contents shelf.old) file (passage E.told E.faults err.old err.new) (passage O.told O.faults out.old out.new) }
+
+    // What is written and how it ends belong to the words and the files.
+    ensures ends { Ends (Outcome (texts words.now) (S.contents shelf.old) (FailedRead S.faults shelf.old shelf.new))
+        (passage E.told E.faults err.old err.new) (passage O.told O.faults out.old out.new) result }
+
+    // Each of these ends has its cause.
+    ensures usage { result ≡ Status.Usage → AsksNothing (texts words.now) }
+    ensures read_fault { result ≡ Status.ReadFault → (command : Command) × Asks (texts words.now) command
+        × StopsAt (S.contents shelf.old) (λ file _. FailedRead S.faults shelf.old shelf.new file) (files_of command) }
+    ensures too_long { result ≡ Status.TooLong → (command : Command) × Asks (texts words.now) command
+        × StopsAt (S.contents shelf.old) (λ file limit. IsLonger (S.contents shelf.old) file limit) (files_of command) }
+    ensures write_fault { result ≡ Status.WriteFault → Rose (E.faults err.old) (E.faults err.new) ⊎ Rose (O.faults out.old) (O.faults out.new) }
+
+    // Where it can be done it is, unless memory runs out.
+    ensures complete { IsComplete (texts words.now) (S.contents shelf.old) (FailedRead S.faults shelf.old shelf.new)
+        (passage E.told E.faults err.old err.new) (passage O.told O.faults out.old out.new) result }
+
+    // Without memory nothing is written.
+    ensures no_memory { result ≡ Status.NoMemory → (out.new ≡ out.old) × (err.new ≡ err.old) }
+{
+    match answer_words(alloc, words, shelf) {
+        Ok(answer) => answer.write(out, err),
+        Err(_) => Status::NoMemory,
+    }
+}
