@@ -1,0 +1,7 @@
+pub mod Values
+pub mod Splits
+pub mod Classes
+pub mod Fronts
+pub mod Sizes
+pub mod NumberFronts
+pub mod Steps

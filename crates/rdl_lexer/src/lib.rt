@@ -1,0 +1,13 @@
+//! The tokens of a SystemRDL source (SystemRDL 2.0, clause 4).
+#![tactic(auto)]
+
+mod lexeme;
+mod lexer;
+mod marks;
+mod numbers;
+mod runs;
+
+pub use lexer::Lexer;
+
+#[cfg(test)]
+mod tests;
