@@ -1,0 +1,5 @@
+pub mod Numeral
+pub mod PinTable
+pub mod Records
+pub mod Vectors
+pub mod Columns

@@ -1,0 +1,64 @@
+//! The numbers of cells.
+ghost use Rattle.std.specs.Prelude.{◌≡◌, ℕ, ◌+◌, ◌*◌, ◌^◌, ◌<◌, ◌≤◌, nat_lt, if◌then◌else◌, Some, None, Option};
+ghost use Rattle.stim_csv.specs.Numeral.{numeral_value, cell_value, cell_of, capped, fits};
+
+/// What a cell is.
+#[derive(Clone, Copy)]
+pub(crate) enum Cell {
+    /// No number.
+    Bad,
+    /// A number below 2^128.
+    Number(u128),
+    /// A number of 2^128 or more.
+    Above,
+}
+
+/// The number with one more digit at its end, where it is below 2^128.
+fn appended(number: Option<u128>, radix: u32, digit: u32) -> Option<u128>
+    requires { 1 ≤ radix }
+    ensures { (n : ℕ) → number ≡ capped n → result ≡ capped (n * radix + digit) }
+{
+    number?
+        .checked_mul(u128::from(radix))?
+        .checked_add(u128::from(digit))
+}
+
+/// The number that digits of a radix, 2 to 36, write.
+fn numeral(digits: &[u8], radix: u32) -> Cell
+    requires low { 2 ≤ radix }
+    requires high { radix ≤ 36 }
+    ensures { result ≡ cell_of (numeral_value radix digits.now) }
+{
+    let mut number = Some(0);
+    for byte in digits {
+        match char::from(*byte).to_digit(radix) {
+            Some(digit) => number = appended(number, radix, digit),
+            None => return Cell::Bad,
+        }
+    }
+    if digits.is_empty() {
+        return Cell::Bad;
+    }
+    match number {
+        Some(number) => Cell::Number(number),
+        None => Cell::Above,
+    }
+}
+
+/// What a text is as a cell: decimal digits, or `0x` and hexadecimal digits of either case.
+pub(crate) fn read_cell(text: &[u8]) -> Cell
+    ensures { result ≡ cell_of (cell_value text.now) }
+{
+    if text.starts_with(b"0x") {
+        numeral(&text[2..], 16)
+    } else {
+        numeral(text, 10)
+    }
+}
+
+/// Whether a number fits so many bits.
+pub(crate) fn is_within(number: u128, width: u8) -> bool
+    ensures { result ≡ fits width number }
+{
+    width >= 128 || number >> width == 0
+}

@@ -1,0 +1,13 @@
+//! Pin tables: the numbers of input pins, one row for each rising edge of the clock, as comma-separated text.
+#![tactic(auto)]
+
+mod cell;
+mod error;
+mod header;
+mod records;
+mod stimulus;
+#[cfg(test)]
+mod tests;
+
+pub use error::StimError;
+pub use stimulus::Stimulus;

@@ -1,0 +1,152 @@
+//! A table of pins.
+ghost use Rattle.std.specs.Prelude.{◌≡◌, ◌≢◌, ℕ, ◌*◌, ◌+◌, ◌<◌, ◌≤◌, None, Some, Ok, Err, Option, OnOk, IfOk, IfErr, AllPairs, List, map, length, slice_index, slice_index_or, ◌++◌, []};
+ghost use Rattle.std.specs.List.{AllByRecursion};
+ghost use Rattle.csv.specs.Records.{fields_of};
+ghost use Rattle.stim_csv.specs.Columns.{AreColumns, numbers_in};
+ghost use Rattle.stim_csv.specs.Records.{Reads, records_left};
+ghost use Rattle.stim_csv.specs.PinTable.{is_too_many, table_of, records_of, vector_of, row_problem, first_problem, width_of};
+
+use crate::StimError;
+use crate::header::{Header, read_cells};
+use crate::records::next_record;
+use csv::{ByteRecord, Reader, ReaderBuilder};
+use rb_base::Pin;
+use std::alloc::{AllocError, Global};
+use std::marker::Model;
+
+/// The most rows that a table may have.
+const MOST_ROWS: u64 = 1_000_000;
+
+/// The most numbers that the outputs of all rows may be.
+const MOST_OUTPUTS: u64 = 16_777_216;
+
+/// The vectors of a table of pins, one for each row. Contracts see the list of the vectors.
+#[derive(Drop)]
+pub struct Stimulus {
+    vectors: Vec<u128>,
+    width: usize,
+    rows: u64,
+}
+
+impl Model for Stimulus {
+    ghost use Rattle.std.specs.Prelude.{◌≡◌, ◌*◌, ℕ, List, length};
+    ghost use Rattle.stim_csv.specs.Vectors.{cut};
+
+    ghost Value = { List (List ℕ) };
+
+    ghost view = { λ s. cut s.width s.rows s.vectors.items };
+
+    ghost invariant = { λ s. length s.vectors.items ≡ s.rows * s.width };
+}
+
+/// Whether a row is one too many.
+fn is_past_the_end(row: u64, outputs: u32) -> bool
+    requires { row ≤ 1000000 }
+    ensures { result ≡ is_too_many row outputs }
+{
+    row == MOST_ROWS || MOST_OUTPUTS < (row + 1) * u64::from(outputs)
+}
+
+/// Adds a row's numbers in the order of the pins, which have these columns.
+fn push_vector(
+    vectors: &mut Vec<u128>,
+    columns: &[usize],
+    numbers: &[u128],
+) -> Result<(), AllocError>
+    requires { AllByRecursion (λ c. c < length numbers.now) columns.now }
+    ensures { OnOk result (vectors.new.items ≡ vectors.old.items ++ map (λ c. slice_index numbers.now c) columns.now) }
+{
+    for column in columns {
+        vectors.push(numbers[*column])?;
+    }
+    Ok(())
+}
+
+/// The table of the rows that a reader has left, under this header.
+fn read_rows(
+    alloc: Global,
+    reader: &mut Reader<&[u8]>,
+    header: &Header,
+    outputs: u32,
+) -> Result<Stimulus, StimError>
+    requires reads { Reads reader.old }
+    requires columns { AreColumns header.now }
+    ensures sound { OnOk result
+        (first_problem (row_problem header.now.widths.items outputs) 0 (records_left reader.old) ≡ None) }
+    ensures vectors { IfOk result
+        (λ s. s ≡ map (numbers_in header.now.columns.items) (records_left reader.old)) }
+    ensures problem { IfErr result (λ e. e ≢ StimError.NoMemory
+        → first_problem (row_problem header.now.widths.items outputs) 0 (records_left reader.old) ≡ Some e) }
+{
+    let mut cells = ByteRecord::new(alloc);
+    let mut numbers = Vec::new(alloc);
+    let mut vectors = Vec::new(alloc);
+    let mut row = 0;
+    while next_record(reader, &mut cells)? {
+        if is_past_the_end(row, outputs) {
+            return Err(StimError::TooMany { row });
+        }
+        read_cells(&header.widths, &cells, row, &mut numbers)?;
+        push_vector(&mut vectors, &header.columns, &numbers)?;
+        row += 1;
+    }
+    Ok(Stimulus {
+        vectors,
+        width: header.columns.len(),
+        rows: row,
+    })
+}
+
+impl Stimulus {
+    /// The table that bytes are, for these input pins of a module that has so many outputs, or the first problem in
+    /// them.
+    ///
+    /// The header is judged first, its columns from the left; then missing pins, in the order of the pins; then the
+    /// rows in order. In a row the number of rows is judged first, then the number of cells, then the cells from the
+    /// left.
+    pub fn read(
+        alloc: Global,
+        bytes: &[u8],
+        pins: &[Pin],
+        outputs: u32,
+    ) -> Result<Stimulus, StimError>
+        requires { AllPairs (λ p q. p.name ≢ q.name) pins.now }
+        ensures vectors { IfOk result (λ s. table_of pins.now outputs (records_of bytes.now) ≡ Ok s) }
+        ensures problem { IfErr result (λ e. e ≢ StimError.NoMemory
+            → table_of pins.now outputs (records_of bytes.now) ≡ Err e) }
+    {
+        let mut reader = ReaderBuilder::new()
+            .has_headers(false)
+            .flexible(true)
+            .from_reader(alloc, bytes);
+        let mut names = ByteRecord::new(alloc);
+        let headed = next_record(&mut reader, &mut names)?;
+        let header = Header::read(alloc, pins, &names)?;
+        if headed {
+            read_rows(alloc, &mut reader, &header, outputs)
+        } else {
+            Ok(Stimulus {
+                vectors: Vec::new(alloc),
+                width: pins.len(),
+                rows: 0,
+            })
+        }
+    }
+
+    /// How many rows the table has.
+    pub fn rows(&self) -> u64
+        ensures { result ≡ length self.now }
+    {
+        self.rows
+    }
+
+    /// The numbers of the pins in a row, in the order of the pins.
+    pub fn row(&self, at: u64) -> &[u128]
+        requires { at < length self.now }
+        ensures { result.now ≡ slice_index_or self.now at [] }
+    {
+        let vectors = self.vectors.as_slice();
+        let start = at as usize * self.width;
+        &vectors[start..start + self.width]
+    }
+}
