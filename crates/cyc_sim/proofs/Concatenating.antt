@@ -1,0 +1,136 @@
+-- Concatenations, part by part.
+use Rattle.std.specs.List.{AllByRecursion}
+use Rattle.std.proofs.Common.{◌≡◌, ℕ, ◌+◌, ◌*◌, ◌^◌, ◌<◌, ◌≤◌, Bool, true, false, ◌&&◌, nat_le, IsSome, List, [], ◌∷◌, ◌++◌, length, get_or, refl, ap, sym, ◌∙◌, append_assoc, arith, rules, Vec, Global}
+use Rattle.std.proofs.lemmas.List.{append-nil}
+use Rattle.std.proofs.lemmas.Bool.Decides.{nat_tests}
+use Rattle.std.proofs.lemmas.Nat.{pow-add}
+use Rattle.v_design.specs.declared.design.VExpr.{VExpr, Row_of-VExpr, end_of-VExpr, more_of-VExpr, items-the_row-VExpr}
+use Rattle.v_design.specs.declared.design.VExpr.TheVariants.{Cat as cat_of}
+use Rattle.v_design.specs.declared.design.VExpr.TheViews.{the_lemmas}
+use Rattle.v_design.specs.Expr as expr
+use Rattle.v_design.specs.Expr.{Expr, Exprs, none, more, Widths, Values, nets_of, nets_of_each, width_of, width_of_all, is_sized, are_sized, value_of, value_of_all}
+use Rattle.v_design.specs.Seen.{expr_seen, exprs_seen}
+use Rattle.v_design.proofs.Constants.{ConstantsFit, EachConstantFits}
+use Rattle.v_design.proofs.Names.{each_append}
+use Rattle.cyc_sim.specs.declared.listing.Wire.{Wire}
+use Rattle.cyc_sim.specs.declared.listing.Listing.{Listing}
+use Rattle.cyc_sim.specs.declared.operation.Operation.TheVariants.{Constant, Join}
+use Rattle.cyc_sim.specs.Operations.{values_after}
+use Rattle.cyc_sim.specs.Compiled.{Known, known_at, end_of, AreWidths, Agrees, Extends, Adds, Compiles}
+use Rattle.cyc_sim.proofs.Numbers.{joined_small}
+use Rattle.cyc_sim.proofs.Compiling.{extends_one, extends_both, end_adds, agrees_extends, kept, added, expr_fits, exprs_fit}
+
+-- the expressions of a list
+abbrev pub listed : List VExpr → Exprs
+listed [] = none
+listed (e ∷ es) = more (expr_seen e) (listed es)
+
+row_listed : (n : _) (row : Row_of-VExpr n) → exprs_seen row ≡ listed (items-the_row-VExpr n row)
+row_listed _ end_of-VExpr = refl
+row_listed _ (more_of-VExpr e rest) = ap (λ z. more (expr_seen e) z) (row_listed _ rest)
+
+-- a concatenation is seen as the list of its parts
+pub cat_seen : (v : Vec VExpr Global) → expr_seen (cat_of v) ≡ expr.Cat (listed v.items)
+cat_seen v = search (rules, the_lemmas, row_listed)
+
+-- one expression more at the end
+abbrev pub behind : Exprs → Expr → Exprs
+behind none e = more e none
+behind (more x xs) e = more x (behind xs e)
+
+pub listed-push : (es : List VExpr) (e : VExpr) → listed (es ++ (e ∷ [])) ≡ behind (listed es) (expr_seen e)
+listed-push [] e = refl
+listed-push (x ∷ xs) e = ap (more (expr_seen x)) (listed-push xs e)
+
+width-behind : (ws : Widths) (es : Exprs) (e : Expr) → width_of_all ws (behind es e) ≡ width_of_all ws es + width_of ws e
+width-behind ws none e = omega arith
+width-behind ws (more x xs) e = ap (λ n. width_of ws x + n) (width-behind ws xs e) ∙ omega arith
+
+shifted : (x y a b c : ℕ) → x * (a * b) + (y * b + c) ≡ (x * a + y) * b + c
+shifted x y a b c = grind arith
+
+value-behind : (ws : Widths) (v : Values) (es : Exprs) (e : Expr) → value_of_all ws v (behind es e) ≡ value_of_all ws v es * 2 ^ width_of ws e + value_of ws v e
+value-behind ws v none e = none_before (value_of ws v e) (2 ^ width_of ws e)
+  where
+    none_before : (x p : ℕ) → x * 2 ^ 0 + 0 ≡ 0 * p + x
+    none_before x p = omega arith
+value-behind ws v (more x xs) e =
+    ap (λ n. value_of ws v x * 2 ^ n + value_of_all ws v (behind xs e)) (width-behind ws xs e)
+    ∙ (ap (λ p. value_of ws v x * p + value_of_all ws v (behind xs e)) (pow-add 2 (width_of_all ws xs) (width_of ws e))
+    ∙ (ap (λ n. value_of ws v x * (2 ^ width_of_all ws xs * 2 ^ width_of ws e) + n) (value-behind ws v xs e)
+    ∙ shifted (value_of ws v x) (value_of_all ws v xs) (2 ^ width_of_all ws xs) (2 ^ width_of ws e) (value_of ws v e)))
+
+two-true : (a b : Bool) → (a && b) ≡ true → (a ≡ true) × (b ≡ true)
+two-true true b h = (refl, h)
+two-true false b h = cc h
+
+sized-behind : (ws : Widths) (es : Exprs) (e : Expr) → are_sized ws (behind es e) ≡ true → (are_sized ws es ≡ true) × (is_sized ws e ≡ true)
+sized-behind ws none e h = (refl, (two-true (is_sized ws e) true h).0)
+sized-behind ws (more x xs) e h =
+    let p = two-true (is_sized ws x) (are_sized ws (behind xs e)) h in
+    let q = sized-behind ws xs e p.1 in
+    (rw (p.0, q.0) refl, q.1)
+
+constants-behind : (es : Exprs) (e : Expr) → EachConstantFits (behind es e) → EachConstantFits es × ConstantsFit e
+constants-behind none e h = (tt, h.0)
+constants-behind (more x xs) e h = let q = constants-behind xs e h.1 in ((h.0, q.0), q.1)
+
+nets-behind : (es : Exprs) (e : Expr) → nets_of_each (behind es e) ≡ nets_of_each es ++ nets_of e
+nets-behind none e = append-nil (nets_of e)
+nets-behind (more x xs) e = ap (λ l. nets_of x ++ l) (nets-behind xs e) ∙ sym (append_assoc (nets_of x) (nets_of_each xs) (nets_of e))
+
+-- as `Compiles`, of the parts of a concatenation
+pub record CompilesAll (known : Known) (es : Exprs) (old new : Listing) (w : Wire) : Type 0 where
+  pub extends : Extends old new
+  pub below : w.place < end_of new
+  pub nets : AllByRecursion (λ n. IsSome (known_at known n)) (nets_of_each es)
+  pub width : (ws : Widths) → AreWidths known ws → w.width ≡ width_of_all ws es
+  pub value : (ws : Widths) (v : Values) (base : List ℕ) → length base ≡ old.first → AreWidths known ws → are_sized ws es ≡ true → width_of_all ws es ≤ 128 → EachConstantFits es
+      → Agrees known old.operations.items base v → get_or (values_after new.operations.items base) w.place 0 ≡ value_of_all ws v es
+
+pub compiled_none : (known : Known) (l l' : Listing) (w : Wire) → Adds l l' (Constant 0) w.place → w.width ≡ 0 → CompilesAll known none l l' w
+compiled_none known l l' w adds width = record {
+  extends = extends_one l l' _ w.place adds;
+  below = end_adds l l' _ w.place adds;
+  nets = tt;
+  width = λ ws wide. width;
+  value = λ ws v base long wide sized narrow constants agrees. added l l' base _ w.place adds long;
+}
+
+pub compiled_behind : (known : Known) (es : Exprs) (e : Expr) (a b c d : Listing) (high low w : Wire) → CompilesAll known es a b high → Compiles known e b c low
+    → Adds c d (Join high.place low.place low.width) w.place → w.width ≡ high.width + low.width → CompilesAll known (behind es e) a d w
+compiled_behind known es e a b c d high low w h k adds width = record {
+  extends = extends_both a b d h.extends (extends_both b c d k.extends (extends_one c d _ w.place adds));
+  below = end_adds c d _ w.place adds;
+  nets = rw (nets-behind es e) (each_append (λ n. IsSome (known_at known n)) (nets_of_each es) (nets_of e) h.nets k.nets);
+  width = λ ws wide. width ∙ (ap (λ n. n + low.width) (h.width ws wide) ∙ (ap (λ n. width_of_all ws es + n) (k.width ws wide) ∙ sym (width-behind ws es e)));
+  value = λ ws v base long wide sized narrow constants agrees.
+      let s = sized-behind ws es e sized in
+      let t = constants-behind es e constants in
+      let both = width-behind ws es e in
+      let long_b : length base ≡ b.first = long ∙ sym h.extends.first in
+      let long_c : length base ≡ c.first = long_b ∙ sym k.extends.first in
+      let agrees_b = agrees_extends known a b base v h.extends agrees in
+      let x : get_or (values_after c.operations.items base) high.place 0 ≡ value_of_all ws v es
+      = kept b c base high.place (value_of_all ws v es) k.extends long_b h.below (h.value ws v base long wide s.0 (omega (arith, both, narrow)) t.0 agrees) in
+      let y : get_or (values_after c.operations.items base) low.place 0 ≡ value_of ws v e = k.value ws v base long_b wide s.1 t.1 agrees_b in
+      let fits_e = expr_fits known ws v a.operations.items base e wide agrees s.1 t.1 k.nets in
+      let fits_es = exprs_fit known ws v a.operations.items base es wide agrees s.0 (omega (arith, both, narrow)) t.0 h.nets in
+      added c d base _ w.place adds long_c
+      ∙ (rw (x, y, k.width ws wide) (joined_small (value_of_all ws v es) (value_of ws v e) (width_of_all ws es) (width_of ws e) fits_es fits_e (omega (arith, both, narrow))) ∙ sym (value-behind ws v es e));
+}
+
+-- all parts are the concatenation
+pub compiled_cat : (known : Known) (es : Exprs) (l l' : Listing) (w : Wire) → CompilesAll known es l l' w → Compiles known (expr.Cat es) l l' w
+compiled_cat known es l l' w h = record {
+  extends = h.extends;
+  below = h.below;
+  nets = h.nets;
+  width = h.width;
+  value = λ ws v base long wide sized constants agrees.
+      let s = two-true (are_sized ws es) (nat_le (width_of_all ws es) 128) sized in
+      h.value ws v base long wide s.0 (most (width_of_all ws es) s.1) constants agrees;
+}
+  where
+    most : (n : ℕ) → nat_le n 128 ≡ true → n ≤ 128
+    most n h = grind (arith, nat_tests)

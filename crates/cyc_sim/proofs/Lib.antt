@@ -1,0 +1,11 @@
+pub mod Numbers
+pub mod Settling
+pub mod Compiling
+pub mod Concatenating
+pub mod Places
+pub mod Stepping
+pub mod Knowing
+pub mod Facts
+pub mod Stages
+pub mod Statements
+pub mod Programs

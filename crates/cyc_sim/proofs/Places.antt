@@ -1,0 +1,69 @@
+-- Values at places, and numbers written over them.
+use Rattle.std.proofs.Common.{◌≡◌, ℕ, zero, suc, ◌+◌, ◌<◌, ◌≤◌, Bool, true, false, ◌&&◌, nat_lt, List, [], ◌∷◌, ◌++◌, length, take, drop, get_or, refl, ap, sym, ◌∙◌, append_assoc, arith}
+use Rattle.std.specs.List.{list_all}
+use Rattle.std.proofs.Math.ListN.{set}
+use Rattle.std.proofs.Math.Seq.{drop-cons}
+use Rattle.std.proofs.lemmas.List.{take_more, length-take, take-append-le, take_all}
+use Rattle.std.proofs.lemmas.Bool.Decides.{nat_tests}
+use Rattle.cyc_sim.specs.Operations.{are_places}
+
+below_test : (a b : ℕ) → nat_lt a b ≡ true → a < b
+below_test a b h = grind (arith, nat_tests)
+
+-- each of some places is below their limit
+pub place_below : (limit : ℕ) (ps : List ℕ) (k : ℕ) → are_places limit ps ≡ true → k < length ps → get_or ps k 0 < limit
+unfolding are_places
+place_below limit [] k h l = absurd (omega (arith, l))
+place_below limit (p ∷ ps) k h l = go (nat_lt p limit) (list_all (λ q. nat_lt q limit) ps) (below_test p limit) (λ j e m. place_below limit ps j e m) h k l
+  where
+    go : (a b : Bool) → (a ≡ true → p < limit) → ((j : ℕ) → b ≡ true → j < length ps → get_or ps j 0 < limit) → (a && b) ≡ true → (k : ℕ) → k < suc (length ps) → get_or (p ∷ ps) k 0 < limit
+    go true b here there h zero l = here refl
+    go true b here there h (suc j) l = there j h (omega (arith, l))
+    go false b here there h j l = cc h
+
+set-behind : (xs ys : List ℕ) (j x : ℕ) → set (xs ++ ys) (length xs + j) x ≡ xs ++ set ys j x
+set-behind [] ys j x = ap (λ i. set ys i x) (omega arith)
+set-behind (y ∷ xs) ys j x = let more : length (y ∷ xs) + j ≡ suc (length xs + j) = omega arith in rw more (ap (λ l. y ∷ l) (set-behind xs ys j x))
+
+-- one more number over the values from a place on
+pub put_more : (old ns : List ℕ) (at k : ℕ) → k < length ns → at + length ns ≤ length old
+    → set (take at old ++ (take k ns ++ drop (at + k) old)) (at + k) (get_or ns k 0) ≡ take at old ++ (take (k + 1) ns ++ drop (at + (k + 1)) old)
+put_more old ns at k l fits =
+    let x = get_or ns k 0 in
+    let front : length (take at old) ≡ at = omega (arith, length-take at old, fits) in
+    let done : length (take k ns) ≡ k = omega (arith, length-take k ns, l) in
+    let rest : drop (at + k) old ≡ get_or old (at + k) 0 ∷ drop (suc (at + k)) old = drop-cons old (at + k) 0 (omega (arith, l, fits)) in
+    let here : k + 0 ≡ k = omega arith in
+    let next : suc (at + k) ≡ at + (k + 1) = omega arith in
+    let inner : set (take k ns ++ drop (at + k) old) k x ≡ take (k + 1) ns ++ drop (at + (k + 1)) old
+    = ap (λ d. set (take k ns ++ d) k x) rest
+    ∙ (ap (λ i. set (take k ns ++ get_or old (at + k) 0 ∷ drop (suc (at + k)) old) i x) (sym here ∙ ap (λ n. n + 0) (sym done))
+    ∙ (set-behind (take k ns) (get_or old (at + k) 0 ∷ drop (suc (at + k)) old) 0 x
+    ∙ (sym (append_assoc (take k ns) (x ∷ []) (drop (suc (at + k)) old))
+    ∙ (ap (λ t. t ++ drop (suc (at + k)) old) (sym (take_more ns k 0 l)) ∙ ap (λ i. take (k + 1) ns ++ drop i old) next)))) in
+    ap (λ i. set (take at old ++ (take k ns ++ drop (at + k) old)) (i + k) x) (sym front)
+    ∙ (set-behind (take at old) (take k ns ++ drop (at + k) old) k x ∙ ap (λ t. take at old ++ t) inner)
+
+drop-behind : (xs ys : List ℕ) → drop (length xs) (xs ++ ys) ≡ ys
+drop-behind [] ys = refl
+drop-behind (x ∷ xs) ys = drop-behind xs ys
+
+take-behind : (xs ys : List ℕ) (n : ℕ) → take (length xs + n) (xs ++ ys) ≡ xs ++ take n ys
+take-behind [] ys n = ap (λ i. take i ys) (omega arith)
+take-behind (x ∷ xs) ys n = let more : length (x ∷ xs) + n ≡ suc (length xs + n) = omega arith in rw more (ap (λ l. x ∷ l) (take-behind xs ys n))
+
+-- the first places once the pins are written
+pub first_places : (values pins put : List ℕ) (inputs count : ℕ) → length pins ≡ inputs → put ≡ take 0 values ++ (pins ++ drop (0 + length pins) values)
+    → take (inputs + count) put ≡ pins ++ take count (drop inputs values)
+first_places values pins put inputs count long is =
+    let same : 0 + length pins ≡ inputs = omega (arith, long) in
+    ap (take (inputs + count)) is
+    ∙ (ap (λ n. take (n + count) (pins ++ drop (0 + length pins) values)) (sym long)
+    ∙ (take-behind pins (drop (0 + length pins) values) count ∙ ap (λ n. pins ++ take count (drop n values)) same))
+
+-- the contents once they have moved
+pub moved_places : (values moved put rest : List ℕ) (inputs count : ℕ) → length moved ≡ count → inputs ≤ length values → put ≡ take inputs values ++ (moved ++ rest) → take count (drop inputs put) ≡ moved
+moved_places values moved put rest inputs count long low is =
+    let front : length (take inputs values) ≡ inputs = omega (arith, length-take inputs values, low) in
+    let part : drop inputs put ≡ moved ++ rest = ap (drop inputs) is ∙ (ap (λ n. drop n (take inputs values ++ (moved ++ rest))) (sym front) ∙ drop-behind (take inputs values) (moved ++ rest)) in
+    ap (take count) part ∙ (take-append-le count moved rest (omega (arith, long)) ∙ take_all count moved (omega (arith, long)))

@@ -1,0 +1,83 @@
+use Rattle.std.proofs.Common.{◌≡◌, ℕ, ◌+◌, ◌<◌, ◌≤◌, Result, Ok, Err, IfOk, OnOk, List, length, take, get_or, subst, ◌∙◌, rules, Box, Global}
+use Rattle.std.proofs.lemmas.List.{take_more, take_all}
+use Rattle.v_design.specs.declared.design.VExpr.{VExpr}
+use Rattle.v_design.specs.declared.design.VExpr.TheVariants as variant
+use Rattle.v_design.specs.declared.design.VExpr.TheViews.{the_lemmas}
+use Rattle.v_design.specs.declared.design.VOne.{VOne}
+use Rattle.v_design.specs.declared.design.VTwo.{VTwo}
+use Rattle.v_design.specs.Expr as expr
+use Rattle.v_design.specs.Seen.{expr_seen}
+use Rattle.cyc_sim.specs.declared.listing.Listing.{Listing}
+use Rattle.cyc_sim.specs.declared.listing.Wire.{Wire}
+use Rattle.cyc_sim.specs.Compiled.{Known}
+use Rattle.cyc_sim.proofs.Compiling.{compiled_bits, compiled_const, compiled_one, compiled_two, compiled_pick, below_more, extends_one}
+use Rattle.cyc_sim.proofs.Concatenating.{listed, listed-push, behind, cat_seen, CompilesAll, compiled_none, compiled_behind, compiled_cat}
+use Rattle.cyc_sim.proofs.compile.+compile.Goals as goal
+
+-- from two facts on `Ok`, a third
+ok_two : {T E : Type 0} (r : Result T E) (P Q R : T → Type 0) → ((x : T) → P x → Q x → R x) → IfOk r P → IfOk r Q → IfOk r R
+ok_two (Ok x) P Q R f p q = f x p q
+ok_two (Err e) P Q R f p q = tt
+
+ok_three : {T E : Type 0} (r : Result T E) (P Q R : T → Type 0) (N : Type 0) → ((x : T) → P x → Q x → N → R x) → IfOk r P → IfOk r Q → OnOk r N → IfOk r R
+ok_three (Ok x) P Q R N f p q n = f x p q n
+ok_three (Err e) P Q R N f p q n = tt
+
+one_seen : (op : VOne) (a : Box VExpr Global) → expr_seen (variant.One op a) ≡ expr.One op (expr_seen a.value)
+one_seen op a = search (rules, the_lemmas)
+
+two_seen : (op : VTwo) (a b : Box VExpr Global) → expr_seen (variant.Two op a b) ≡ expr.Two op (expr_seen a.value) (expr_seen b.value)
+two_seen op a b = search (rules, the_lemmas)
+
+pick_seen : (a b c : Box VExpr Global) → expr_seen (variant.Pick a b c) ≡ expr.Pick (expr_seen a.value) (expr_seen b.value) (expr_seen c.value)
+pick_seen a b c = search (rules, the_lemmas)
+
+pub loop-part-init : goal.loop-part-init
+loop-part-init t c = record {
+  below = below_more c.args.known.now c.args.listing.now c.constant-in-Cat.new.self (extends_one _ _ _ _ c.in_ok-joined-in-Cat.ensures.adds) c.requires;
+  compiled = compiled_none c.args.known.now c.args.listing.now c.constant-in-Cat.new.self c.in_ok-joined-in-Cat.joined c.in_ok-joined-in-Cat.ensures.adds c.in_ok-joined-in-Cat.ensures.width;
+}
+
+-- the parts up to one more
+up_to : (known : Known) (items : List VExpr) (i : ℕ) (d : VExpr) (a b : Listing) (w : Wire) → i < length items → d ≡ get_or items i d
+    → CompilesAll known (behind (listed (take i items)) (expr_seen d)) a b w → CompilesAll known (listed (take (i + 1) items)) a b w
+up_to known items i d a b w l is h = rw (take_more items i d l, listed-push (take i items) (get_or items i d), ← is) h
+
+-- all the parts
+all_parts : (known : Known) (items parts : List VExpr) (i : ℕ) (a b : Listing) (w : Wire) → length items ≤ i → items ≡ parts → CompilesAll known (listed (take i items)) a b w → CompilesAll known (listed parts) a b w
+all_parts known items parts i a b w l is h = subst (λ es. CompilesAll known (listed es) a b w) (take_all i items l ∙ is) h
+
+pub loop-part-preserved : goal.loop-part-preserved
+loop-part-preserved t c =
+    let compiled = up_to c.args.known.now c.deref-part-items.result.now c.loop-part.part-index c.part-item.result c.args.listing.now c.join.new.self c.in_ok-joined-in-Cat-2.joined c.loop-part-test.true c.part-item.is
+    (compiled_behind c.args.known.now _ (expr_seen c.part-item.result) c.args.listing.now c.loop-part.listing c.compile.new.listing c.join.new.self c.loop-part.joined c.in_ok-low-in-Cat.low c.in_ok-joined-in-Cat-2.joined
+    c.loop-part.invariant.compiled c.in_ok-low-in-Cat.ensures c.in_ok-joined-in-Cat-2.ensures.adds c.in_ok-joined-in-Cat-2.ensures.width) in
+    record { below = below_more c.args.known.now c.args.listing.now c.join.new.self compiled.extends c.requires; compiled = compiled }
+
+pub returns-in_ok-wire_of-in-Bits : goal.returns-in_ok-wire_of-in-Bits
+returns-in_ok-wire_of-in-Bits t c = rw c.in-Bits.is (ok_two c.part.result _ _ _ (λ w adds width. compiled_bits c.args.known.now _ c.in-Bits.high c.in-Bits.low c.args.listing.now c.part.new.self c.in_ok-wire_of-in-Bits.field-0 w c.in_ok-wire_of-in-Bits.ensures adds width) c.part.ensures.adds c.part.ensures.width)
+
+pub returns-in-Const : goal.returns-in-Const
+returns-in-Const t c = rw c.in-Const.is (ok_two c.constant.result _ _ _ (λ w adds width. compiled_const c.args.known.now c.in-Const.width c.in-Const.value c.args.listing.now c.constant.new.self w adds width) c.constant.ensures.adds c.constant.ensures.width)
+
+pub returns-after-loop-part : goal.returns-after-loop-part
+returns-after-loop-part t c = rw (c.in-Cat.is, cat_seen c.in-Cat.parts)
+    (compiled_cat c.args.known.now (listed c.in-Cat.parts.items) c.args.listing.now c.loop-part.listing c.loop-part.joined
+    (all_parts c.args.known.now c.deref-part-items.result.now c.in-Cat.parts.items c.loop-part.part-index c.args.listing.now c.loop-part.listing c.loop-part.joined c.loop-part-test.false c.deref-part-items.ensures.value c.loop-part.invariant.compiled))
+
+pub returns-in_ok-of-in-One : goal.returns-in_ok-of-in-One
+returns-in_ok-of-in-One t c = rw (c.in-One.is, one_seen c.in-One.op c.in-One.of, ← c.deref.ensures)
+    (ok_two c.one.result _ _ _ (λ w adds width. compiled_one c.args.known.now c.in-One.op _ c.args.listing.now c.compile-in-One.new.listing c.one.new.self c.in_ok-of-in-One.of w c.in_ok-of-in-One.ensures adds width)
+    c.one.ensures.adds c.one.ensures.width)
+
+pub returns-in_ok-right-in-Two : goal.returns-in_ok-right-in-Two
+returns-in_ok-right-in-Two t c = rw (c.in-Two.is, two_seen c.in-Two.op c.in-Two.left c.in-Two.right, ← c.deref-in-Two.ensures, ← c.deref-in-Two-2.ensures)
+    (ok_three c.two.result _ _ _ _ (λ w adds width narrow. compiled_two c.args.known.now c.in-Two.op _ _ c.args.listing.now c.compile-in-Two.new.listing c.compile-in-Two-2.new.listing c.two.new.self
+    c.in_ok-left-in-Two.left c.in_ok-right-in-Two.right w c.in_ok-left-in-Two.ensures c.in_ok-right-in-Two.ensures narrow adds width)
+    c.two.ensures.adds c.two.ensures.width c.two.ensures.narrow)
+
+pub returns-in_ok-other-in-Pick : goal.returns-in_ok-other-in-Pick
+returns-in_ok-other-in-Pick t c = rw (c.in-Pick.is, pick_seen c.in-Pick.test c.in-Pick.chosen c.in-Pick.other, ← c.deref-in-Pick.ensures, ← c.deref-in-Pick-2.ensures, ← c.deref-in-Pick-3.ensures)
+    (ok_two c.pick.result _ _ _ (λ w adds width. compiled_pick c.args.known.now _ _ _ c.args.listing.now c.compile-in-Pick.new.listing c.compile-in-Pick-2.new.listing c.compile-in-Pick-3.new.listing c.pick.new.self
+    c.in_ok-test-in-Pick.test c.in_ok-chosen-in-Pick.chosen c.in_ok-other-in-Pick.other w c.in_ok-test-in-Pick.ensures c.in_ok-chosen-in-Pick.ensures c.in_ok-other-in-Pick.ensures adds width)
+    c.pick.ensures.adds c.pick.ensures.width)

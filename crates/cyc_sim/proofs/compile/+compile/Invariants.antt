@@ -1,0 +1,10 @@
+use Rattle.std.proofs.Common.{take}
+use Rattle.cyc_sim.specs.Compiled.{end_of, AreBelow}
+use Rattle.cyc_sim.proofs.Concatenating.{listed, CompilesAll}
+use Rattle.cyc_sim.proofs.compile.+compile.Given as goal
+
+abbrev pub invariant-loop-part : goal.invariant-loop-part
+invariant-loop-part l = record {
+  below : AreBelow l.known (end_of l.listing);
+  compiled : CompilesAll l.known (listed (take l.part-index l.part-items)) l.fn.listing l.listing l.joined;
+}

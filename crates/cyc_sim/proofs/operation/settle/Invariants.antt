@@ -1,0 +1,9 @@
+use Rattle.std.proofs.Common.{◌≡◌, ◌+◌, length, take, drop}
+use Rattle.cyc_sim.specs.Operations.{values_after}
+use Rattle.cyc_sim.proofs.operation.settle.Given as goal
+
+abbrev pub invariant-loop-index : goal.invariant-loop-index
+invariant-loop-index l = record {
+  sized : length l.values ≡ l.first + length l.operations;
+  values : values_after l.operations (take l.first l.fn.values) ≡ values_after (drop l.index l.operations) (take (l.first + l.index) l.values);
+}

@@ -1,0 +1,5 @@
+pub mod Operations
+pub mod Compiled
+pub mod Simulation
+pub mod Accepted
+pub mod Preparing

@@ -1,0 +1,148 @@
+//! A module's statements as operations.
+ghost use Rattle.std.specs.Prelude.{◌≡◌, ◌+◌, ◌<◌, ◌^◌, IfOk, OnOk, length, map};
+ghost use Rattle.v_design.specs.Design.{inputs, registers};
+ghost use Rattle.v_design.specs.Seen.{module_seen, reset_seen};
+ghost use Rattle.cyc_sim.specs.Accepted.{IsAccepted};
+ghost use Rattle.cyc_sim.specs.Compiled.{AreBelow, end_of};
+ghost use Rattle.cyc_sim.specs.Preparing.{ArePlaced, ArePlacesOf, Guards, Moving, Prepared};
+
+use crate::compile::{bytes_of, compile, wire_of};
+use crate::listing::{Listing, Wire};
+use crate::operation::Operation;
+use rb_base::{NoMemory, Pin};
+use std::alloc::Global;
+use std::collections::HashMap;
+use v_design::{Design, VReset};
+
+/// The wires of pins, the places of which follow each other from the first on.
+pub(crate) fn place_pins(
+    alloc: Global,
+    pins: &[Pin],
+    first: usize,
+) -> Result<HashMap<&[u8], Wire>, NoMemory>
+    requires { first + length pins.now < 2 ^ 64 }
+    ensures { IfOk result (ArePlaced pins.now first) }
+{
+    let mut placed = HashMap::new(alloc);
+    for (index, pin) in pins.iter().enumerate() {
+        let wire = Wire {
+            place: first + index,
+            width: pin.width,
+        };
+        placed.insert(bytes_of(&pin.name), wire)?;
+    }
+    Ok(placed)
+}
+
+/// The wire of what a register takes, under its reset.
+fn guarded(
+    known: &HashMap<&[u8], Wire>,
+    reset: &Option<VReset>,
+    next: Wire,
+    listing: &mut Listing,
+) -> Result<Wire, NoMemory>
+    requires known { AreBelow known.now (end_of listing.old) }
+    requires next { next.place < end_of listing.old }
+    ensures { IfOk result (Guards known.now (reset_seen reset.now) next listing.old listing.new) }
+{
+    match reset {
+        None => Ok(next),
+        Some(reset) => {
+            let pin = wire_of(known, &reset.pin)?;
+            let place = listing.push(Operation::Guard {
+                pin: pin.place,
+                low: reset.low,
+                value: reset.value,
+                next: next.place,
+            })?;
+            Ok(Wire {
+                place,
+                width: next.width,
+            })
+        }
+    }
+}
+
+/// The wires of names, in the order of the pins that have these names.
+pub(crate) fn places_in(
+    alloc: Global,
+    known: &HashMap<&[u8], Wire>,
+    pins: &[Pin],
+) -> Result<Vec<usize>, NoMemory>
+    ensures { IfOk result (λ r. ArePlacesOf known.now pins.now r.items) }
+{
+    let mut places = Vec::new(alloc);
+    for pin in pins {
+        places.push(wire_of(known, &pin.name)?.place)?;
+    }
+    Ok(places)
+}
+
+/// Adds the values of the registers: what they contain, or their constants where their resets are asserted.
+pub(crate) fn place_registers<'d>(
+    design: &'d Design,
+    kept: &HashMap<&'d [u8], Wire>,
+    known: &mut HashMap<&'d [u8], Wire>,
+    listing: &mut Listing,
+) -> Result<(), NoMemory>
+    requires accepted { IsAccepted (module_seen design.now) }
+    requires kept { ArePlaced (registers (module_seen design.now)) (length (inputs (module_seen design.now))) kept.now }
+    requires prepared { Prepared (module_seen design.now) known.old listing.old }
+    ensures { OnOk result (Prepared (module_seen design.now) known.new listing.new) }
+{
+    for stmt in &design.stmts {
+        if !stmt.clocked {
+            continue;
+        }
+        let contents = wire_of(kept, &stmt.to)?;
+        let wire = guarded(known, &stmt.reset, contents, listing)?;
+        known.insert(bytes_of(&stmt.to), wire)?;
+    }
+    Ok(())
+}
+
+/// Adds the values of the nets that assignments drive, in this order of the statements.
+pub(crate) fn place_nets<'d>(
+    design: &'d Design,
+    order: &[usize],
+    known: &mut HashMap<&'d [u8], Wire>,
+    listing: &mut Listing,
+) -> Result<(), NoMemory>
+    requires accepted { IsAccepted (module_seen design.now) }
+    requires prepared { Prepared (module_seen design.now) known.old listing.old }
+    ensures { OnOk result (Prepared (module_seen design.now) known.new listing.new) }
+{
+    for index in order {
+        if *index >= design.stmts.len() || design.stmts[*index].clocked {
+            continue;
+        }
+        let stmt = &design.stmts[*index];
+        let wire = compile(known, &stmt.expr, listing)?;
+        known.insert(bytes_of(&stmt.to), wire)?;
+    }
+    Ok(())
+}
+
+/// Adds what the registers contain after an edge, by their names.
+pub(crate) fn place_moves<'d>(
+    alloc: Global,
+    design: &'d Design,
+    known: &HashMap<&'d [u8], Wire>,
+    listing: &mut Listing,
+) -> Result<HashMap<&'d [u8], Wire>, NoMemory>
+    requires accepted { IsAccepted (module_seen design.now) }
+    requires prepared { Prepared (module_seen design.now) known.now listing.old }
+    ensures prepared { OnOk result (Prepared (module_seen design.now) known.now listing.new) }
+    ensures moves { IfOk result (λ moves. Moving (module_seen design.now) moves listing.new) }
+{
+    let mut moves = HashMap::new(alloc);
+    for stmt in &design.stmts {
+        if !stmt.clocked {
+            continue;
+        }
+        let next = compile(known, &stmt.expr, listing)?;
+        let wire = guarded(known, &stmt.reset, next, listing)?;
+        moves.insert(bytes_of(&stmt.to), wire)?;
+    }
+    Ok(moves)
+}
