@@ -1,0 +1,25 @@
+pub mod NameLists
+pub mod PortLists
+pub mod Exprs
+pub mod NodeLists
+pub mod Nets
+pub mod Places
+pub mod Added
+pub mod Seating
+pub mod Making
+pub mod Widths
+pub mod Tying
+pub mod Calls
+pub mod Named
+pub mod Numbers
+pub mod Values
+pub mod Joining
+pub mod Renaming
+pub mod Distinct
+pub mod Others
+pub mod Copying
+pub mod CopySteps
+mod Slots
+pub mod DriveSteps
+pub mod ShowSteps
+pub mod Grafting

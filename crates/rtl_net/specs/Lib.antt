@@ -1,0 +1,10 @@
+pub mod Copy
+pub mod Driving
+pub mod Fold
+pub mod Graft
+pub mod Made
+pub mod Names
+pub mod Net
+pub mod Ports
+pub mod Shared
+pub mod Value
