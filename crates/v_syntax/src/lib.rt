@@ -1,0 +1,10 @@
+//! The tokens, the grammar and the parts of a Verilog module of the subset, and what may be wrong with its bytes.
+#![tactic(auto)]
+
+mod error;
+mod parsed;
+mod token;
+
+pub use error::VError;
+pub use parsed::{Event, Parsed};
+pub use token::{VKind, VSpelling, VToken};
