@@ -23,3 +23,7 @@ mod Slots
 pub mod DriveSteps
 pub mod ShowSteps
 pub mod Grafting
+pub mod Pins
+pub mod OneRun
+pub mod HasRun
+pub mod ValuesFit

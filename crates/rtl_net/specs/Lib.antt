@@ -1,10 +1,12 @@
 pub mod Copy
 pub mod Driving
+pub mod Fits
 pub mod Fold
 pub mod Graft
 pub mod Made
 pub mod Names
 pub mod Net
 pub mod Ports
+pub mod Run
 pub mod Shared
 pub mod Value

@@ -2,11 +2,13 @@
 #![tactic(auto)]
 
 mod bits;
+mod laws;
 mod names;
 mod net;
 mod node;
 mod nodes;
 mod ports;
 
+pub use laws::{has_run, one_run, values_fit};
 pub use net::Netlist;
 pub use node::{Given, Id, NetExpr, NetNode, NetReset, Seat, Taken};
