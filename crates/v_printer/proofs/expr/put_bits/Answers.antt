@@ -1,0 +1,19 @@
+use Rattle.std.proofs.Common.{codes, ◌++◌}
+use Rattle.std.specs.Fmt.{decimal}
+use Rattle.v_printer.proofs.Writing.{and_then, stopped}
+use Rattle.v_printer.proofs.expr.put_bits.Goals as goal
+
+pub returns-in_err-put : goal.returns-in_err-put
+returns-in_err-put g c = stopped (decimal c.args.hi ++ (codes ":" ++ (decimal c.args.lo ++ (codes "]")))) c.from_residual.result c.from_residual.ensures.0 c.in_err-put.ensures
+
+pub returns-in_err-put_decimal : goal.returns-in_err-put_decimal
+returns-in_err-put_decimal g c = and_then c.in_ok-put.ensures (stopped (codes ":" ++ (decimal c.args.lo ++ (codes "]"))) c.from_residual-in_err-put_decimal.result c.from_residual-in_err-put_decimal.ensures.0 c.in_err-put_decimal.ensures)
+
+pub returns-in_err-put-2 : goal.returns-in_err-put-2
+returns-in_err-put-2 g c = and_then c.in_ok-put.ensures (and_then c.in_ok-put_decimal.ensures (stopped (decimal c.args.lo ++ (codes "]")) c.from_residual-in_err-put-2.result c.from_residual-in_err-put-2.ensures.0 c.in_err-put-2.ensures))
+
+pub returns-in_err-put_decimal-2 : goal.returns-in_err-put_decimal-2
+returns-in_err-put_decimal-2 g c = and_then c.in_ok-put.ensures (and_then c.in_ok-put_decimal.ensures (and_then c.in_ok-put-2.ensures (stopped (codes "]") c.from_residual-in_err-put_decimal-2.result c.from_residual-in_err-put_decimal-2.ensures.0 c.in_err-put_decimal-2.ensures)))
+
+pub returns : goal.returns
+returns g c = and_then c.in_ok-put.ensures (and_then c.in_ok-put_decimal.ensures (and_then c.in_ok-put-2.ensures (and_then c.in_ok-put_decimal-2.ensures c.put-3.ensures)))

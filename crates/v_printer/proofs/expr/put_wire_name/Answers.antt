@@ -1,0 +1,9 @@
+use Rattle.std.specs.Fmt.{decimal}
+use Rattle.v_printer.proofs.Writing.{and_then, stopped}
+use Rattle.v_printer.proofs.expr.put_wire_name.Goals as goal
+
+pub returns-in_err-put : goal.returns-in_err-put
+returns-in_err-put g c = stopped (decimal c.args.number) c.from_residual.result c.from_residual.ensures.0 c.in_err-put.ensures
+
+pub returns : goal.returns
+returns g c = and_then c.in_ok-put.ensures c.put_decimal.ensures

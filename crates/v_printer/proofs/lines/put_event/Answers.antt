@@ -1,0 +1,17 @@
+use Rattle.std.proofs.Common.{codes, ◌++◌}
+use Rattle.v_design.specs.Tree.{edge_word}
+use Rattle.v_printer.specs.Module.{node_name}
+use Rattle.v_printer.proofs.Writing.{and_then, stopped, of_bytes}
+use Rattle.v_printer.proofs.lines.put_event.Goals as goal
+
+pub returns-in_err-put : goal.returns-in_err-put
+returns-in_err-put g c = stopped (edge_word c.args.low ++ (codes " " ++ (node_name c.args.net.now.nodes c.args.pin.0))) c.from_residual.result c.from_residual.ensures.0 c.in_err-put.ensures
+
+pub returns-in_err-put-2 : goal.returns-in_err-put-2
+returns-in_err-put-2 g c = and_then c.in_ok-put.ensures (stopped (codes " " ++ (node_name c.args.net.now.nodes c.args.pin.0)) c.from_residual-in_err-put-2.result c.from_residual-in_err-put-2.ensures.0 (of_bytes c.edge_word.result.now (edge_word c.args.low) c.edge_word.ensures c.in_err-put-2.ensures))
+
+pub returns-in_err-put-3 : goal.returns-in_err-put-3
+returns-in_err-put-3 g c = and_then c.in_ok-put.ensures (and_then (of_bytes c.edge_word.result.now (edge_word c.args.low) c.edge_word.ensures c.in_ok-put-2.ensures) (stopped (node_name c.args.net.now.nodes c.args.pin.0) c.from_residual-in_err-put-3.result c.from_residual-in_err-put-3.ensures.0 c.in_err-put-3.ensures))
+
+pub returns : goal.returns
+returns g c = and_then c.in_ok-put.ensures (and_then (of_bytes c.edge_word.result.now (edge_word c.args.low) c.edge_word.ensures c.in_ok-put-2.ensures) (and_then c.in_ok-put-3.ensures c.put_name.ensures))

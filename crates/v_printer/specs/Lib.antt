@@ -1,0 +1,6 @@
+pub mod Header
+pub mod Module
+pub mod Layout
+pub mod TextOf
+pub mod Written
+pub mod TextSink

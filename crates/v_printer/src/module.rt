@@ -1,0 +1,161 @@
+//! The text of a whole module.
+
+ghost use Rattle.std.specs.Prelude.{◌≡◌, ◌<◌, ◌≤◌, ◌++◌, ◌+◌, ◌==◌, if◌then◌else◌, ℕ, length, codes, OnOk, OnErr, slice_get, Some};
+ghost use Rattle.rb_edge.specs.Count.{Rose};
+ghost use Rattle.rb_edge.specs.Sink.{Takes, TakesPart};
+ghost use Rattle.rtl_net.specs.Net.{Stands};
+ghost use Rattle.rtl_net.specs.Made.{IsMade, IsTakenBy};
+ghost use Rattle.v_design.specs.Tree.{dir_word};
+ghost use Rattle.v_printer.specs.Header.{port_text, ports_text, header};
+ghost use Rattle.v_printer.specs.Module.{numbered, node_name, ports, port_of, side_of};
+ghost use Rattle.v_printer.specs.Layout.{port_line, shown_text, text_of};
+ghost use Rattle.v_printer.specs.TextOf.{IsWhole, IsTextOf};
+ghost use Rattle.v_printer.specs.Written.{Writes};
+
+use crate::expr::put_name;
+use crate::lines::{put_range, put_section};
+use crate::section::Section;
+use crate::write::put;
+use rb_edge::{Failed, Sink};
+use rtl_net::{Id, Netlist, Seat, Taken};
+
+/// The word of a port's side.
+fn side_word(taken: Option<Taken>) -> &'static [u8]
+    ensures { result.now ≡ dir_word (side_of taken) }
+{
+    match taken {
+        Some(Taken::Output(_)) => b"output",
+        _ => b"input",
+    }
+}
+
+/// Writes a port of this name and width in bits.
+fn put_port<K: Sink>(
+    out: &mut K,
+    taken: Option<Taken>,
+    width: u8,
+    name: &[u8],
+) -> Result<(), Failed>
+    requires { 0 < width }
+    ensures { Writes (K.told out.old) (K.told out.new) (K.faults out.old) (K.faults out.new) result (port_text (record { dir = side_of taken; name = name.now; width = width })) }
+{
+    put(out, b"  ")?;
+    put(out, side_word(taken))?;
+    put(out, b" ")?;
+    put_range(out, width)?;
+    put(out, name)
+}
+
+/// Writes the port of a seat.
+fn put_seat<K: Sink>(out: &mut K, seat: &Seat) -> Result<(), Failed>
+    requires { 0 < seat.now.width }
+    ensures { Writes (K.told out.old) (K.told out.new) (K.faults out.old) (K.faults out.new) result (port_text (port_of seat.now)) }
+{
+    put_port(out, seat.taken, seat.width, &seat.name.bytes)
+}
+
+/// What ends the line of a port.
+fn line_end(last: bool) -> &'static [u8]
+    ensures { result.now ≡ (if last then codes "\n" else codes ",\n") }
+{
+    if last { b"\n" } else { b",\n" }
+}
+
+/// Writes the line of a port.
+fn put_port_line<K: Sink>(out: &mut K, seat: &Seat, last: bool) -> Result<(), Failed>
+    requires { 0 < seat.now.width }
+    ensures { Writes (K.told out.old) (K.told out.new) (K.faults out.old) (K.faults out.new) result (port_text (port_of seat.now) ++ (if last then codes "\n" else codes ",\n")) }
+{
+    put_seat(out, seat)?;
+    put(out, line_end(last))
+}
+
+/// Writes the lines of the ports.
+fn put_ports<K: Sink>(out: &mut K, net: &Netlist) -> Result<(), Failed>
+    requires { IsMade net.now }
+    ensures { Writes (K.told out.old) (K.told out.new) (K.faults out.old) (K.faults out.new) result (ports_text (ports net.now)) }
+{
+    let count = net.seats().len();
+    for (at, seat) in net.seats().iter().enumerate() {
+        put_port_line(out, seat, at + 1 == count)?;
+    }
+    Ok(())
+}
+
+/// Writes the header.
+fn put_header<K: Sink>(out: &mut K, net: &Netlist) -> Result<(), Failed>
+    requires { IsMade net.now }
+    ensures { Writes (K.told out.old) (K.told out.new) (K.faults out.old) (K.faults out.new) result (header net.now.name (ports net.now)) }
+{
+    put(out, b"module ")?;
+    put(out, net.name())?;
+    put(out, b" (\n")?;
+    put_ports(out, net)?;
+    put(out, b");\n")
+}
+
+/// Writes the assignment of an output.
+fn put_shown<K: Sink>(out: &mut K, net: &Netlist, name: &[u8], from: Id) -> Result<(), Failed>
+    requires { from.0 < length net.now.nodes }
+    ensures { Writes (K.told out.old) (K.told out.new) (K.faults out.old) (K.faults out.new) result (codes "  assign " ++ (name.now ++ (codes " = " ++ (node_name net.now.nodes from.0 ++ codes ";\n")))) }
+{
+    put(out, b"  assign ")?;
+    put(out, name)?;
+    put(out, b" = ")?;
+    put_name(out, net, from)?;
+    put(out, b";\n")
+}
+
+/// Writes the assignment of a seat that is taken by an output.
+fn put_if_shown<K: Sink>(out: &mut K, net: &Netlist, at: usize, seat: &Seat) -> Result<(), Failed>
+    requires { IsTakenBy net.now seat.now.name seat.now.width seat.now.taken }
+    ensures { Writes (K.told out.old) (K.told out.new) (K.faults out.old) (K.faults out.new) result (shown_text net.now at seat.now) }
+{
+    match seat.taken {
+        Some(Taken::Output(from)) => put_shown(out, net, &seat.name.bytes, from),
+        _ => Ok(()),
+    }
+}
+
+/// Writes the assignments of the outputs.
+fn put_outputs<K: Sink>(out: &mut K, net: &Netlist) -> Result<(), Failed>
+    requires { IsMade net.now }
+    ensures { Writes (K.told out.old) (K.told out.new) (K.faults out.old) (K.faults out.new) result (numbered (shown_text net.now) 0 net.now.seats) }
+{
+    for (at, seat) in net.seats().iter().enumerate() {
+        put_if_shown(out, net, at, seat)?;
+    }
+    Ok(())
+}
+
+/// Writes the text.
+fn put_module<K: Sink>(out: &mut K, net: &Netlist) -> Result<(), Failed>
+    requires { IsMade net.now }
+    ensures { Writes (K.told out.old) (K.told out.new) (K.faults out.old) (K.faults out.new) result (text_of net.now) }
+{
+    put_header(out, net)?;
+    put_section(out, net, Section::Registers)?;
+    put_section(out, net, Section::Wires)?;
+    put_section(out, net, Section::Assignments)?;
+    put_outputs(out, net)?;
+    put_section(out, net, Section::Blocks)?;
+    put(out, b"endmodule\n")
+}
+
+/// Writes the module of a netlist (IEEE 1364-2005, clause 12.1): its ports in order, its registers and wires, the
+/// assignments, and a block for each register at the rising edge of PCLK. The wire of node 7 is `n$7`.
+///
+/// It takes no memory. [`Failed`] comes only where the sink's count of faults rose. Then a proper prefix of the text
+/// was taken, and nothing else.
+pub fn print<K: Sink>(net: &Netlist, out: &mut K) -> Result<(), Failed>
+    requires { IsWhole net.now }
+    ensures module { IsTextOf net.now (text_of net.now) }
+    ensures whole { OnOk result (Takes (K.told out.old) (K.told out.new) (text_of net.now)) }
+    ensures part { OnErr result (TakesPart (K.told out.old) (K.told out.new) (text_of net.now)) }
+    ensures later { K.faults out.old ≤ K.faults out.new }
+    ensures failed { OnErr result (Rose (K.faults out.old) (K.faults out.new)) }
+{
+    // The proof cites what holds of each netlist, which it knows where the nodes are read.
+    let _nodes = net.nodes();
+    put_module(out, net)
+}
