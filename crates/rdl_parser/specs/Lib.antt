@@ -1,0 +1,4 @@
+pub mod Depth
+pub mod Judging
+pub mod Verdicts
+pub mod Following

@@ -1,0 +1,18 @@
+//! Why a source has no tree.
+
+use rb_base::{Fault, Place, Rule};
+
+/// Why there is no tree.
+#[derive(Clone, Copy, Debug, PartialEq, Eq)]
+pub enum ParseError {
+    /// The first lexical fault (SystemRDL 2.0, clause 4).
+    Lex(Fault),
+    /// The first token with which the tokens no longer begin a source, or the source's length where all of them begin
+    /// one and are none. The rule is S1, or an O rule that names the token (SystemRDL 2.0, annex B).
+    Syntax { place: Place, rule: Rule },
+    /// The first token that nests too deep: the 65th open bracket, or the 65th operator of one expression outside its
+    /// inner brackets (this project's rule).
+    TooDeep { place: Place },
+    /// Memory was refused.
+    NoMemory,
+}
