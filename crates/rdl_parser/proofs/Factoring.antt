@@ -1,12 +1,12 @@
 -- A parser's steps where one token doesn't decide: two forms that go on alike are read together. And its steps over forms that
 -- are no rule of their own.
-use Rattle.std.proofs.Common.{◌≡◌, ℕ, zero, suc, ◌≤◌, ◌<◌, true, not, List, [], ◌∷◌, ◌++◌, refl, sym, subst, append_assoc, arith, inl, inr}
+use Rattle.std.proofs.Common.{◌≡◌, ℕ, zero, suc, true, false, not, List, [], ◌∷◌, ◌++◌, refl, sym, subst, append_assoc, arith, inl, inr}
 use Rattle.std.proofs.lemmas.Bool.{and_parts, not-true}
 use Rattle.rb_grammar.specs.Forms.{Form, Tok, Non, ◌or◌, Opt, Many, ◌then◌, Grammar}
 use Rattle.rb_grammar.specs.Readings.{Goal, Upto, behind_next, Reads, first, second, both, Avoids, Same, Stops}
 use Rattle.rb_grammar.specs.Firsts.{Table, IsTableOf}
-use Rattle.rb_grammar.proofs.Following.{◌⟫◌, read_or, read_both, same, same_both}
-use Rattle.rb_grammar.proofs.Barring.{Here, can, barred}
+use Rattle.rb_grammar.proofs.Following.{◌⟫◌, read_or, read_both, same, same_both, stops_here}
+use Rattle.rb_grammar.proofs.Barring.{Here, Without, can, Holds, barred}
 use Rattle.rb_grammar.proofs.Steps.{avoids, apart, parts}
 
 -- the first forms are put together
@@ -86,3 +86,7 @@ module _ {T N K : Type 0} {G : Grammar T N K} {S : Table T N} (R : IsTableOf G S
     refuses = λ hs av r. p.refuses (fs ++ hs) (avoiding ns ms fs e hs av) (subst (λ z. Reads G (behind_next us) z ts) (append_assoc gs fs hs) r);
     on = p.on;
   }
+
+  -- no token is there that these forms go on with
+  pub refusing : {ms : List T} {fs : List (Form T N)} {ts us : List K} (ns : List T) → us ≡ ts → Holds G S R (Without ns) ts → can S (Without ns) ms fs ≡ false → Stops G ms fs ts us
+  refusing {ms = ms} {fs = fs} {ts = ts} ns l h e = subst (λ z. Stops G ms fs ts z) (sym l) (stops_here G ms fs ts (λ hs av. barred G S R (Without ns) ms fs hs ts h av e))

@@ -1,2 +1,5 @@
 pub mod Firsts
 pub mod Factoring
+pub mod Words
+pub mod Operators
+pub mod Phrases

@@ -1,19 +1,23 @@
 -- What a parser's functions read: the forms that are left in the middle of a rule, and the terminals with which a form that has
 -- been read could have gone on.
-use Rattle.std.specs.Prelude.{◌≡◌, ℕ, ◌≤◌, false, Some, List, [], ◌∷◌}
+use Rattle.std.specs.Prelude.{◌≡◌, ℕ, ◌≤◌, Bool, true, false, is_some, Some, List, [], ◌∷◌}
+use Rattle.rb_base.specs.declared.keyword.Keyword.{Keyword}
 use Rattle.rb_base.specs.declared.keyword.Keyword.TheVariants as words
 use Rattle.rb_base.specs.declared.place.Place.{Place}
 use Rattle.rb_grammar.specs.Forms.{Form, Non, ◌or◌, Opt, Many, ◌then◌}
-use Rattle.rb_grammar.specs.Readings.{at}
+use Rattle.rb_grammar.specs.Readings.{at, Takes}
 use Rattle.rdl_tree.specs.declared.expr.Op.{Op}
 use Rattle.rdl_tree.specs.declared.token.Mark.{Mark}
 use Rattle.rdl_tree.specs.declared.token.Mark.TheVariants as marks
 use Rattle.rdl_tree.specs.declared.token.Terminal.{Terminal}
 use Rattle.rdl_tree.specs.declared.token.Terminal.TheVariants as terminals
 use Rattle.rdl_tree.specs.declared.token.Token.{Token}
+use Rattle.rdl_tree.specs.declared.token.TokenKind.TheVariants as tokens
 use Rattle.rdl_tree.specs.Grammar.{Rule, grammar, mark, name, listed, behind}
 use Rattle.rdl_tree.specs.Grammar as rules
-use Rattle.rdl_tree.specs.Tree.{IsMark, operator_of, level}
+use Rattle.rdl_tree.specs.Tree.{IsMark, IsWord, operator_of, level, kind_of, type_of, edge_of, names_property, is_value}
+use Rattle.rdl_parser.specs.declared.parser.Sort.{Sort}
+use Rattle.rdl_parser.specs.declared.parser.Sort.TheVariants as sorts
 
 -- Terminals of one sort.
 
@@ -85,3 +89,39 @@ pub record TakesOperator (least : ℕ) (ts us : List Token) (op : Op) (place : P
 -- the next token is no operator that binds at least so tightly
 abbrev pub IsLooser : ℕ → List Token → Type 0
 IsLooser least ts = (m : Mark) (o : Op) → operator_of m ≡ Some o → least ≤ level o → at grammar (terminals.Mark m) ts ≡ false
+
+-- a number and its place are taken
+pub record TakesNumber (ts us : List Token) (value : ℕ) (place : Place) : Type 0 where
+  pub token : Token
+  pub stands : Takes grammar terminals.Number ts token us
+  pub kind : token.kind ≡ tokens.Number value
+  pub at : place ≡ token.place
+
+-- Reserved words.
+
+abbrev pub is_kind : Keyword → Bool
+is_kind k = is_some (kind_of k)
+
+abbrev pub is_type : Keyword → Bool
+is_type k = is_some (type_of k)
+
+abbrev pub is_edge : Keyword → Bool
+is_edge k = is_some (edge_of k)
+
+-- the word is of the sort
+abbrev pub has : Sort → Keyword → Bool
+has sorts.Kind k = is_kind k
+has sorts.Type k = is_type k
+has sorts.Edge k = is_edge k
+has sorts.Prop k = names_property k
+has sorts.Value k = is_value k
+
+-- the next token is a word of the sort, and is taken
+pub record TakesWord (sort : Sort) (ts us : List Token) (word : Keyword) (token : Token) : Type 0 where
+  pub of_sort : has sort word ≡ true
+  pub stands : IsWord word ts token us
+
+-- the next token is no word of the sort, and stays
+pub record LacksWords (sort : Sort) (ts us : List Token) : Type 0 where
+  pub list : us ≡ ts
+  pub words : (k : Keyword) → has sort k ≡ true → at grammar (terminals.Reserved k) ts ≡ false

@@ -3,5 +3,7 @@
 
 mod depth;
 mod error;
+mod expressions;
+mod parser;
 
 pub use error::ParseError;
