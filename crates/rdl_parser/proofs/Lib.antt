@@ -3,3 +3,4 @@ pub mod Factoring
 pub mod Words
 pub mod Operators
 pub mod Phrases
+pub mod Lists

@@ -1,12 +1,16 @@
 -- What a parser's functions read: the forms that are left in the middle of a rule, and the terminals with which a form that has
 -- been read could have gone on.
-use Rattle.std.specs.Prelude.{◌≡◌, ℕ, ◌≤◌, Bool, true, false, is_some, Some, List, [], ◌∷◌}
+use Rattle.std.specs.Prelude.{◌≡◌, ℕ, ◌≤◌, Bool, true, false, is_some, Option, Some, None, List, [], ◌∷◌}
 use Rattle.rb_base.specs.declared.keyword.Keyword.{Keyword}
 use Rattle.rb_base.specs.declared.keyword.Keyword.TheVariants as words
 use Rattle.rb_base.specs.declared.place.Place.{Place}
 use Rattle.rb_grammar.specs.Forms.{Form, Non, ◌or◌, Opt, Many, ◌then◌}
 use Rattle.rb_grammar.specs.Readings.{at, Takes}
+use Rattle.rdl_tree.specs.declared.expr.Name.{Name}
 use Rattle.rdl_tree.specs.declared.expr.Op.{Op}
+use Rattle.rdl_tree.specs.declared.item.Entry.{Entry}
+use Rattle.rdl_tree.specs.declared.item.Given.{Given}
+use Rattle.rdl_tree.specs.declared.item.Set.{Set}
 use Rattle.rdl_tree.specs.declared.token.Mark.{Mark}
 use Rattle.rdl_tree.specs.declared.token.Mark.TheVariants as marks
 use Rattle.rdl_tree.specs.declared.token.Terminal.{Terminal}
@@ -15,7 +19,8 @@ use Rattle.rdl_tree.specs.declared.token.Token.{Token}
 use Rattle.rdl_tree.specs.declared.token.TokenKind.TheVariants as tokens
 use Rattle.rdl_tree.specs.Grammar.{Rule, grammar, mark, name, listed, behind}
 use Rattle.rdl_tree.specs.Grammar as rules
-use Rattle.rdl_tree.specs.Tree.{IsMark, IsWord, operator_of, level, kind_of, type_of, edge_of, names_property, is_value}
+use Rattle.rdl_tree.specs.Tree.{IsMark, IsWord, operator_of, level, kind_of, type_of, edge_of, names_property, is_value, DerivesShape, DerivesAssigned, DerivesMany, DerivesEntry}
+use Rattle.rdl_parser.specs.declared.instances.Shape.{Shape}
 use Rattle.rdl_parser.specs.declared.parser.Sort.{Sort}
 use Rattle.rdl_parser.specs.declared.parser.Sort.TheVariants as sorts
 
@@ -125,3 +130,64 @@ pub record TakesWord (sort : Sort) (ts us : List Token) (word : Keyword) (token 
 pub record LacksWords (sort : Sort) (ts us : List Token) : Type 0 where
   pub list : us ≡ ts
   pub words : (k : Keyword) → has sort k ≡ true → at grammar (terminals.Reserved k) ts ≡ false
+
+-- Instances, parameters and properties.
+
+-- an optional part behind the mark
+abbrev pub after_behind : Mark → List Terminal
+after_behind m = terminals.Mark m ∷ after_expr
+
+abbrev pub after_inst : List Terminal
+after_inst = terminals.Mark marks.Equals ∷ terminals.Mark marks.At ∷ terminals.Mark marks.PlusEquals ∷ terminals.Mark marks.PercentEquals ∷ after_expr
+
+abbrev pub after_insts : List Terminal
+after_insts = terminals.Mark marks.Comma ∷ after_inst
+
+abbrev pub after_hashed : List Terminal
+after_hashed = terminals.Mark marks.Hash ∷ []
+
+abbrev pub after_type : List Terminal
+after_type = terminals.Reserved words.Unsigned ∷ []
+
+abbrev pub after_sets : List Terminal
+after_sets = terminals.Mark marks.OpenBrace ∷ []
+
+abbrev pub shape : Form Terminal Rule
+shape = Many (Non rules.Index) or Non rules.Range
+
+-- a shape behind its first expression
+abbrev pub dims_or_range : Form Terminal Rule
+dims_or_range = mark marks.CloseBracket then Many (Non rules.Index) or mark marks.Colon then Non rules.Expr then mark marks.CloseBracket
+
+abbrev pub assigned : Form Terminal Rule
+assigned = Opt (mark marks.Equals then Non rules.Given)
+
+abbrev pub sets : Form Terminal Rule
+sets = Opt (mark marks.OpenBrace then Many (Non rules.Local) then mark marks.CloseBrace)
+
+-- an enumeration behind its word
+abbrev pub rest_of_enum : Form Terminal Rule
+rest_of_enum = name then mark marks.OpenBrace then Many (Non rules.Entry) then mark marks.CloseBrace then mark marks.Semicolon
+
+-- the shape of an instance
+abbrev pub DerivesShapeOf : List Token → List Token → Shape → Type 0
+DerivesShapeOf ts us s = DerivesShape ts us s.dims.now s.range
+
+-- [ "=" given ] ";" behind a property
+pub record Sets (prop : Name) (place : Place) (ts us : List Token) (set : Set) : Type 0 where
+  pub value : Option Given
+  pub end : Token
+  pub middle : List Token
+  pub assigned : DerivesAssigned ts middle value
+  pub ends : IsMark marks.Semicolon middle end us
+  pub is : set ≡ record { prop = prop; edge = None; value = value; place = place }
+
+-- { entry } "}" ";"
+pub record DerivesEntries (ts us : List Token) (entries : List Entry) : Type 0 where
+  pub close : Token
+  pub end : Token
+  pub middle : List Token
+  pub behind : List Token
+  pub each : DerivesMany DerivesEntry ts middle entries
+  pub closes : IsMark marks.CloseBrace middle close behind
+  pub ends : IsMark marks.Semicolon behind end us

@@ -4,6 +4,8 @@
 mod depth;
 mod error;
 mod expressions;
+mod instances;
 mod parser;
+mod properties;
 
 pub use error::ParseError;

@@ -1,0 +1,29 @@
+use Rattle.std.proofs.Common.{◌≡◌, List, [], ◌∷◌, ◌++◌, refl, ap, sym, ◌∙◌, subst, Some, Err, append-nil, append_assoc}
+use Rattle.rb_grammar.specs.Forms.{◌then◌}
+use Rattle.rb_grammar.proofs.Following.{◌⟫◌, ◌⟫|◌}
+use Rattle.rb_grammar.proofs.Barring.{Here, Without}
+use Rattle.rb_grammar.proofs.Steps.{entering, staying, opening, taking, missing, calling, calling_stops, halting, passed}
+use Rattle.rdl_tree.specs.declared.token.Mark.TheVariants as marks
+use Rattle.rdl_tree.specs.declared.token.Terminal.TheVariants as terminals
+use Rattle.rdl_tree.specs.Tree as tree
+use Rattle.rdl_parser.proofs.Firsts.{right}
+use Rattle.rdl_parser.proofs.Factoring.{reading, reading_stops, refusing}
+use Rattle.rdl_parser.proofs.parser.Parser.entry.Goals as goal
+
+pub returns-in_err-name-clause-stops : goal.returns-in_err-name-clause-stops
+returns-in_err-name-clause-stops c = λ h. entering ⟫| halting right c.in_err-name.ensures.err refl
+
+pub returns-in_err-value-clause-stops : goal.returns-in_err-value-clause-stops
+returns-in_err-value-clause-stops c = λ h. entering ⟫ taking right c.in_ok-name.ensures.ok.1 refl ⟫| reading_stops right _ (c.in_err-value.ensures.stops (ap Err (passed _ _ c.from_residual-in_err-value.ensures.1 h))) refl
+
+pub returns-in_err-sets-clause-stops : goal.returns-in_err-sets-clause-stops
+returns-in_err-sets-clause-stops c = λ h. entering ⟫ taking right c.in_ok-name.ensures.ok.1 refl ⟫ reading right _ c.in_ok-value.ensures.reads refl ⟫| reading_stops right _ (c.in_err-sets.ensures.stops (ap Err (passed _ _ c.from_residual-in_err-sets.ensures.1 h))) refl
+
+pub returns-in_err-_end-clause-stops : goal.returns-in_err-_end-clause-stops
+returns-in_err-_end-clause-stops c = λ h. entering ⟫ taking right c.in_ok-name.ensures.ok.1 refl ⟫ reading right _ c.in_ok-value.ensures.reads refl ⟫ reading right _ c.in_ok-sets.ensures.reads refl ⟫| halting right c.in_err-_end.ensures.err refl
+
+pub returns-clause-tree : goal.returns-clause-tree
+returns-clause-tree c = tree.entry c.in_ok-name.ensures.ok c.in_ok-value.ensures.tree c.in_ok-sets.ensures.tree c.in_ok-_end.ensures.ok
+
+pub returns-clause-reads : goal.returns-clause-reads
+returns-clause-reads c = entering ⟫ taking right c.in_ok-name.ensures.ok.1 refl ⟫ reading right _ c.in_ok-value.ensures.reads refl ⟫ reading right _ c.in_ok-sets.ensures.reads refl ⟫ taking right c.in_ok-_end.ensures.ok refl

@@ -1,0 +1,36 @@
+use Rattle.std.proofs.Common.{◌≡◌, List, [], ◌∷◌, ◌++◌, refl, ap, sym, ◌∙◌, subst, Some, Err, append-nil, append_assoc}
+use Rattle.rb_grammar.specs.Forms.{◌then◌}
+use Rattle.rb_grammar.proofs.Following.{◌⟫◌, ◌⟫|◌}
+use Rattle.rb_grammar.proofs.Barring.{Here, Without}
+use Rattle.rb_grammar.proofs.Steps.{entering, staying, opening, taking, missing, calling, calling_stops, halting, passed}
+use Rattle.rdl_tree.specs.declared.token.Mark.TheVariants as marks
+use Rattle.rdl_tree.specs.declared.token.Terminal.TheVariants as terminals
+use Rattle.rdl_tree.specs.Tree as tree
+use Rattle.rdl_parser.proofs.Firsts.{right}
+use Rattle.rdl_parser.proofs.Factoring.{reading, reading_stops, refusing}
+use Rattle.rdl_parser.proofs.Lists.{no_more, more, listed_from}
+use Rattle.rdl_parser.proofs.parser.Parser.inst_list.Goals as goal
+
+pub returns-in_err-first-clause-stops : goal.returns-in_err-first-clause-stops
+returns-in_err-first-clause-stops c = λ h. entering ⟫| calling_stops right (c.in_err-first.ensures.stops (ap Err (passed _ _ c.from_residual.ensures.1 h))) refl
+
+pub more-init : goal.more-init
+more-init c = record {
+  tree = λ us xs d. rw (c.in_ok-push.ensures.items, c.new-list.ensures.items) (listed_from c.in_ok-first.ensures.tree d);
+  reads = entering ⟫ calling right c.in_ok-first.ensures.reads refl;
+}
+
+pub returns-in_err-next-clause-stops : goal.returns-in_err-next-clause-stops
+returns-in_err-next-clause-stops c = λ h. c.more.invariant.reads ⟫ taking right c.in-Some.ensures refl ⟫| calling_stops right (c.in_err-next.ensures.stops (ap Err (passed _ _ c.from_residual-in_err-next.ensures.1 h))) refl
+
+pub more-preserved : goal.more-preserved
+more-preserved c = record {
+  tree = λ us xs d. rw (c.in_ok-push-2.ensures.items, append_assoc) (c.more.invariant.tree us (c.in_ok-next.next ∷ xs) (more c.in-Some.ensures c.in_ok-next.ensures.tree d));
+  reads = c.more.invariant.reads ⟫ taking right c.in-Some.ensures refl ⟫ calling right c.in_ok-next.ensures.reads refl;
+}
+
+pub returns-clause-tree : goal.returns-clause-tree
+returns-clause-tree c = rw c.into_bump_slice.ensures (rw append-nil at (c.more.invariant.tree c.mark.new.self [] (rw c.in_default.ensures.list no_more)))
+
+pub returns-clause-reads : goal.returns-clause-reads
+returns-clause-reads c = c.more.invariant.reads ⟫ missing right c.in_default.ensures refl
