@@ -5,8 +5,8 @@ use Rattle.std.proofs.lemmas.Bool.{and_parts, not-true}
 use Rattle.rb_grammar.specs.Forms.{Form, Tok, Non, ◌or◌, Opt, Many, ◌then◌, Grammar}
 use Rattle.rb_grammar.specs.Readings.{Goal, Upto, behind_next, Reads, first, second, both, Avoids, Same, Stops}
 use Rattle.rb_grammar.specs.Firsts.{Table, IsTableOf}
-use Rattle.rb_grammar.proofs.Following.{◌⟫◌, read_or, read_both, same, same_both, stops_here}
-use Rattle.rb_grammar.proofs.Barring.{Here, Without, can, Holds, barred}
+use Rattle.rb_grammar.proofs.Following.{◌⟫◌, read_or, read_both, same, same_both, same_first, same_second, stops_here}
+use Rattle.rb_grammar.proofs.Barring.{Sight, Here, Without, can, Holds, barred}
 use Rattle.rb_grammar.proofs.Steps.{avoids, apart, parts}
 
 -- the first forms are put together
@@ -90,3 +90,10 @@ module _ {T N K : Type 0} {G : Grammar T N K} {S : Table T N} (R : IsTableOf G S
   -- no token is there that these forms go on with
   pub refusing : {ms : List T} {fs : List (Form T N)} {ts us : List K} (ns : List T) → us ≡ ts → Holds G S R (Without ns) ts → can S (Without ns) ms fs ≡ false → Stops G ms fs ts us
   refusing {ms = ms} {fs = fs} {ts = ts} ns l h e = subst (λ z. Stops G ms fs ts z) (sym l) (stops_here G ms fs ts (λ hs av. barred G S R (Without ns) ms fs hs ts h av e))
+
+  -- a choice alone, where what was seen excludes the other form
+  pub first_chosen : {ms : List T} {f h : Form T N} {fs : List (Form T N)} {ts : List K} (s : Sight T) → can S s ms (h ∷ fs) ≡ false → Holds G S R s ts → Same G ms ((f or h) ∷ fs) ts (f ∷ fs) ts
+  first_chosen {ms = ms} {f = f} {h = h} {fs = fs} {ts = ts} s e k = same_first G ms f h fs ts (λ hs av. barred G S R s ms (h ∷ fs) hs ts k av e)
+
+  pub second_chosen : {ms : List T} {f h : Form T N} {fs : List (Form T N)} {ts : List K} (s : Sight T) → can S s ms (f ∷ fs) ≡ false → Holds G S R s ts → Same G ms ((f or h) ∷ fs) ts (h ∷ fs) ts
+  second_chosen {ms = ms} {f = f} {h = h} {fs = fs} {ts = ts} s e k = same_second G ms f h fs ts (λ hs av. barred G S R s ms (f ∷ fs) hs ts k av e)

@@ -4,3 +4,5 @@ pub mod Words
 pub mod Operators
 pub mod Phrases
 pub mod Lists
+pub mod Items
+pub mod Sources

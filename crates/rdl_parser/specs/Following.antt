@@ -10,16 +10,20 @@ use Rattle.rdl_tree.specs.declared.expr.Name.{Name}
 use Rattle.rdl_tree.specs.declared.expr.Op.{Op}
 use Rattle.rdl_tree.specs.declared.item.Entry.{Entry}
 use Rattle.rdl_tree.specs.declared.item.Given.{Given}
+use Rattle.rdl_tree.specs.declared.item.Insts.{Insts}
 use Rattle.rdl_tree.specs.declared.item.Set.{Set}
 use Rattle.rdl_tree.specs.declared.token.Mark.{Mark}
 use Rattle.rdl_tree.specs.declared.token.Mark.TheVariants as marks
 use Rattle.rdl_tree.specs.declared.token.Terminal.{Terminal}
 use Rattle.rdl_tree.specs.declared.token.Terminal.TheVariants as terminals
 use Rattle.rdl_tree.specs.declared.token.Token.{Token}
+use Rattle.rdl_tree.specs.declared.token.TokenKind.{TokenKind}
 use Rattle.rdl_tree.specs.declared.token.TokenKind.TheVariants as tokens
-use Rattle.rdl_tree.specs.Grammar.{Rule, grammar, mark, name, listed, behind}
+use Rattle.rdl_tree.specs.Grammar.{Rule, grammar, mark, name, word}
 use Rattle.rdl_tree.specs.Grammar as rules
-use Rattle.rdl_tree.specs.Tree.{IsMark, IsWord, operator_of, level, kind_of, type_of, edge_of, names_property, is_value, DerivesShape, DerivesAssigned, DerivesMany, DerivesEntry}
+use Rattle.rdl_tree.specs.Tree.{IsMark, IsWord, operator_of, level, kind_of, type_of, edge_of, names_property, is_value, DerivesShape, DerivesAssigned, DerivesMany, DerivesEntry, DerivesMade}
+use Rattle.rdl_parser.specs.declared.components.Role.{Role}
+use Rattle.rdl_parser.specs.declared.components.Role.TheVariants as roles
 use Rattle.rdl_parser.specs.declared.instances.Shape.{Shape}
 use Rattle.rdl_parser.specs.declared.parser.Sort.{Sort}
 use Rattle.rdl_parser.specs.declared.parser.Sort.TheVariants as sorts
@@ -191,3 +195,60 @@ pub record DerivesEntries (ts us : List Token) (entries : List Entry) : Type 0 w
   pub each : DerivesMany DerivesEntry ts middle entries
   pub closes : IsMark marks.CloseBrace middle close behind
   pub ends : IsMark marks.Semicolon behind end us
+
+-- Items.
+
+-- the instances that follow a component with a name
+abbrev pub instances : Form Terminal Rule
+instances = Opt (Opt (word words.Internal) then Non rules.Insts)
+
+-- a component behind its kind
+abbrev pub named_or_bare : Form Terminal Rule
+named_or_bare = name then Opt (Non rules.Params) then Non rules.Body then instances or Non rules.Body then Opt (word words.Internal) then Non rules.InstList
+
+-- instances of a named type, behind their alias
+abbrev pub of_type : Form Terminal Rule
+of_type = name then Non rules.Insts then mark marks.Semicolon
+
+abbrev pub alias : Form Terminal Rule
+alias = Opt (word words.Alias then name)
+
+-- an item behind "internal"
+abbrev pub behind_internal : Form Terminal Rule
+behind_internal = Non rules.Kind then named_or_bare then mark marks.Semicolon or alias then of_type
+
+-- an item that is no component
+abbrev pub simple_item : Form Terminal Rule
+simple_item = Non rules.Enum or Non rules.Made or Non rules.Default or Non rules.Local or Non rules.Dynamic
+
+-- a dynamic assignment behind its path
+abbrev pub assignment : Form Terminal Rule
+assignment = mark marks.Arrow then Non rules.Prop then assigned then mark marks.Semicolon
+
+-- an item behind the name that it begins with
+abbrev pub item_behind_name : Form Terminal Rule
+item_behind_name = Non rules.Insts then mark marks.Semicolon or assigned then mark marks.Semicolon or (Many (Non rules.Index) then more_steps) then assignment
+
+-- what the mark behind a name says of the item
+abbrev pub mark_role : Mark → Role
+mark_role marks.Equals = roles.Local
+mark_role marks.Semicolon = roles.Local
+mark_role marks.OpenBracket = roles.Dynamic
+mark_role marks.Dot = roles.Dynamic
+mark_role marks.Arrow = roles.Dynamic
+mark_role m = roles.Made
+
+abbrev pub kind_role : TokenKind → Role
+kind_role (tokens.Mark m) = mark_role m
+kind_role kind = roles.Made
+
+abbrev pub role : List Token → Role
+role [] = roles.Made
+role (t ∷ ts) = kind_role t.kind
+
+-- [ [ "internal" ] insts ] ";"
+pub record EndsDef (ts us : List Token) (insts : Option Insts) : Type 0 where
+  pub end : Token
+  pub middle : List Token
+  pub made : DerivesMade ts middle insts
+  pub ends : IsMark marks.Semicolon middle end us

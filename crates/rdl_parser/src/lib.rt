@@ -1,6 +1,7 @@
 //! The syntax tree of a SystemRDL source (SystemRDL 2.0, annex B).
 #![tactic(auto)]
 
+mod components;
 mod depth;
 mod error;
 mod expressions;

@@ -1,0 +1,39 @@
+use Rattle.std.proofs.Common.{◌≡◌, List, [], ◌∷◌, ◌++◌, refl, ap, sym, ◌∙◌, subst, length, arith, Some, Err, append-nil, append_assoc}
+use Rattle.rb_grammar.specs.Forms.{◌then◌}
+use Rattle.rb_grammar.proofs.Following.{◌⟫◌, ◌⟫|◌}
+use Rattle.rb_grammar.proofs.Barring.{Here, Without}
+use Rattle.rb_grammar.proofs.Steps.{entering, staying, opening, taking, missing, calling, calling_stops, halting, passed}
+use Rattle.rdl_tree.specs.declared.token.Mark.TheVariants as marks
+use Rattle.rdl_tree.specs.declared.token.Terminal.TheVariants as terminals
+use Rattle.rdl_tree.specs.Tree as tree
+use Rattle.rdl_parser.proofs.Firsts.{right}
+use Rattle.rdl_parser.proofs.Factoring.{reading, reading_stops, refusing}
+use Rattle.rb_base.specs.declared.keyword.Keyword.TheVariants as words
+use Rattle.rdl_parser.specs.Following.{kinds}
+use Rattle.rdl_parser.proofs.Factoring.{packing}
+use Rattle.rdl_parser.proofs.Operators.{seen}
+use Rattle.rdl_parser.proofs.Words.{no_kind}
+use Rattle.rdl_parser.proofs.Items.{moved, default_tree, skip_tree, skip_step, internal_step, kind_step, inner_kind_step, item_name_step, local_step, dynamic_step, made_step, local_tree, starts, dynamic_tree, named_tree, bare_tree}
+use Rattle.rdl_parser.proofs.Sources.{leads_on, leads_more, leads_stop}
+use Rattle.rdl_parser.proofs.parser.Parser.source.Goals as goal
+
+pub more-init : goal.more-init
+more-init c = record {
+  tree = λ us is d. rw c.new-items.ensures.items d;
+  leads = leads_on _;
+}
+
+pub returns-in_err-item-clause-stops : goal.returns-in_err-item-clause-stops
+returns-in_err-item-clause-stops c = λ h. leads_stop c.more.invariant.leads c.more-test.ensures (c.in_err-item.ensures.stops (ap Err (passed _ _ c.from_residual.ensures.1 h)))
+
+pub more-preserved : goal.more-preserved
+more-preserved c = record {
+  tree = λ us is d. rw (c.in_ok-push.ensures.items, append_assoc) (c.more.invariant.tree us (c.in_ok-item.item ∷ is) (tree.next_item c.in_ok-item.ensures.tree d));
+  leads = leads_more c.more.invariant.leads c.more-test.ensures c.in_ok-item.ensures.reads;
+}
+
+pub returns-clause-tree : goal.returns-clause-tree
+returns-clause-tree c = rw c.into_bump_slice.ensures (rw append-nil at (c.more.invariant.tree _ [] tree.no_item))
+
+pub returns-clause-whole : goal.returns-clause-whole
+returns-clause-whole c = c.more-test.ensures
