@@ -6,3 +6,6 @@ pub mod Phrases
 pub mod Lists
 pub mod Items
 pub mod Sources
+pub mod Judged
+pub mod Alike
+pub mod OneVerdict

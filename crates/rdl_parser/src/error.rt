@@ -1,6 +1,7 @@
 //! Why a source has no tree.
 
 use rb_base::{Fault, Place, Rule};
+use std::alloc::{AllocError, AllocFailed};
 
 /// Why there is no tree.
 #[derive(Clone, Copy, Debug, PartialEq, Eq)]
@@ -15,4 +16,26 @@ pub enum ParseError {
     TooDeep { place: Place },
     /// Memory was refused.
     NoMemory,
+}
+
+impl From<AllocError> for ParseError {
+    ghost use Rattle.std.specs.Prelude.{◌≡◌};
+    ghost use Rattle.rdl_parser.specs.declared.error.ParseError.TheVariants.{NoMemory};
+
+    ghost from_gives = { λ _ e. e ≡ NoMemory };
+
+    fn from(_: AllocError) -> Self {
+        ParseError::NoMemory
+    }
+}
+
+impl<T: Drop> From<AllocFailed<T>> for ParseError {
+    ghost use Rattle.std.specs.Prelude.{◌≡◌};
+    ghost use Rattle.rdl_parser.specs.declared.error.ParseError.TheVariants.{NoMemory};
+
+    ghost from_gives = { λ _ e. e ≡ NoMemory };
+
+    fn from(_: AllocFailed<T>) -> Self {
+        ParseError::NoMemory
+    }
 }

@@ -6,7 +6,11 @@ mod depth;
 mod error;
 mod expressions;
 mod instances;
+mod laws;
+mod reading;
 mod parser;
 mod properties;
 
 pub use error::ParseError;
+pub use laws::one_verdict;
+pub use reading::parse;
