@@ -6,19 +6,19 @@ use Rattle.std.proofs.lemmas.List.{drop_all}
 use Rattle.stim_csv.specs.PinTable.{first_problem}
 use Rattle.stim_csv.specs.declared.error.StimError.{StimError}
 
-cons : {A : Type 0} (f : ℕ → A → Option StimError) (k : ℕ) (x : A) (xs : List A) → first_problem f k (x ∷ xs) ≡ option_or (f k x) (first_problem f (k + 1) xs)
+pub first_cons : {A : Type 0} (f : ℕ → A → Option StimError) (k : ℕ) (x : A) (xs : List A) → first_problem f k (x ∷ xs) ≡ option_or (f k x) (first_problem f (k + 1) xs)
 unfolding first_problem
-cons f k x xs = refl
+first_cons f k x xs = refl
 
 pub none_past : {A : Type 0} (f : ℕ → A → Option StimError) (k : ℕ) → first_problem f k [] ≡ None
 unfolding first_problem
 none_past f k = refl
 
 pub none_first : {A : Type 0} (f : ℕ → A → Option StimError) (k : ℕ) (x : A) (xs : List A) → f k x ≡ None → first_problem f k (x ∷ xs) ≡ first_problem f (k + 1) xs
-none_first f k x xs h = cons f k x xs ∙ ap (λ o. option_or o (first_problem f (k + 1) xs)) h
+none_first f k x xs h = first_cons f k x xs ∙ ap (λ o. option_or o (first_problem f (k + 1) xs)) h
 
 pub some_first : {A : Type 0} (f : ℕ → A → Option StimError) (k : ℕ) (x : A) (xs : List A) (e : StimError) → f k x ≡ Some e → first_problem f k (x ∷ xs) ≡ Some e
-some_first f k x xs e h = cons f k x xs ∙ ap (λ o. option_or o (first_problem f (k + 1) xs)) h
+some_first f k x xs e h = first_cons f k x xs ∙ ap (λ o. option_or o (first_problem f (k + 1) xs)) h
 
 -- an element without a problem is passed
 pub problem_after : {A : Type 0} (f : ℕ → A → Option StimError) (xs : List A) (i : ℕ) (d : A) → i < length xs → f i (get_or xs i d) ≡ None

@@ -5,3 +5,4 @@ pub mod Widths
 pub mod Positions
 pub mod Headers
 pub mod Rows
+pub mod Fitting

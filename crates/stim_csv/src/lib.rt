@@ -4,10 +4,12 @@
 mod cell;
 mod error;
 mod header;
+mod laws;
 mod records;
 mod stimulus;
 #[cfg(test)]
 mod tests;
 
 pub use error::StimError;
+pub use laws::vectors_fit;
 pub use stimulus::Stimulus;
