@@ -45,9 +45,6 @@ module _ (w : ℕ) (n : List ℕ) (hi lo : ℕ) (wide : w ≡ 1 → ⊥) where
   pub bits_are : (hi ≡ lo → ⊥) → n ++ (codes "[" ++ (decimal hi ++ (codes ":" ++ (decimal lo ++ codes "]")))) ≡ term_text (selected w n hi lo)
   bits_are e = sym (chosen false (other_number hi lo e))
 
-pub cat_is : (a b : List ℕ) → codes "{" ++ (a ++ (codes ", " ++ (b ++ codes "}"))) ≡ codes "{" ++ (a ++ ((codes ", " ++ (b ++ [])) ++ codes "}"))
-cat_is a b = simp (append_assoc, append-nil)
-
 block_parts : (c r p g n v a : List ℕ) → (c ++ (r ++ (codes " " ++ p))) ++ (codes ")\n    if (" ++ (g ++ (p ++ codes ") "))) ++ ((n ++ (codes " <= " ++ (v ++ codes ";\n    else "))) ++ (n ++ (codes " <= " ++ (a ++ codes ";\n"))))
     ≡ c ++ (r ++ (codes " " ++ (p ++ (codes ")\n    if (" ++ (g ++ (p ++ (codes ") " ++ (n ++ (codes " <= " ++ (v ++ (codes ";\n    else " ++ (n ++ (codes " <= " ++ (a ++ codes ";\n"))))))))))))))
 block_parts c r p g n v a = simp append_assoc

@@ -32,9 +32,6 @@ bit_text g n d l = simp append_assoc
 part_text : (g n d e l : List ℕ) → g ++ (n ++ (91 ∷ (d ++ (58 ∷ (e ++ (93 ∷ l)))))) ≡ g ++ ((n ++ (91 ∷ (d ++ (58 ∷ (e ++ (93 ∷ [])))))) ++ l)
 part_text g n d e l = simp append_assoc
 
-sized_text : (g d h l : List ℕ) → g ++ ((d ++ (39 ∷ 104 ∷ h)) ++ l) ≡ g ++ ((d ++ (39 ∷ 104 ∷ h)) ++ l)
-sized_text g d h l = refl
-
 joined_text : (g a w b l : List ℕ) → g ++ (a ++ (32 ∷ (w ++ (32 ∷ (b ++ l))))) ≡ g ++ ((a ++ (32 ∷ (w ++ (32 ∷ b)))) ++ l)
 joined_text g a w b l = simp append_assoc
 
@@ -71,7 +68,7 @@ mutual
   operand_laid g (Whole n) l = refl
   operand_laid g (Bit n k) l = bit_text g n (decimal k) l
   operand_laid g (Part n hi lo) l = part_text g n (decimal hi) (decimal lo) l
-  operand_laid g (Sized w v) l = sized_text g (decimal w) (digits 16 false v) l
+  operand_laid g (Sized w v) l = refl
   operand_laid g (Braced a rest) l =
       ap (λ x. g ++ (123 ∷ x)) (laid-append (operand_cells [] a) (operands_cells rest ++ near (codes "}") ∷ []) l
       ∙ (operand_laid [] a (laid (operands_cells rest ++ near (codes "}") ∷ []) l)

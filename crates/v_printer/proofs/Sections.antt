@@ -22,6 +22,7 @@ six_parts : (h r w a o b e : List ℕ) → h ++ ((r ++ w) ++ ((a ++ (o ++ b)) ++
 six_parts h r w a o b e = simp append_assoc
 
 pub text_is : (net : Net) → tree_text (tree_of net) ≡ text_of net
+unfolding text_of
 text_is net =
     let d : each_text decl_text (decls net) ≡ section_text net Registers ++ section_text net Wires
     = each_text-append decl_text (numbered register_decl 0 net.nodes) (numbered (wire_decl net) 0 net.nodes)

@@ -73,6 +73,7 @@ module _ (net : Net) (made : IsMade net) (whole : IsWhole net) (few : length net
   }
 
   pub text_of_net : IsTextOf net (text_of net)
+  unfolding text_of
   text_of_net = record {
     tree = tree_of net;
     is_tree = record { spelled = spelled; ported = subst (λ n. 0 < n) (as_many net.seats) whole.some; ranges = ranges net made; nested = tree_nests net };

@@ -86,6 +86,6 @@ abbrev pub shown_text : Net → ℕ → Seat → List ℕ
 shown_text net k s = each_text stmt_text (output_stmt net k s)
 
 -- the text of a netlist
-abbrev pub text_of : Net → List ℕ
+unfoldable pub text_of : Net → List ℕ
 text_of net = header net.name (ports net) ++ (section_text net Registers ++ (section_text net Wires ++ (section_text net Assignments
     ++ (numbered (shown_text net) 0 net.seats ++ (section_text net Blocks ++ codes "endmodule\n")))))
