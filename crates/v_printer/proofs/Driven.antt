@@ -1,11 +1,10 @@
 -- Each net of a printed module has one driver.
-use Rattle.std.specs.List.{AllByRecursion, IsDistinct, list_all, list_any}
+use Rattle.std.specs.List.{AllByRecursion, IsDistinct, list_all}
 use Rattle.std.specs.Str.{bytes_eq}
-use Rattle.std.proofs.Common.{zero, suc, ◌≡◌, ℕ, ◌+◌, ◌<◌, ◌≤◌, ◌^◌, Bool, true, false, not, ◌&&◌, ◌||◌, if◌then◌else◌, nat_le, List, [], ◌∷◌, ◌++◌, map, filter, length, slice_get, Option, Some, None, is_some, refl, ap, sym, ◌∙◌, subst, arith, append-nil}
+use Rattle.std.proofs.Common.{suc, ◌≡◌, ℕ, ◌+◌, ◌<◌, ◌≤◌, ◌^◌, Bool, true, false, not, ◌&&◌, ◌||◌, if◌then◌else◌, nat_le, List, [], ◌∷◌, ◌++◌, map, filter, length, slice_get, Option, Some, None, is_some, refl, ap, ◌∙◌, subst, arith, append-nil}
 use Rattle.std.proofs.lemmas.Bool.{and_parts}
 use Rattle.std.proofs.lemmas.Bool.Decides.{nat_tests}
 use Rattle.std.proofs.lemmas.List.{map-append}
-use Rattle.rb_base.specs.declared.ports.Pin.{Pin}
 use Rattle.rtl_net.specs.Names.{clock}
 use Rattle.rtl_net.specs.Net.{Net, width_in, widths, registers_of, undriven}
 use Rattle.rtl_net.specs.Value.{expr_width}
@@ -30,12 +29,11 @@ use Rattle.v_design.specs.Lexemes.{among}
 use Rattle.v_design.specs.Tree.{Statement, Assign, Plain, Whole, port_widths, decl_widths, is_width}
 use Rattle.v_design.specs.Design.{module_of, port_pin, decl_pin, is_input}
 use Rattle.v_design.specs.Design as design
-use Rattle.v_design.specs.WellFormed as form
 use Rattle.v_design.specs.WellFormed.{Given, same_kind, port_kind, distinct, names, nets, target, driven}
-use Rattle.v_printer.specs.Module.{numbered, wire_name, node_name, side_of, port_of, ports, term_of, register_decl, wire_decl, decls, wire_stmt, shown_stmt, output_stmt, block, driven_stmt, register_stmt, stmts, tree_of}
-use Rattle.v_printer.proofs.Entries.{Entry, Port, Kept_by, Wire_of, entry_name, entry_kind, entry_net, entries, register_entry, wire_entry, nets_are}
-use Rattle.v_printer.proofs.Places.{Apart, distinct_append, is_distinct, turned, all_append, all_one, all_map, all_of, list_all_of, numbered_all, numbered_has, any_at, place_left, place_right, place_map, same_bytes}
-use Rattle.v_printer.proofs.Named.{wire_names, names_differ, seats_regs, seats_wires, regs_wires, wires_distinct, seat_entry_names}
+use Rattle.v_printer.specs.Module.{numbered, wire_name, node_name, side_of, port_of, ports, term_of, register_decl, wire_decl, decls, wire_stmt, shown_stmt, output_stmt, block, register_stmt, stmts, tree_of}
+use Rattle.v_printer.proofs.Entries.{Entry, Port, entry_name, entry_kind, entry_net, entries, register_entry, wire_entry, nets_are}
+use Rattle.v_printer.proofs.Places.{Apart, distinct_append, is_distinct, turned, all_append, all_map, all_of, list_all_of, numbered_all, numbered_has, any_at, place_left, place_right, place_map, same_bytes}
+use Rattle.v_printer.proofs.Named.{wire_names, names_differ, seats_regs, seats_wires, regs_wires, wires_distinct}
 
 -- the targets of the statements
 wire_targets : (net : Net) (k : ℕ) (ns : List NetNode) → map target (numbered (wire_stmt net) k ns) ≡ wire_names k ns

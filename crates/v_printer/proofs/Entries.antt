@@ -1,30 +1,18 @@
 -- The nets of a printed module, each with what it stands for.
-use Rattle.std.specs.List.{AllByRecursion, IsDistinct, list_any, list_all, starts_with}
-use Rattle.std.specs.Fmt.{digits, decimal}
 use Rattle.std.specs.Str.{bytes_eq}
-use Rattle.std.proofs.Common.{zero, suc, ◌≡◌, ℕ, ◌+◌, ◌<◌, ◌≤◌, ◌^◌, ◌==◌, Bool, true, false, not, ◌&&◌, ◌||◌, if◌then◌else◌, List, [], ◌∷◌, ◌++◌, codes, map, length, slice_get, Option, Some, None, inl, inr, ◌⊎◌, refl, ap, sym, ◌∙◌, subst, arith, length-append}
-use Rattle.std.proofs.lemmas.Fmt.{decimal_injective}
+use Rattle.std.proofs.Common.{◌≡◌, ℕ, ◌+◌, if◌then◌else◌, List, [], ◌∷◌, ◌++◌, map, refl, ap, sym, ◌∙◌}
 use Rattle.std.proofs.lemmas.List.{map-append}
 use Rattle.rb_base.specs.declared.ports.Pin.{Pin}
 use Rattle.rtl_net.proofs.HasRun as finding
-use Rattle.rtl_net.specs.Names.{Lacks}
-use Rattle.rtl_net.specs.Value.{At}
-use Rattle.rtl_net.specs.Net.{Net, width_in, registers_of}
-use Rattle.rtl_net.specs.Ports.{seat_names, register_names}
-use Rattle.rtl_net.specs.Made.{IsMade, AreNames}
-use Rattle.rtl_net.specs.declared.node.Id.{Id}
-use Rattle.rtl_net.specs.declared.node.NetExpr.{NetExpr}
+use Rattle.rtl_net.specs.Net.{Net, width_in}
 use Rattle.rtl_net.specs.declared.node.NetNode.{NetNode}
 use Rattle.rtl_net.specs.declared.node.NetNode.TheVariants.{Input, Register, Wire}
-use Rattle.rtl_net.specs.declared.node.NetReset.{NetReset}
 use Rattle.rtl_net.specs.declared.node.Seat.{Seat}
-use Rattle.rtl_net.specs.declared.node.Taken.{Taken}
-use Rattle.rtl_net.specs.declared.node.Taken.TheVariants as takes
 use Rattle.v_design.specs.Design.{width_among, port_pin, decl_pin, module_of}
 use Rattle.v_design.specs.Design as design
 use Rattle.v_design.specs.WellFormed as form
 use Rattle.v_design.specs.WellFormed.{Kind, Given, Wired, Kept, port_net, decl_net, port_kind}
-use Rattle.v_printer.specs.Module.{numbered, wire_name, name_of, node_name, side_of, port_of, ports, register_decl, wire_decl, decls, tree_of}
+use Rattle.v_printer.specs.Module.{numbered, wire_name, side_of, port_of, ports, register_decl, wire_decl, decls, tree_of}
 
 -- a net of the module: a port, a register, or the wire of a number
 pub data Entry : Type 0 where

@@ -1,10 +1,10 @@
 -- The text of a netlist is that of its module's cells.
 use Rattle.std.specs.Fmt.{digits, decimal}
-use Rattle.std.proofs.Common.{◌≡◌, ℕ, ◌+◌, ◌-◌, ◌==◌, Bool, true, false, if◌then◌else◌, Option, Some, None, List, [], ◌∷◌, ◌++◌, codes, map, length, refl, ap, sym, ◌∙◌, arith, append_assoc, append-nil}
+use Rattle.std.proofs.Common.{◌≡◌, ℕ, ◌-◌, ◌==◌, Bool, true, false, if◌then◌else◌, List, [], ◌∷◌, ◌++◌, codes, refl, ap, sym, ◌∙◌, append_assoc}
 use Rattle.rb_grammar.specs.Printing.{Cell, cells_text}
 use Rattle.rb_base.specs.declared.ports.Port.{Port}
 use Rattle.v_design.specs.declared.design.Decl.{Decl}
-use Rattle.v_design.specs.Lexemes.{Token, Word, Name, Number, Const}
+use Rattle.v_design.specs.Lexemes.{Token, Name, Number}
 use Rattle.v_design.specs.Tree.{Tree, Statement, Assign, Clocked, Resettable, Term, Operand, Operands, Plain, Prefixed, Joined, Chosen, Whole, Bit, Part, Sized, Braced, Grouped, no_more, and_also, one_word, two_word, dir_word, decl_word, edge_word}
 use Rattle.v_design.proofs.Printing.{printer}
 use Rattle.v_design.proofs.TreeText.{at, far, near, term_cells, operand_cells, operands_cells, range_cells, port_cells, ports_cells, decls_cells, negation_cells, stmt_cells, stmts_cells, tree_cells}

@@ -1,23 +1,21 @@
 -- The names of a printed module differ.
-use Rattle.std.specs.List.{AllByRecursion, IsDistinct, list_any, list_all}
+use Rattle.std.specs.List.{AllByRecursion, IsDistinct, list_all}
 use Rattle.std.specs.Fmt.{decimal}
 use Rattle.std.specs.Str.{bytes_eq}
-use Rattle.std.proofs.Common.{zero, suc, ◌≡◌, ℕ, ◌+◌, ◌<◌, ◌≤◌, ◌^◌, Bool, true, false, not, ◌&&◌, List, [], ◌∷◌, ◌++◌, map, length, slice_get, Option, Some, None, refl, ap, sym, ◌∙◌, subst, arith}
-use Rattle.std.proofs.lemmas.Bool.{and_parts, true≢false}
+use Rattle.std.proofs.Common.{◌≡◌, ℕ, ◌+◌, ◌<◌, ◌≤◌, ◌^◌, true, false, List, [], ◌∷◌, ◌++◌, map, length, refl, ap, sym, ◌∙◌, subst, arith}
+use Rattle.std.proofs.lemmas.Bool.{and_parts}
 use Rattle.std.proofs.lemmas.Fmt.{decimal_injective}
 use Rattle.std.proofs.lemmas.List.{map-append}
-use Rattle.rtl_net.specs.Names.{Lacks, is_net_name, clock}
-use Rattle.rtl_net.specs.Net.{Net, width_in, registers_of}
+use Rattle.rtl_net.specs.Names.{Lacks, is_net_name}
+use Rattle.rtl_net.specs.Net.{Net, registers_of}
 use Rattle.rtl_net.specs.Ports.{seat_names, register_names}
 use Rattle.rtl_net.specs.Made.{IsMade}
-use Rattle.rtl_net.specs.declared.node.Id.{Id}
-use Rattle.rtl_net.specs.declared.node.NetExpr.{NetExpr}
 use Rattle.rtl_net.specs.declared.node.NetNode.{NetNode}
 use Rattle.rtl_net.specs.declared.node.NetNode.TheVariants.{Input, Register, Wire}
 use Rattle.rtl_net.specs.declared.node.Seat.{Seat}
 use Rattle.v_printer.specs.Module.{numbered, wire_name}
-use Rattle.v_printer.proofs.Entries.{Entry, Port, Kept_by, Wire_of, entry_name, entries, register_entry, wire_entry}
-use Rattle.v_printer.proofs.Places.{Apart, distinct_append, apart_of, turned, all_append, all_one, differ_by, flipped}
+use Rattle.v_printer.proofs.Entries.{Port, entry_name, entries, register_entry, wire_entry}
+use Rattle.v_printer.proofs.Places.{Apart, distinct_append, apart_of, turned, all_append, all_one, differ_by}
 
 wire_tail : (k j : ℕ) → wire_name k ≡ wire_name j → decimal k ≡ decimal j
 wire_tail k j e = cc

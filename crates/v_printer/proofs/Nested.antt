@@ -1,13 +1,12 @@
 -- No bracket stands in many others.
-use Rattle.std.specs.List.{flat_map}
-use Rattle.std.proofs.Common.{◌≡◌, ℕ, ◌+◌, ◌-◌, ◌==◌, Bool, true, false, if◌then◌else◌, Option, Some, None, List, [], ◌∷◌, ◌++◌, codes, refl, ap, sym, ◌∙◌, append_assoc}
+use Rattle.std.proofs.Common.{◌≡◌, ℕ, ◌+◌, ◌-◌, ◌==◌, Bool, true, false, if◌then◌else◌, Option, Some, None, List, [], ◌∷◌, ◌++◌, refl, ap, sym, ◌∙◌, append_assoc}
 use Rattle.rb_base.specs.declared.ports.Dir.{Dir}
 use Rattle.rb_base.specs.declared.ports.Dir.TheVariants.{In, Out}
 use Rattle.rb_base.specs.declared.ports.Port.{Port}
 use Rattle.v_design.specs.declared.design.Decl.{Decl}
 use Rattle.v_design.specs.declared.design.VTwo.TheVariants as two
-use Rattle.v_design.specs.Lexemes.{Token, Word, Name, Number, Const}
-use Rattle.v_design.specs.Tree.{Tree, Statement, Assign, Clocked, Resettable, Term, Plain, Joined, Whole, Bit, Part, Sized, quoted, dir_word, decl_word, term_tokens, range_tokens, port_tokens, ports_tokens, decls_tokens, stmt_tokens, stmts_tokens, tokens_of, nests}
+use Rattle.v_design.specs.Lexemes.{Token, Word, Name, Number}
+use Rattle.v_design.specs.Tree.{Statement, Assign, Term, Plain, Joined, Whole, Bit, Part, Sized, quoted, dir_word, decl_word, term_tokens, range_tokens, port_tokens, ports_tokens, decls_tokens, stmt_tokens, stmts_tokens, tokens_of, nests}
 use Rattle.rtl_net.specs.Net.{Net, width_in}
 use Rattle.rtl_net.specs.declared.node.NetExpr.{NetExpr}
 use Rattle.rtl_net.specs.declared.node.NetExpr.TheVariants as exprs
@@ -16,10 +15,9 @@ use Rattle.rtl_net.specs.declared.node.NetNode.TheVariants.{Input, Register, Wir
 use Rattle.rtl_net.specs.declared.node.NetReset.{NetReset}
 use Rattle.rtl_net.specs.declared.node.NetReset.TheVariants as resets
 use Rattle.rtl_net.specs.declared.node.Id.{Id}
-use Rattle.rtl_net.specs.declared.node.Seat.{Seat}
 use Rattle.rtl_net.specs.declared.node.Taken.{Taken}
 use Rattle.rtl_net.specs.declared.node.Taken.TheVariants as takes
-use Rattle.v_printer.specs.Module.{numbered, node_name, selected, term_of, wire_name, wire_stmt, shown_stmt, output_stmt, block, driven_stmt, register_stmt, decls, stmts, tree_of}
+use Rattle.v_printer.specs.Module.{numbered, node_name, selected, term_of, wire_name, wire_stmt, shown_stmt, output_stmt, block, register_stmt, decls, stmts, tree_of}
 
 -- these tokens open as many brackets as they close
 abbrev Balances : List Token → Type 0

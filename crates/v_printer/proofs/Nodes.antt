@@ -1,13 +1,10 @@
 -- What is found of a netlist's nodes by their names.
-use Rattle.std.specs.List.{AllByRecursion, IsDistinct, list_any, list_all}
 use Rattle.std.specs.Str.{bytes_eq}
-use Rattle.std.proofs.Common.{zero, suc, ◌≡◌, ℕ, ◌+◌, ◌<◌, ◌≤◌, ◌^◌, ◌==◌, Bool, true, false, not, ◌&&◌, if◌then◌else◌, List, [], ◌∷◌, ◌++◌, map, length, slice_get, Option, Some, None, refl, ap, sym, ◌∙◌, subst, arith}
+use Rattle.std.proofs.Common.{◌≡◌, ℕ, ◌+◌, ◌<◌, ◌≤◌, ◌^◌, ◌==◌, Bool, true, false, ◌&&◌, if◌then◌else◌, List, map, length, slice_get, Option, Some, None, refl, ap, sym, ◌∙◌, subst, arith}
 use Rattle.rtl_net.specs.Names.{clock, is_net_name}
-use Rattle.rtl_net.specs.Value.{At}
-use Rattle.rtl_net.specs.Net.{Net, IsEdge, width_in, widths, Has, IsInput, Stands}
+use Rattle.rtl_net.specs.Net.{Net, width_in, Has, IsInput}
 use Rattle.rtl_net.specs.Made.{IsMade}
 use Rattle.rtl_net.specs.declared.node.Id.{Id}
-use Rattle.rtl_net.specs.declared.node.NetExpr.{NetExpr}
 use Rattle.rtl_net.specs.declared.node.NetNode.{NetNode}
 use Rattle.rtl_net.specs.declared.node.NetNode.TheVariants.{Input, Register, Wire}
 use Rattle.rtl_net.specs.declared.node.NetReset.{NetReset}
@@ -26,11 +23,10 @@ use Rattle.v_design.specs.Design as design
 use Rattle.v_design.specs.WellFormed as form
 use Rattle.v_design.specs.WellFormed.{Kind, Given, Wired, Kept, same_kind, has, is_pin, names, nets}
 use Rattle.v_design.proofs.Printing.{has_word}
-use Rattle.v_printer.specs.Module.{numbered, wire_name, name_of, name_if, node_name, tree_of}
-use Rattle.v_printer.proofs.Choices.{same_number}
+use Rattle.v_printer.specs.Module.{numbered, name_of, name_if, node_name, tree_of}
 use Rattle.v_printer.proofs.Entries.{Entry, Port, Kept_by, Wire_of, entry_name, entry_width, entry_kind, entry_net, entries, register_entry, wire_entry, nets_are, look, widths_are}
 use Rattle.v_printer.proofs.Places.{place_left, place_right, place_map, numbered_has, any_at, all_at, same_bytes, flipped}
-use Rattle.v_printer.proofs.Named.{names_differ, not_wire, seats_named, regs_named, seats_regs, all_wires}
+use Rattle.v_printer.proofs.Named.{names_differ, seats_named, regs_named, seats_regs}
 use Rattle.v_printer.proofs.Words.{net_word, wire_word}
 
 -- the net of a node

@@ -1,6 +1,6 @@
 -- The cells of a printed module can be printed.
 use Rattle.std.specs.List.{AllByRecursion, list_all}
-use Rattle.std.proofs.Common.{◌≡◌, ℕ, ◌-◌, ◌<◌, ◌≤◌, ◌^◌, ◌==◌, Bool, true, false, ◌&&◌, ◌||◌, if◌then◌else◌, nat_le, nat_lt, List, [], ◌∷◌, ◌++◌, codes, length, refl, ap, sym, ◌∙◌, subst, arith, append_assoc}
+use Rattle.std.proofs.Common.{◌≡◌, ℕ, ◌-◌, ◌<◌, ◌≤◌, ◌^◌, ◌==◌, Bool, true, false, ◌&&◌, if◌then◌else◌, nat_le, nat_lt, List, [], ◌∷◌, ◌++◌, codes, refl, sym, subst, arith, append_assoc}
 use Rattle.std.proofs.lemmas.Bool.Decides.{nat_tests}
 use Rattle.rb_base.specs.declared.ports.Dir.{Dir}
 use Rattle.rb_base.specs.declared.ports.Dir.TheVariants.{In, Out}
@@ -15,7 +15,7 @@ use Rattle.v_design.specs.declared.design.VTwo.TheVariants as two
 use Rattle.v_design.specs.Lexemes.{Token, Word, Name, Number, Const}
 use Rattle.v_design.specs.Tree.{Tree, Statement, Assign, Clocked, Resettable, Term, Plain, Prefixed, Joined, Chosen, Whole, Bit, Part, Sized, Braced, no_more, and_also, one_word, two_word, dir_word, decl_word, edge_word}
 use Rattle.v_design.proofs.Printing.{printer, has_word}
-use Rattle.v_design.proofs.TreeText.{at, far, near, line, term_cells, negation_cells, range_cells, port_cells, ports_cells, decls_cells, stmt_cells, stmts_cells, tree_cells}
+use Rattle.v_design.proofs.TreeText.{at, far, near, term_cells, negation_cells, range_cells, port_cells, ports_cells, decls_cells, stmt_cells, stmts_cells, tree_cells}
 use Rattle.rtl_net.specs.Net.{Net, Has, width_in, CanWire}
 use Rattle.rtl_net.specs.declared.node.Id.{Id}
 use Rattle.rtl_net.specs.declared.node.NetExpr.{NetExpr}

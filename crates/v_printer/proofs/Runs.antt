@@ -1,12 +1,10 @@
 -- A printed module runs as its netlist does.
 use Rattle.std.specs.Bool.{OnTrue}
 use Rattle.std.specs.List.{AllByRecursion}
-use Rattle.std.specs.Str.{bytes_eq}
-use Rattle.std.proofs.Common.{zero, suc, ◌≡◌, ℕ, ◌+◌, ◌<◌, ◌^◌, ◌==◌, Bool, true, false, not, ◌&&◌, if◌then◌else◌, List, [], ◌∷◌, ◌++◌, map, length, slice_get, Option, Some, None, is_some, refl, ap, sym, ◌∙◌, subst, arith}
+use Rattle.std.proofs.Common.{◌≡◌, ℕ, ◌<◌, ◌^◌, ◌==◌, Bool, true, false, if◌then◌else◌, List, [], ◌∷◌, map, length, slice_get, Option, Some, None, refl, ap, sym, ◌∙◌, arith}
 use Rattle.std.proofs.lemmas.Bool.{and_parts}
-use Rattle.rtl_net.specs.Names.{clock}
-use Rattle.rtl_net.specs.Value.{At, Values, node_value, expr_value, under, operands}
-use Rattle.rtl_net.specs.Net.{Net, IsEdge, width_in, widths, Has, Stands, CanWire, undriven}
+use Rattle.rtl_net.specs.Value.{At, Values, node_value, under, operands}
+use Rattle.rtl_net.specs.Net.{Net, widths, Has, Stands}
 use Rattle.rtl_net.specs.Made.{IsMade}
 use Rattle.rtl_net.specs.Run as run
 use Rattle.rtl_net.specs.Run.{by_input, by_output, NetEdge, NetRun, SameAt, values_at}
@@ -19,20 +17,18 @@ use Rattle.rtl_net.specs.declared.node.NetReset.TheVariants as resets
 use Rattle.rtl_net.specs.declared.node.Seat.{Seat}
 use Rattle.rtl_net.specs.declared.node.Taken.{Taken}
 use Rattle.rtl_net.specs.declared.node.Taken.TheVariants as takes
-use Rattle.rtl_net.proofs.Places.{item_at, slice_get-within}
+use Rattle.rtl_net.proofs.Places.{item_at}
 use Rattle.rtl_net.proofs.Values.{expr_value-same}
 use Rattle.rtl_net.proofs.Pins.{each_seat_pin, register_at_pin, values_of_same}
 use Rattle.rtl_net.proofs.OneRun.{operands_have, reset_has, none_waits, same_refl}
-use Rattle.v_design.specs.Expr.{value_of}
 use Rattle.v_design.specs.Tree.{Statement, Assign, Plain, Whole}
-use Rattle.v_design.specs.Design.{Step, step_of, expr_of, module_of}
-use Rattle.v_design.specs.Design as design
-use Rattle.v_design.specs.Run.{Edge, Run, IsSettled, Moves, step_value, next_value, under_reset}
-use Rattle.v_printer.specs.Module.{numbered, wire_name, name_if, node_name, term_of, wire_stmt, shown_stmt, output_stmt, block, driven_stmt, register_stmt, stmts, tree_of}
+use Rattle.v_design.specs.Design.{step_of, module_of}
+use Rattle.v_design.specs.Run.{Edge, Run, step_value, next_value, under_reset}
+use Rattle.v_printer.specs.Module.{numbered, wire_name, name_if, node_name, term_of, wire_stmt, shown_stmt, output_stmt, block, register_stmt, stmts, tree_of}
 use Rattle.v_printer.specs.TextOf.{IsWhole}
-use Rattle.v_printer.proofs.Entries.{Entry, Port, Kept_by, Wire_of, entries, entry_name, look}
+use Rattle.v_printer.proofs.Entries.{Entry, Port, Kept_by, Wire_of, entries, look}
 use Rattle.v_printer.proofs.Places.{all_append, all_one, all_map, all_at, numbered_all, place_map}
-use Rattle.v_printer.proofs.Nodes.{node_entry, seat_placed, node_placed, found, found_at, named_at, ws, wide}
+use Rattle.v_printer.proofs.Nodes.{node_entry, seat_placed, found, found_at, ws, wide}
 use Rattle.v_printer.proofs.Terms.{value_is}
 use Rattle.v_printer.proofs.Driven.{wire_stated, output_stated, block_stated, inputs_are, outputs_are}
 

@@ -1,12 +1,12 @@
 -- Each statement of a printed module is sound.
 use Rattle.std.specs.Bool.{beq}
-use Rattle.std.specs.List.{AllByRecursion, list_all, list_any}
+use Rattle.std.specs.List.{AllByRecursion, list_all}
 use Rattle.std.specs.Str.{bytes_eq}
-use Rattle.std.proofs.Common.{zero, suc, ◌≡◌, ℕ, ◌+◌, ◌<◌, ◌≤◌, ◌^◌, ◌==◌, Bool, true, false, not, ◌&&◌, ◌||◌, List, [], ◌∷◌, ◌++◌, codes, map, length, slice_get, Option, Some, None, refl, ap, sym, ◌∙◌, subst, arith}
+use Rattle.std.proofs.Common.{◌≡◌, ℕ, ◌+◌, ◌<◌, ◌≤◌, ◌^◌, ◌==◌, Bool, true, false, not, ◌&&◌, List, [], ◌∷◌, length, slice_get, Option, Some, None, refl, ap, sym, ◌∙◌, subst, arith}
 use Rattle.rtl_net.specs.Names.{clock}
 use Rattle.rtl_net.specs.Value.{operands, expr_width}
-use Rattle.rtl_net.specs.Net.{Net, width_in, widths, Has, IsInput, Stands, CanWire, CanReset, undriven}
-use Rattle.rtl_net.specs.Made.{IsMade, IsPinBelow}
+use Rattle.rtl_net.specs.Net.{Net, width_in, widths, Has, IsInput, Stands, CanWire}
+use Rattle.rtl_net.specs.Made.{IsMade}
 use Rattle.rtl_net.specs.declared.node.Id.{Id}
 use Rattle.rtl_net.specs.declared.node.NetExpr.{NetExpr}
 use Rattle.rtl_net.specs.declared.node.NetNode.{NetNode}
@@ -19,17 +19,17 @@ use Rattle.rtl_net.specs.declared.node.Taken.TheVariants as takes
 use Rattle.rtl_net.proofs.Places.{slice_get-within}
 use Rattle.rtl_net.proofs.Widths.{width_at, width_most}
 use Rattle.rtl_net.proofs.OneRun.{operands_have, reset_has}
-use Rattle.v_design.specs.Lexemes.{Name, among}
+use Rattle.v_design.specs.Lexemes.{among}
 use Rattle.v_design.specs.Expr.{nets_of, width_of, is_sized}
 use Rattle.v_design.specs.Tree.{Statement, Assign, Clocked, Resettable, Plain, Whole}
 use Rattle.v_design.specs.Design.{expr_of}
-use Rattle.v_design.specs.WellFormed.{Kind, Given, Wired, Kept, port_kind, same_kind, has, is_pin, is_clock, is_reset, names, nets, used, all_among, drives_well, drives_its_kind, reads_no_clock, fits_well, RisesAlong}
+use Rattle.v_design.specs.WellFormed.{Wired, Kept, port_kind, same_kind, has, is_pin, is_clock, is_reset, names, nets, used, all_among, drives_well, fits_well, RisesAlong}
 use Rattle.v_design.proofs.TreeText.{stmt_cells}
-use Rattle.v_printer.specs.Module.{numbered, wire_name, node_name, side_of, term_of, wire_stmt, shown_stmt, output_stmt, block, driven_stmt, register_stmt, stmts, tree_of}
+use Rattle.v_printer.specs.Module.{numbered, wire_name, node_name, side_of, term_of, wire_stmt, shown_stmt, output_stmt, block, register_stmt, stmts, tree_of}
 use Rattle.v_printer.proofs.Choices.{same_number}
-use Rattle.v_printer.proofs.Entries.{Entry, Port, Kept_by, Wire_of, entry_name, entry_width, entry_kind}
+use Rattle.v_printer.proofs.Entries.{Entry, Port, Kept_by, Wire_of}
 use Rattle.v_printer.proofs.Places.{all_append, all_one, all_map, list_all_of, numbered_all, same_bytes}
-use Rattle.v_printer.proofs.Nodes.{seat_rank, seat_placed, node_placed, known, known_node, is_kind, pin_of, named_at, ws, wide, wide_entry, rank, rank_found, rank_most, seat_word, register_word, word_at, word_of_node, not_clock, known_at}
+use Rattle.v_printer.proofs.Nodes.{seat_rank, seat_placed, node_placed, known, known_node, is_kind, pin_of, named_at, ws, wide, wide_entry, rank, rank_found, rank_most, seat_word, register_word, word_of_node, not_clock}
 use Rattle.v_printer.proofs.Terms.{nets_are_operands, width_is, sized_is}
 use Rattle.v_printer.proofs.Words.{wire_word}
 use Rattle.v_printer.proofs.Printable.{PrintsLine, expr_prints, assign_line, shown_line, clocked_line, resettable_line, const_fits}

@@ -1,6 +1,5 @@
 -- Printed expressions: the nets that they read, their widths, and their values.
-use Rattle.std.specs.List.{AllByRecursion}
-use Rattle.std.proofs.Common.{◌≡◌, ℕ, ◌+◌, ◌*◌, ◌-◌, ◌/◌, ◌%◌, ◌^◌, ◌<◌, ◌≤◌, ◌==◌, Bool, true, false, ◌&&◌, if◌then◌else◌, nat_le, nat_lt, List, [], ◌∷◌, ◌++◌, map, bit_and, refl, ap, sym, ◌∙◌, subst, arith}
+use Rattle.std.proofs.Common.{◌≡◌, ℕ, ◌+◌, ◌*◌, ◌-◌, ◌%◌, ◌^◌, ◌<◌, ◌≤◌, ◌==◌, Bool, true, false, ◌&&◌, if◌then◌else◌, nat_le, nat_lt, List, [], ◌∷◌, map, refl, ap, sym, ◌∙◌, arith}
 use Rattle.std.proofs.lemmas.Bool.Decides.{nat_tests}
 use Rattle.std.proofs.lemmas.Map.Views.{exact_unsigned_eq}
 use Rattle.std.proofs.lemmas.Nat.{and_mask}
@@ -14,7 +13,7 @@ use Rattle.v_design.specs.Expr.{Expr, Widths, Values, nets_of, width_of, is_size
 use Rattle.v_design.specs.Tree.{Plain, Joined, Whole, Bit, Part, Sized}
 use Rattle.v_design.specs.declared.design.VTwo.TheVariants.{And}
 use Rattle.v_design.specs.Design.{expr_of}
-use Rattle.v_printer.specs.Module.{node_name, selected, term_of}
+use Rattle.v_printer.specs.Module.{node_name, term_of}
 use Rattle.v_printer.proofs.Choices.{same_number}
 
 less : (a b : ℕ) → a < b → nat_lt a b ≡ true

@@ -1,21 +1,20 @@
 -- The text of a netlist is a module of it.
-use Rattle.std.specs.List.{AllByRecursion, list_all}
-use Rattle.std.proofs.Common.{suc, ◌≡◌, ℕ, ◌<◌, ◌≤◌, ◌^◌, Bool, true, List, [], ◌∷◌, ◌++◌, codes, map, length, slice_get, Option, Some, refl, ap, sym, ◌∙◌, subst, arith}
-use Rattle.rb_grammar.specs.Printing.{cell_tokens, cells_text}
+use Rattle.std.specs.List.{AllByRecursion}
+use Rattle.std.proofs.Common.{suc, ◌≡◌, ℕ, ◌<◌, ◌^◌, true, List, [], ◌∷◌, ◌++◌, codes, map, length, slice_get, Some, refl, ap, ◌∙◌, subst, arith}
+use Rattle.rb_grammar.specs.Printing.{cells_text}
 use Rattle.rb_grammar.proofs.Laying.{printed}
 use Rattle.rtl_net.specs.Net.{Net}
 use Rattle.rtl_net.specs.Made.{IsMade}
-use Rattle.rtl_net.specs.declared.node.Id.{Id}
 use Rattle.rtl_net.specs.declared.node.NetNode.{NetNode}
 use Rattle.rtl_net.specs.declared.node.NetNode.TheVariants.{Input, Register, Wire}
 use Rattle.rtl_net.specs.declared.node.Seat.{Seat}
 use Rattle.rtl_net.proofs.Places.{slice_get-within}
-use Rattle.v_design.specs.Lexemes.{Name, Spells}
-use Rattle.v_design.specs.Tree.{Statement, IsTree, tokens_of}
+use Rattle.v_design.specs.Lexemes.{Spells}
+use Rattle.v_design.specs.Tree.{Statement, tokens_of}
 use Rattle.v_design.specs.WellFormed.{IsWellFormed, all_among, used, names, nets, drives_well, fits_well, RisesAlong}
-use Rattle.v_design.proofs.Printing.{printer, has_word}
+use Rattle.v_design.proofs.Printing.{printer}
 use Rattle.v_design.proofs.TreeText.{tree_cells, stmt_cells}
-use Rattle.v_printer.specs.Module.{numbered, port_of, ports, register_decl, wire_decl, decls, stmts, tree_of}
+use Rattle.v_printer.specs.Module.{numbered, port_of, register_decl, wire_decl, stmts, tree_of}
 use Rattle.v_printer.specs.Layout.{section_text, shown_text, text_of}
 use Rattle.v_printer.specs.TextOf.{IsWhole, IsTextOf}
 use Rattle.v_printer.specs.declared.section.Section.TheVariants.{Registers, Wires, Assignments, Blocks}

@@ -1,15 +1,15 @@
 -- The names of a printed module are words of its grammar.
-use Rattle.std.specs.List.{AllByRecursion, list_all}
+use Rattle.std.specs.List.{list_all}
 use Rattle.std.specs.Fmt.{decimal}
 use Rattle.std.specs.Char.{digit_value}
 use Rattle.std.specs.Str.Parse.{AllDigits}
-use Rattle.std.proofs.Common.{◌≡◌, ℕ, ◌<◌, ◌^◌, Bool, true, false, not, ◌&&◌, List, [], ◌∷◌, ◌++◌, codes, slice_get, Option, Some, None, refl, ap, sym, ◌∙◌, arith}
+use Rattle.std.proofs.Common.{◌≡◌, ℕ, ◌<◌, ◌^◌, true, List, [], ◌∷◌, refl, arith}
 use Rattle.std.proofs.lemmas.Bool.{and_parts}
 use Rattle.std.proofs.lemmas.Bool.Decides.{nat_tests}
 use Rattle.std.proofs.lemmas.Fmt.{decimal_is_IsNumeral}
 use Rattle.rtl_net.specs.Names as names
 use Rattle.rtl_net.specs.Names.{is_identifier, is_net_name}
-use Rattle.v_design.specs.Lexemes.{Name, is_name_start, is_name_byte, is_name, among, reserved_words}
+use Rattle.v_design.specs.Lexemes.{Name, is_name_start, is_name_byte, is_name}
 use Rattle.v_design.proofs.Printing.{has_word}
 use Rattle.v_printer.specs.Module.{wire_name}
 

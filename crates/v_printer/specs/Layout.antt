@@ -1,6 +1,6 @@
 -- The layout of a module's text: each declaration and each statement in lines of its own.
 use Rattle.std.specs.Fmt.{digits}
-use Rattle.std.specs.Prelude.{ℕ, ◌+◌, ◌==◌, if◌then◌else◌, Bool, true, false, Option, Some, None, List, [], ◌∷◌, ◌++◌, codes, decimal}
+use Rattle.std.specs.Prelude.{ℕ, ◌+◌, ◌==◌, if◌then◌else◌, Bool, true, false, List, [], ◌∷◌, ◌++◌, codes, decimal}
 use Rattle.v_design.specs.Tree.{Term, Operand, Operands, Statement, Assign, Clocked, Resettable, Plain, Prefixed, Joined, Chosen, Whole, Bit, Part, Sized, Braced, Grouped, no_more, and_also, one_word, two_word, decl_word, edge_word}
 use Rattle.v_design.specs.declared.design.Decl.{Decl}
 use Rattle.rtl_net.specs.Net.{Net}

@@ -1,6 +1,5 @@
 -- The module that a netlist is printed as.
-use Rattle.std.specs.List.{flat_map}
-use Rattle.std.specs.Prelude.{ℕ, ◌+◌, ◌==◌, Bool, true, false, if◌then◌else◌, Option, Some, None, List, [], ◌∷◌, ◌++◌, map, slice_get, codes, decimal}
+use Rattle.std.specs.Prelude.{ℕ, ◌+◌, ◌==◌, true, false, if◌then◌else◌, Option, Some, None, List, [], ◌∷◌, ◌++◌, map, slice_get, codes, decimal}
 use Rattle.rb_base.specs.declared.ports.Dir.{Dir}
 use Rattle.rb_base.specs.declared.ports.Dir.TheVariants.{In, Out}
 use Rattle.rb_base.specs.declared.ports.Port.{Port}

@@ -1,5 +1,4 @@
-use Rattle.std.proofs.Common.{◌≡◌, slice_get, Some, length, ap, ◌∙◌, arith}
-use Rattle.rtl_net.specs.declared.node.NetNode.{NetNode}
+use Rattle.std.proofs.Common.{◌≡◌, slice_get, Some, length, ap, arith}
 use Rattle.rtl_net.proofs.Places.{read_at}
 use Rattle.v_printer.specs.Layout.{line_text}
 use Rattle.v_printer.proofs.Writing.{and_then, stopped, nothing, of_bytes}

@@ -1,4 +1,4 @@
-use Rattle.std.proofs.Common.{ℕ, take, Ok}
+use Rattle.std.proofs.Common.{take, Ok}
 use Rattle.rb_edge.specs.declared.sink.Failed.{Failed}
 use Rattle.v_printer.specs.Module.{numbered}
 use Rattle.v_printer.specs.Layout.{line_text}

@@ -1,7 +1,6 @@
-use Rattle.std.proofs.Common.{◌≡◌, ◌<◌, slice_get, Some, length, ap, ◌∙◌, refl, arith}
+use Rattle.std.proofs.Common.{◌≡◌, slice_get, Some, length, ap, ◌∙◌, arith}
 use Rattle.rtl_net.proofs.Places.{read_at}
-use Rattle.v_printer.specs.Module.{ports}
-use Rattle.v_printer.specs.Layout.{port_line, shown_text}
+use Rattle.v_printer.specs.Layout.{port_line}
 use Rattle.v_printer.proofs.Writing.{and_then, stopped, nothing, of_bytes}
 use Rattle.v_printer.proofs.Sections.{port_lines, more_lines, lines_left, all_lines, last_lines}
 use Rattle.v_printer.proofs.module.put_ports.Goals as goal

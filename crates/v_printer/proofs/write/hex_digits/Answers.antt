@@ -1,4 +1,4 @@
-use Rattle.std.proofs.Common.{◌≡◌, ◌+◌, ◌-◌, ◌<◌, ◌≤◌, ◌^◌, length, ◌∙◌, arith, length-set}
+use Rattle.std.proofs.Common.{◌-◌, ◌≤◌, ◌∙◌, arith, length-set}
 use Rattle.v_printer.proofs.Hexadecimal.{hex_start, enough, less_left, hex_step, hex_last}
 use Rattle.v_printer.proofs.write.hex_digits.Goals as goal
 

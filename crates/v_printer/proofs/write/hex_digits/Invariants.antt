@@ -1,4 +1,4 @@
-use Rattle.std.proofs.Common.{◌≡◌, ℕ, ◌+◌, ◌<◌, ◌≤◌, ◌^◌, drop, false, length}
+use Rattle.std.proofs.Common.{◌≡◌, ◌+◌, ◌<◌, ◌≤◌, ◌^◌, drop, false, length}
 use Rattle.std.specs.Fmt.{digits, digits_onto}
 use Rattle.v_printer.proofs.write.hex_digits.Given as goal
 
