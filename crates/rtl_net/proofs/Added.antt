@@ -1,18 +1,17 @@
 -- One node more at the end.
-use Rattle.std.specs.List.{slice_get, list_any}
-use Rattle.std.proofs.Common.{suc, ℕ, ◌+◌, ◌≡◌, ◌<◌, ◌≤◌, ◌^◌, Bool, true, false, ◌||◌, List, [], ◌∷◌, ◌++◌, length, get_or, Option, Some, None, inl, inr, refl, ap, sym, ◌∙◌, subst, arith, length-append, append-nil}
+use Rattle.std.specs.List.{list_any}
+use Rattle.std.proofs.Common.{ℕ, ◌+◌, ◌≡◌, ◌<◌, ◌^◌, Bool, true, false, ◌||◌, List, [], ◌∷◌, ◌++◌, length, get_or, refl, ap, sym, ◌∙◌, subst, arith, length-append, append-nil}
 use Rattle.std.proofs.lemmas.List.Sums.{sum_by-append}
 use Rattle.std.proofs.lemmas.List.Folds.{list_any-append}
 use Rattle.std.proofs.lemmas.Grind.{common_steps}
-use Rattle.rtl_net.specs.Value.{At, widths_after, node_width, node_value}
-use Rattle.rtl_net.specs.Net.{Net, IsEdge, Settles, Stands, Has, IsInput, IsWire, HasClock, is_clock, Extends, Keeps, Grows, Awaits, IsNode, CanWire, widths, width_in, registers_of, undriven, awaits_next}
+use Rattle.rtl_net.specs.Value.{At, node_width, node_value}
+use Rattle.rtl_net.specs.Net.{Net, Settles, Stands, is_clock, Extends, Keeps, Grows, IsNode, CanWire, widths, width_in, registers_of, undriven}
 use Rattle.rtl_net.specs.Made.{IsMade, IsNodeMade}
 use Rattle.rtl_net.specs.declared.node.Id.{Id}
-use Rattle.rtl_net.specs.declared.node.NetReset.{NetReset}
 use Rattle.rtl_net.specs.declared.node.NetExpr.{NetExpr}
 use Rattle.rtl_net.specs.declared.node.NetNode.{NetNode}
 use Rattle.rtl_net.specs.declared.node.NetNode.TheVariants.{Input, Register, Wire}
-use Rattle.rtl_net.proofs.Places.{slice_get-front, slice_get-end, push_cases}
+use Rattle.rtl_net.proofs.Places.{slice_get-front, slice_get-end}
 use Rattle.rtl_net.proofs.NodeLists.{widths_after-push, length-widths}
 use Rattle.rtl_net.proofs.Nets.{expr_value-same}
 

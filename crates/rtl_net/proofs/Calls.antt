@@ -3,7 +3,7 @@ use Rattle.std.specs.List.{slice_get, list_any}
 use Rattle.std.specs.Str.{bytes_eq}
 use Rattle.std.specs.Bool.{OnTrue, OnFalse}
 use Rattle.std.proofs.Math.ListN.{set}
-use Rattle.std.proofs.Common.{ℕ, ◌+◌, ◌≡◌, ◌<◌, ◌≤◌, Bool, true, false, ◌||◌, if◌then◌else◌, List, [], ◌∷◌, ◌++◌, length, map, Option, Some, None, refl, ap, sym, ◌∙◌, subst, arith, append-nil, length-append}
+use Rattle.std.proofs.Common.{ℕ, ◌+◌, ◌≡◌, ◌<◌, ◌≤◌, true, false, ◌||◌, if◌then◌else◌, List, [], ◌∷◌, ◌++◌, length, map, Some, None, ap, sym, ◌∙◌, subst, arith, append-nil, length-append}
 use Rattle.std.proofs.lemmas.Bool.{OnTrue_from, OnFalse_from, or_right}
 use Rattle.std.proofs.lemmas.List.{map-append}
 use Rattle.std.proofs.lemmas.List.Folds.{list_any-append}
@@ -11,7 +11,7 @@ use Rattle.rb_base.specs.declared.ports.Pin.{Pin}
 use Rattle.rtl_net.specs.Names.{is_net_name, clock}
 use Rattle.rtl_net.specs.Value.{At, expr_width, expr_value, under}
 use Rattle.rtl_net.specs.Net.{Net, Settles, Extends, Keeps, Grows, IsNode, IsInput, IsWire, IsWidth, CanWire, CanReset, Stands, Has, HasClock, is_clock, Awaits, registers_of, undriven, width_in, widths}
-use Rattle.rtl_net.specs.Ports.{seat_names, register_names, has_room, seated, IsNew, IsFree}
+use Rattle.rtl_net.specs.Ports.{seated, IsNew, IsFree}
 use Rattle.rtl_net.specs.Made.{IsMade}
 use Rattle.rtl_net.specs.Shared.{LacksWire}
 use Rattle.rtl_net.specs.declared.node.Id.{Id}
@@ -20,13 +20,11 @@ use Rattle.rtl_net.specs.declared.node.NetNode.TheVariants.{Input, Register, Wir
 use Rattle.rtl_net.specs.declared.node.NetExpr.{NetExpr}
 use Rattle.rtl_net.specs.declared.node.NetReset.{NetReset}
 use Rattle.rtl_net.specs.declared.node.Seat.{Seat}
-use Rattle.rtl_net.specs.declared.node.Taken.{Taken}
 use Rattle.rtl_net.specs.declared.node.Taken.TheVariants as takes
 use Rattle.rtl_net.proofs.Places.{slice_get-end, one_item}
-use Rattle.rtl_net.proofs.NodeLists.{length-widths}
 use Rattle.rtl_net.proofs.Nets.{Extends-trans, Has-stands}
 use Rattle.rtl_net.proofs.Added.{pushed, pushed_extends, pushed_keeps, pushed_stands, pushed_wire, pushed_grows, registers_of-push, undriven-push, width-end}
-use Rattle.rtl_net.proofs.Seating.{KeepsTaken, KeepsTaken-push, KeepsTaken-seated, seats_extend, seated_has}
+use Rattle.rtl_net.proofs.Seating.{KeepsTaken-push, KeepsTaken-seated, seats_extend, seated_has}
 use Rattle.rtl_net.proofs.Widths.{width_most, width_at, clock_stands}
 use Rattle.rtl_net.proofs.Tying.{made_tied, tied_extends, tied_others, tied_after, registers_of-set, undriven-set}
 use Rattle.rtl_net.proofs.Making.{made_seat, made_output, made_input, made_register, made_wire, wire_width}

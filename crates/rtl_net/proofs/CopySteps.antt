@@ -1,18 +1,16 @@
 -- The steps of copying all nodes.
-use Rattle.std.specs.List.{slice_get, list_all, AllByRecursion}
-use Rattle.std.specs.Str.{bytes_eq}
-use Rattle.std.specs.Bool.{OnTrue, OnFalse}
-use Rattle.std.proofs.Common.{zero, suc, ℕ, ◌+◌, ◌≡◌, ◌<◌, ◌≤◌, Bool, true, false, if◌then◌else◌, List, [], ◌∷◌, ◌++◌, length, map, take, get_or, Option, Some, None, MatchOption, is_none, inl, inr, refl, ap, sym, ◌∙◌, subst, arith, append_assoc, append-nil, length-append, length-take}
-use Rattle.std.proofs.lemmas.Bool.{cases_lt, true≢false, OnTrue_at}
+use Rattle.std.specs.List.{slice_get, AllByRecursion}
+use Rattle.std.proofs.Common.{suc, ℕ, ◌+◌, ◌≡◌, ◌<◌, ◌≤◌, if◌then◌else◌, List, [], ◌∷◌, ◌++◌, length, map, take, Option, Some, None, MatchOption, is_none, inl, inr, refl, ap, sym, ◌∙◌, subst, arith, append_assoc, append-nil, length-append, length-take}
+use Rattle.std.proofs.lemmas.Bool.{cases_lt, OnTrue_at}
 use Rattle.std.proofs.lemmas.List.{take_more, map-append}
 use Rattle.std.proofs.lemmas.Option.{get_or_from_slice_get}
 use Rattle.rtl_net.specs.Names.{clock, is_net_name}
 use Rattle.rtl_net.specs.Value.{operands}
-use Rattle.rtl_net.specs.Net.{Net, Has, Stands, IsInput, Extends, Keeps, CanReset, HasClock, width_in, registers_of, undriven}
-use Rattle.rtl_net.specs.Ports.{seat_names, register_names, seated, IsNew, IsFree}
-use Rattle.rtl_net.specs.Made.{IsMade, IsNodeMade, IsPinBelow}
-use Rattle.rtl_net.specs.Graft.{at, replacement, with_inputs, CanGive, CanGraft, IsJoinable}
-use Rattle.rtl_net.specs.Copy.{renamed_reset, CanInput, CanRegister, CanCopy, Joins, IsCopied, IsCopy, CopiesFirst, CanCopyRest}
+use Rattle.rtl_net.specs.Net.{Net, Has, Stands, Extends, Keeps, CanReset, width_in, registers_of, undriven}
+use Rattle.rtl_net.specs.Ports.{seat_names, register_names, seated}
+use Rattle.rtl_net.specs.Made.{IsMade, IsPinBelow}
+use Rattle.rtl_net.specs.Graft.{at, replacement, with_inputs, CanGive, CanGraft}
+use Rattle.rtl_net.specs.Copy.{renamed_reset, CanInput, CanCopy, Joins, IsCopied, IsCopy, CopiesFirst, CanCopyRest}
 use Rattle.rtl_net.specs.declared.node.Given.{Given}
 use Rattle.rtl_net.specs.declared.node.Id.{Id}
 use Rattle.rtl_net.specs.declared.node.NetNode.{NetNode}
@@ -25,7 +23,7 @@ use Rattle.rtl_net.specs.declared.node.Taken.TheVariants as takes
 use Rattle.rtl_net.proofs.Places.{slice_get-within, item_at}
 use Rattle.rtl_net.proofs.Added.{registers_of-push}
 use Rattle.rtl_net.proofs.Renaming.{at-front, at-end, CanWire-renamed}
-use Rattle.rtl_net.proofs.Distinct.{Differ, Differ-sym, name_at, register_at, inputs_differ, input_output_differ, register_seat_differ, registers_differ}
+use Rattle.rtl_net.proofs.Distinct.{Differ-sym, name_at, register_at, inputs_differ, input_output_differ, register_seat_differ, registers_differ}
 use Rattle.rtl_net.proofs.Others.{IsNew-seated, IsFree-seated, IsJoinable-seated, IsNew-pushed, IsFree-pushed, IsJoinable-pushed, IsNew-same, IsFree-same, IsJoinable-same}
 use Rattle.rtl_net.proofs.Copying.{operands_stand, both_all, list_all_at, names_below, stands_copy, IsCopy-front, next_input, next_register, next_wire}
 

@@ -1,19 +1,16 @@
 -- One node more is copied.
 use Rattle.std.specs.List.{slice_get, list_all, AllByRecursion}
 use Rattle.std.specs.Str.{bytes_eq}
-use Rattle.std.specs.Bool.{OnTrue, OnFalse}
-use Rattle.std.proofs.Common.{zero, suc, ℕ, ◌+◌, ◌≡◌, ◌<◌, ◌≤◌, ◌==◌, Bool, true, false, if◌then◌else◌, List, [], ◌∷◌, ◌++◌, length, map, take, get_or, Option, Some, None, MatchOption, is_none, inl, inr, refl, ap, sym, ◌∙◌, subst, arith, append_assoc, append-nil, length-append}
-use Rattle.std.proofs.lemmas.Bool.{cases_Bool, and_parts, eqb-true, eqb-false, false_from_ne_true, true≢false, OnTrue_at, OnFalse_at, OnTrue_from, OnFalse_from}
-use Rattle.std.proofs.lemmas.List.{take_more, map-append}
-use Rattle.std.proofs.lemmas.Option.{get_or_from_slice_get}
+use Rattle.std.specs.Bool.{OnFalse}
+use Rattle.std.proofs.Common.{zero, suc, ℕ, ◌≡◌, ◌<◌, ◌==◌, Bool, true, false, if◌then◌else◌, List, [], ◌∷◌, ◌++◌, length, Option, Some, None, MatchOption, is_none, inl, inr, refl, ap, sym, ◌∙◌, subst, arith}
+use Rattle.std.proofs.lemmas.Bool.{cases_Bool, and_parts, eqb-true, eqb-false, true≢false, OnTrue_at, OnFalse_at, OnTrue_from, OnFalse_from}
 use Rattle.std.proofs.lemmas.Slice.Eq.{bytes_eq-Decides}
-use Rattle.rtl_net.specs.Names.{clock, is_net_name}
+use Rattle.rtl_net.specs.Names.{clock}
 use Rattle.rtl_net.specs.Value.{At, expr_width, expr_value, operands, node_width, under}
-use Rattle.rtl_net.specs.Net.{Net, Settles, Has, Stands, IsInput, IsNode, IsWidth, Extends, Keeps, Awaits, CanWire, CanReset, HasClock, widths, width_in, registers_of, undriven}
-use Rattle.rtl_net.specs.Ports.{seat_names, register_names, seated, IsNew, IsFree}
+use Rattle.rtl_net.specs.Net.{Net, Has, Stands, IsInput, IsNode, Extends, Keeps, Awaits, CanWire, widths, width_in}
 use Rattle.rtl_net.specs.Made.{IsMade, IsNodeMade, IsPinBelow}
-use Rattle.rtl_net.specs.Graft.{at, replacement, names_input, given_value, with_inputs, CanGive, CanGraft, IsJoinable}
-use Rattle.rtl_net.specs.Copy.{renamed, renamed_reset, NamesBelow, CanInput, CanRegister, CanCopy, Joins, Registers, Wires, IsCopied, CopiesInput, CopiesRegister, IsCopy, CopiesFirst, CanCopyRest}
+use Rattle.rtl_net.specs.Graft.{at, replacement, names_input, given_value, CanGive}
+use Rattle.rtl_net.specs.Copy.{renamed, renamed_reset, NamesBelow, Joins, Registers, Wires, CopiesInput, CopiesRegister, IsCopy}
 use Rattle.rtl_net.specs.declared.node.Given.{Given}
 use Rattle.rtl_net.specs.declared.node.Id.{Id}
 use Rattle.rtl_net.specs.declared.node.NetNode.{NetNode}
@@ -21,17 +18,12 @@ use Rattle.rtl_net.specs.declared.node.NetNode.TheVariants as nodes
 use Rattle.rtl_net.specs.declared.node.NetExpr.{NetExpr}
 use Rattle.rtl_net.specs.declared.node.NetExpr.TheVariants as exprs
 use Rattle.rtl_net.specs.declared.node.NetReset.{NetReset}
-use Rattle.rtl_net.specs.declared.node.NetReset.TheVariants as resets
-use Rattle.rtl_net.specs.declared.node.Seat.{Seat}
-use Rattle.rtl_net.specs.declared.node.Taken.{Taken}
-use Rattle.rtl_net.specs.declared.node.Taken.TheVariants as takes
-use Rattle.rtl_net.proofs.Places.{slice_get-within, one_item}
+use Rattle.rtl_net.proofs.Places.{one_item}
 use Rattle.rtl_net.proofs.Nets.{Stands-extends, IsNode-extends, IsNode-is}
-use Rattle.rtl_net.proofs.Widths.{width_at, clock_stands}
+use Rattle.rtl_net.proofs.Widths.{width_at}
 use Rattle.rtl_net.proofs.Values.{expr_value-same}
-use Rattle.rtl_net.proofs.Renaming.{at-front, at-end, renamed_reset-front, operands_agree, CanWire-renamed, expr_width-renamed, expr_value-renamed}
-use Rattle.rtl_net.proofs.Distinct.{Differ, Differ-sym, name_at, register_at, inputs_differ, input_output_differ, register_seat_differ, registers_differ}
-use Rattle.rtl_net.proofs.Others.{IsNew-seated, IsFree-seated, IsJoinable-seated, IsNew-pushed, IsFree-pushed, IsJoinable-pushed, IsNew-same, IsFree-same, IsJoinable-same}
+use Rattle.rtl_net.proofs.Renaming.{at-front, at-end, renamed_reset-front, operands_agree, expr_width-renamed, expr_value-renamed}
+use Rattle.rtl_net.proofs.Distinct.{inputs_differ}
 
 -- the operands of an expression that can be wired stand
 pub operands_stand : (net : Net) (e : NetExpr) → CanWire net e → AllByRecursion (Has net) (operands e)

@@ -1,21 +1,19 @@
 -- The steps of driving the copies of registers.
 use Rattle.std.specs.List.{slice_get}
-use Rattle.std.specs.Str.{bytes_eq}
-use Rattle.std.proofs.Common.{zero, suc, ℕ, ◌+◌, ◌≡◌, ◌<◌, ◌≤◌, List, [], ◌∷◌, ◌++◌, length, take, Option, Some, None, inl, inr, refl, ap, sym, ◌∙◌, subst, arith, length-append}
+use Rattle.std.proofs.Common.{ℕ, ◌+◌, ◌≡◌, ◌<◌, List, [], ◌∷◌, length, take, Option, Some, None, inl, inr, refl, ap, sym, ◌∙◌, subst, arith, length-append}
 use Rattle.std.proofs.lemmas.Bool.{cases_lt}
-use Rattle.rtl_net.specs.Names.{Lacks}
 use Rattle.rtl_net.specs.Value.{under}
-use Rattle.rtl_net.specs.Net.{Net, Has, Stands, Extends, Awaits, CanDrive, width_in, registers_of, undriven}
+use Rattle.rtl_net.specs.Net.{Net, Stands, Awaits, CanDrive, registers_of, undriven}
 use Rattle.rtl_net.specs.Ports.{register_names}
-use Rattle.rtl_net.specs.Made.{IsMade, IsNodeMade}
+use Rattle.rtl_net.specs.Made.{IsMade}
 use Rattle.rtl_net.specs.Graft.{at}
 use Rattle.rtl_net.specs.Copy.{renamed_reset}
-use Rattle.rtl_net.specs.Driving.{next_of, HasCopies, AwaitsFrom, Drives, DrivesFirst, DrivesSoFar}
+use Rattle.rtl_net.specs.Driving.{next_of, HasCopies, AwaitsFrom, Drives, DrivesSoFar}
 use Rattle.rtl_net.specs.declared.node.Id.{Id}
 use Rattle.rtl_net.specs.declared.node.NetNode.{NetNode}
 use Rattle.rtl_net.specs.declared.node.NetNode.TheVariants.{Input, Register, Wire}
 use Rattle.rtl_net.specs.declared.node.NetReset.{NetReset}
-use Rattle.rtl_net.proofs.Places.{slice_get-within, one_item}
+use Rattle.rtl_net.proofs.Places.{one_item}
 use Rattle.rtl_net.proofs.Nets.{Extends-refl, Extends-trans, Stands-has, Stands-extends}
 use Rattle.rtl_net.proofs.Added.{registers_of-push, undriven-push}
 use Rattle.rtl_net.proofs.Calls.{one_waiting}

@@ -1,6 +1,6 @@
 -- Expressions as keys.
 use Rattle.std.specs.Map.{lookup}
-use Rattle.std.proofs.Common.{◌≡◌, ℕ, zero, suc, ◌+◌, ◌<◌, Bool, true, false, cond, List, [], ◌∷◌, ◌++◌, length, get_or, slice_get, Option, Some, None, Contains, IfNone, inl, inr, ◌⊎◌, refl, ap, sym, ◌∙◌, rules, arith, Decides, if◌then◌else◌}
+use Rattle.std.proofs.Common.{◌≡◌, ℕ, zero, suc, ◌<◌, Bool, true, false, cond, List, [], ◌∷◌, ◌++◌, length, get_or, Option, Some, None, Contains, IfNone, inl, inr, ◌⊎◌, refl, ap, sym, ◌∙◌, rules, arith, Decides, if◌then◌else◌}
 use Rattle.indexmap.specs.IndexMap.{insert_entry}
 use Rattle.rtl_net.specs.declared.node.Id.{Id}
 use Rattle.rtl_net.specs.declared.node.NetExpr.{NetExpr}

@@ -1,14 +1,14 @@
 -- A netlist copied, its registers driven and its outputs shown.
-use Rattle.std.specs.List.{slice_get, AllByRecursion}
+use Rattle.std.specs.List.{slice_get}
 use Rattle.std.specs.Str.{bytes_eq}
-use Rattle.std.proofs.Common.{zero, suc, ℕ, ◌+◌, ◌≡◌, ◌<◌, ◌≤◌, ◌^◌, Bool, true, false, List, [], ◌∷◌, ◌++◌, length, map, take, Option, Some, None, is_none, inl, inr, refl, ap, sym, ◌∙◌, subst, arith, take_all}
+use Rattle.std.proofs.Common.{suc, ℕ, ◌+◌, ◌≡◌, List, [], ◌∷◌, ◌++◌, length, map, Option, Some, None, is_none, refl, ap, ◌∙◌, arith, take_all}
 use Rattle.std.proofs.lemmas.Bool.{or_from, OnTrue_at}
 use Rattle.rtl_net.specs.Names.{Lacks}
 use Rattle.rtl_net.specs.Value.{At, under, node_value}
-use Rattle.rtl_net.specs.Net.{Net, Settles, IsEdge, Extends, Keeps, Has, Stands, IsInput, Awaits, width_in, widths, registers_of, undriven}
-use Rattle.rtl_net.specs.Ports.{register_names, IsFree}
+use Rattle.rtl_net.specs.Net.{Net, Settles, Keeps, Has, Stands, IsInput, Awaits, width_in, widths, registers_of, undriven}
+use Rattle.rtl_net.specs.Ports.{register_names}
 use Rattle.rtl_net.specs.Made.{IsMade}
-use Rattle.rtl_net.specs.Graft.{at, replacement, through, with_inputs, with_outputs, CanGive, CanGraft}
+use Rattle.rtl_net.specs.Graft.{at, replacement, through, with_inputs, with_outputs, CanGraft}
 use Rattle.rtl_net.specs.Copy.{renamed_reset, IsCopy, CopiesFirst, CanCopyRest}
 use Rattle.rtl_net.specs.Driving.{HasCopies, AwaitsFrom, DrivesFirst, FreeFrom, ShowsFirst}
 use Rattle.rtl_net.specs.declared.node.Given.{Given}
@@ -17,10 +17,8 @@ use Rattle.rtl_net.specs.declared.node.NetNode.{NetNode}
 use Rattle.rtl_net.specs.declared.node.NetNode.TheVariants.{Input, Register, Wire}
 use Rattle.rtl_net.specs.declared.node.NetReset.{NetReset}
 use Rattle.rtl_net.specs.declared.node.NetReset.TheVariants as resets
-use Rattle.rtl_net.specs.declared.node.Seat.{Seat}
-use Rattle.rtl_net.specs.declared.node.Taken.TheVariants as takes
 use Rattle.rtl_net.proofs.Places.{slice_get-within}
-use Rattle.rtl_net.proofs.Nets.{Extends-trans, Stands-extends, fits_at}
+use Rattle.rtl_net.proofs.Nets.{Stands-extends, fits_at}
 use Rattle.rtl_net.proofs.Distinct.{Differ, Differ-sym, lacks_at, register_at}
 use Rattle.rtl_net.proofs.Others.{IsFree-same}
 use Rattle.rtl_net.proofs.CopySteps.{copies_stand}

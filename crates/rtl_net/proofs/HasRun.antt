@@ -1,7 +1,7 @@
 -- A netlist has a run from any contents over any vectors that fit its inputs.
 use Rattle.std.specs.List.{slice_get, AllByRecursion, IsDistinct}
 use Rattle.std.specs.Str.{bytes_eq}
-use Rattle.std.proofs.Common.{zero, suc, ℕ, ◌+◌, ◌≡◌, ◌<◌, ◌≤◌, ◌==◌, Bool, true, false, if◌then◌else◌, List, [], ◌∷◌, map, filter, length, Option, Some, None, refl, ap, sym, ◌∙◌, subst, arith}
+use Rattle.std.proofs.Common.{zero, suc, ℕ, ◌≡◌, ◌<◌, Bool, true, false, if◌then◌else◌, List, [], ◌∷◌, map, filter, length, Option, Some, None, refl, ap, sym, ◌∙◌, subst, arith}
 use Rattle.std.proofs.lemmas.Slice.Eq.{bytes_eq-Decides}
 use Rattle.rb_base.specs.declared.ports.Pin.{Pin}
 use Rattle.rtl_net.specs.Value.{At, Values, node_value, under, operands}
@@ -19,8 +19,7 @@ use Rattle.rtl_net.specs.declared.node.Taken.{Taken}
 use Rattle.rtl_net.specs.declared.node.Taken.TheVariants as takes
 use Rattle.rtl_net.proofs.Places.{slice_get-within}
 use Rattle.rtl_net.proofs.Values.{expr_value-same}
-use Rattle.rtl_net.proofs.Distinct.{name_at}
-use Rattle.rtl_net.proofs.Pins.{each_one, each_two, values_of_same}
+use Rattle.rtl_net.proofs.Pins.{each_one, values_of_same}
 use Rattle.rtl_net.proofs.OneRun.{under_same, reset_below, same_refl}
 
 if-true : (b : Bool) (x y : ℕ) → b ≡ true → (if b then x else y) ≡ x

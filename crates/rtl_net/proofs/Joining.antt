@@ -1,8 +1,8 @@
 -- An input that stands, or is added.
 use Rattle.std.specs.List.{slice_get, list_any}
 use Rattle.std.specs.Str.{bytes_eq}
-use Rattle.std.specs.Bool.{OnTrue, OnFalse}
-use Rattle.std.proofs.Common.{zero, suc, ℕ, ◌≡◌, ◌==◌, ◌<◌, Bool, true, false, ◌&&◌, ◌||◌, if◌then◌else◌, List, [], ◌∷◌, length, Option, Some, None, is_none, inl, inr, refl, ap, sym, ◌∙◌, subst}
+use Rattle.std.specs.Bool.{OnFalse}
+use Rattle.std.proofs.Common.{zero, suc, ℕ, ◌≡◌, ◌==◌, ◌<◌, true, false, ◌&&◌, if◌then◌else◌, List, [], ◌∷◌, length, Option, Some, None, is_none, inl, inr, refl, ap, sym, ◌∙◌}
 use Rattle.std.proofs.lemmas.Bool.{cases_Bool, and_parts, and_from, or_left, or_right, eqb-true, eq-eqb, OnTrue_from, OnFalse_from, OnFalse_at}
 use Rattle.std.proofs.lemmas.Slice.Eq.{bytes_eq-Decides}
 use Rattle.rtl_net.specs.Names.{clock}
@@ -11,7 +11,7 @@ use Rattle.rtl_net.specs.Net.{Net, IsInput, IsNode, Stands, HasClock, is_clock, 
 use Rattle.rtl_net.specs.Ports.{has_room, seated, taken_in, IsFree}
 use Rattle.rtl_net.specs.Made.{IsMade}
 use Rattle.rtl_net.specs.Graft.{can_join, shows_none, IsJoinable}
-use Rattle.rtl_net.specs.Copy.{CanInput, Joins}
+use Rattle.rtl_net.specs.Copy.{Joins}
 use Rattle.rtl_net.specs.declared.node.Id.{Id}
 use Rattle.rtl_net.specs.declared.node.NetNode.{NetNode}
 use Rattle.rtl_net.specs.declared.node.NetNode.TheVariants as nodes

@@ -1,15 +1,14 @@
 -- A netlist stays well made.
-use Rattle.std.specs.List.{slice_get, list_any}
+use Rattle.std.specs.List.{slice_get}
 use Rattle.std.specs.Str.{bytes_eq}
 use Rattle.std.specs.Bool.{OnTrue}
-use Rattle.std.proofs.Math.ListN.{set}
 use Rattle.std.specs.List.{AllByRecursion, IsDistinct}
-use Rattle.std.proofs.Common.{ℕ, ◌+◌, ◌≡◌, ◌<◌, ◌≤◌, Bool, true, false, List, [], ◌∷◌, ◌++◌, length, map, Option, Some, None, inl, inr, refl, ap, sym, ◌∙◌, subst, arith, length-append, append-nil}
+use Rattle.std.proofs.Common.{ℕ, ◌≡◌, ◌<◌, ◌≤◌, Bool, true, false, List, [], ◌∷◌, ◌++◌, length, map, Option, Some, None, inl, inr, refl, ap, sym, ◌∙◌, subst, arith, append-nil}
 use Rattle.std.proofs.lemmas.List.{map-append}
-use Rattle.rtl_net.specs.Names.{Lacks, is_identifier, is_net_name, clock}
+use Rattle.rtl_net.specs.Names.{is_identifier, is_net_name, clock}
 use Rattle.rtl_net.specs.Value.{expr_width, operands}
-use Rattle.rtl_net.specs.Net.{Net, widths, width_in, IsInput, IsWire, Stands, Has, IsWidth, CanWire, CanReset, Extends, Awaits, registers_of}
-use Rattle.rtl_net.specs.Ports.{seat_names, register_names, has_room, seated, IsNew, IsFree}
+use Rattle.rtl_net.specs.Net.{Net, widths, width_in, IsInput, IsWire, Stands, IsWidth, CanWire, CanReset, Extends, registers_of}
+use Rattle.rtl_net.specs.Ports.{seat_names, register_names, seated, IsNew, IsFree}
 use Rattle.rtl_net.specs.Made.{IsMade, AreNames, IsNodeMade, IsPinBelow, CanNext, IsTakenBy}
 use Rattle.rtl_net.specs.Shared.{LacksWire, is_wire}
 use Rattle.rtl_net.specs.declared.node.Id.{Id}

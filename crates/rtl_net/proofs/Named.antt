@@ -1,7 +1,7 @@
 -- Whether a name was found.
 use Rattle.std.specs.List.{slice_get, list_any}
 use Rattle.std.specs.Str.{bytes_eq}
-use Rattle.std.proofs.Common.{zero, suc, ℕ, ◌≡◌, Bool, true, false, List, [], ◌∷◌, Option, Some, None, IfSome, IfNone, is_some, sym}
+use Rattle.std.proofs.Common.{zero, suc, ℕ, ◌≡◌, true, List, [], ◌∷◌, Option, Some, None, IfSome, IfNone, is_some, sym}
 use Rattle.std.proofs.lemmas.Bool.{or_left, or_right}
 use Rattle.std.proofs.lemmas.Slice.Eq.{bytes_eq-Decides}
 use Rattle.rtl_net.specs.Names.{Lacks}

@@ -1,7 +1,7 @@
 -- What composes: older nodes stand in a netlist that extends theirs.
-use Rattle.std.proofs.Common.{ℕ, ◌+◌, ◌≡◌, ◌<◌, ◌≤◌, ◌^◌, length, refl, ap, sym, ◌∙◌, subst, arith}
+use Rattle.std.proofs.Common.{ℕ, ◌≡◌, ◌<◌, ◌^◌, length, refl, sym, ◌∙◌, subst, arith}
 use Rattle.rtl_net.specs.Value.{At, expr_width, expr_value}
-use Rattle.rtl_net.specs.Net.{Net, Settles, Stands, Has, IsInput, Extends, Keeps, Grows, Awaits, IsNode, CanWire, CanReset, widths, width_in}
+use Rattle.rtl_net.specs.Net.{Net, Settles, Stands, Has, Extends, Keeps, Grows, IsNode, CanWire, CanReset, widths, width_in}
 use Rattle.rtl_net.specs.declared.node.Id.{Id}
 use Rattle.rtl_net.specs.declared.node.NetReset.{NetReset}
 use Rattle.rtl_net.specs.declared.node.NetReset.TheVariants as resets

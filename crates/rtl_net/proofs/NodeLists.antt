@@ -1,10 +1,8 @@
 -- Lists of nodes: their widths and their wires.
 use Rattle.std.specs.List.{slice_get}
 use Rattle.std.proofs.Math.ListN.{set}
-use Rattle.std.proofs.Common.{zero, suc, ℕ, ◌+◌, ◌-◌, ◌≡◌, ◌<◌, ◌≤◌, Bool, true, false, List, [], ◌∷◌, ◌++◌, length, get_or, Option, Some, None, Contains, IfSome, IfNone, refl, ap, sym, ◌∙◌, subst, arith, zero-add, length-append, append-nil}
-use Rattle.std.proofs.lemmas.Grind.{common_steps}
-use Rattle.std.proofs.lemmas.Option.{slice_get-get_or}
-use Rattle.rtl_net.specs.Value.{widths_after, node_width, expr_width}
+use Rattle.std.proofs.Common.{zero, suc, ℕ, ◌+◌, ◌≡◌, ◌<◌, false, List, [], ◌∷◌, ◌++◌, length, get_or, Option, Some, None, Contains, IfSome, IfNone, refl, ap, sym, ◌∙◌, subst, arith, zero-add, length-append, append-nil}
+use Rattle.rtl_net.specs.Value.{widths_after, node_width}
 use Rattle.rtl_net.specs.Shared.{wires_from, is_wire, LacksWire}
 use Rattle.rtl_net.specs.declared.node.Id.{Id}
 use Rattle.rtl_net.specs.declared.node.NetReset.{NetReset}

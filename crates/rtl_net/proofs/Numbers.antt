@@ -1,6 +1,5 @@
 -- Numbers and bits.
-use Rattle.std.proofs.Common.{zero, suc, ℕ, ◌+◌, ◌*◌, ◌-◌, ◌/◌, ◌%◌, ◌^◌, ◌≡◌, ◌<◌, ◌≤◌, ◌==◌, Bool, true, false, ◌&&◌, if◌then◌else◌, refl, ap, sym, ◌∙◌, subst, arith, bit_and, bit_or, bit_xor}
-use Rattle.std.specs.Prelude.{nat_lt, count_ones}
+use Rattle.std.proofs.Common.{zero, suc, ℕ, ◌+◌, ◌*◌, ◌-◌, ◌%◌, ◌^◌, ◌≡◌, ◌<◌, ◌≤◌, ◌==◌, Bool, true, false, ◌&&◌, if◌then◌else◌, refl, ap, ◌∙◌, subst, arith, bit_and, bit_or, bit_xor}
 use Rattle.std.proofs.Math.Nat.{mod-eq_of_lt, mod-add-mod}
 use Rattle.std.proofs.lemmas.Nat.{mod_below, and_mod, or_mod, xor_mod, pow_pos, pow-add}
 use Rattle.std.proofs.Math.Pow.{pow_mono}

@@ -1,14 +1,14 @@
 -- A netlist whose registers are driven has one run for given contents and vectors.
-use Rattle.std.specs.List.{slice_get, AllByRecursion, count_by}
+use Rattle.std.specs.List.{slice_get, AllByRecursion}
 use Rattle.std.specs.Str.{bytes_eq}
-use Rattle.std.proofs.Common.{zero, suc, ℕ, ◌+◌, ◌≡◌, ◌<◌, ◌≤◌, Bool, true, false, not, ◌&&◌, ◌==◌, if◌then◌else◌, List, [], ◌∷◌, length, get_or, Option, Some, None, inl, inr, refl, ap, sym, ◌∙◌, subst, arith}
+use Rattle.std.proofs.Common.{zero, suc, ℕ, ◌+◌, ◌≡◌, ◌<◌, Bool, true, false, not, ◌==◌, if◌then◌else◌, List, [], ◌∷◌, length, get_or, Option, Some, None, refl, ap, sym, ◌∙◌, subst, arith}
 use Rattle.std.proofs.lemmas.List.Sums.{sum_by-append}
 use Rattle.rb_base.specs.declared.ports.Pin.{Pin}
 use Rattle.rtl_net.specs.Names.{clock}
-use Rattle.rtl_net.specs.Value.{At, Values, node_value, node_width, under, operands, expr_value}
-use Rattle.rtl_net.specs.Net.{Net, IsEdge, widths, width_in, Has, IsInput, Stands, CanWire, CanReset, registers_of, awaits_next, undriven}
-use Rattle.rtl_net.specs.Made.{IsMade, IsNodeMade, IsPinBelow, CanNext}
-use Rattle.rtl_net.specs.Run.{by_output, is_data_input, is_output, seat_pin, inputs, outputs, registers, values_at, SameAt, NetEdge, NetRun}
+use Rattle.rtl_net.specs.Value.{At, Values, node_value, node_width, under, operands}
+use Rattle.rtl_net.specs.Net.{Net, IsEdge, widths, width_in, Has, IsInput, Stands, CanWire, CanReset, undriven}
+use Rattle.rtl_net.specs.Made.{IsMade, IsNodeMade, IsPinBelow}
+use Rattle.rtl_net.specs.Run.{by_output, is_data_input, is_output, inputs, outputs, registers, SameAt, NetRun}
 use Rattle.rtl_net.specs.declared.node.Id.{Id}
 use Rattle.rtl_net.specs.declared.node.NetNode.{NetNode}
 use Rattle.rtl_net.specs.declared.node.NetNode.TheVariants.{Input, Register, Wire}
@@ -22,7 +22,7 @@ use Rattle.rtl_net.specs.declared.node.Taken.TheVariants as takes
 use Rattle.rtl_net.proofs.Places.{item_at, slice_get-within}
 use Rattle.rtl_net.proofs.Widths.{width_at, input_width}
 use Rattle.rtl_net.proofs.Values.{expr_value-same}
-use Rattle.rtl_net.proofs.Pins.{each_one, each_two, seat_at_pin, each_seat_pin, register_at_pin, each_register_pin, same_of_values, values_of_same}
+use Rattle.rtl_net.proofs.Pins.{each_two, seat_at_pin, each_seat_pin, register_at_pin, each_register_pin, same_of_values, values_of_same}
 
 -- what holds of each number where it holds of all smaller ones
 pub each_number : (P : ℕ → Type 0) → ((i : ℕ) → ((j : ℕ) → j < i → P j) → P i) → (k i : ℕ) → i < k → P i

@@ -1,11 +1,9 @@
 -- Pins of seats and registers, and lists of their values.
-use Rattle.std.specs.List.{slice_get, AllByRecursion, IsDistinct}
-use Rattle.std.specs.Str.{bytes_eq}
-use Rattle.std.proofs.Common.{zero, suc, ℕ, ◌≡◌, ◌<◌, ◌^◌, Bool, true, false, if◌then◌else◌, List, [], ◌∷◌, map, filter, Option, Some, None, refl, ap, sym, ◌∙◌, subst, arith}
+use Rattle.std.specs.List.{slice_get, AllByRecursion}
+use Rattle.std.proofs.Common.{zero, suc, ℕ, ◌≡◌, Bool, true, false, if◌then◌else◌, List, [], ◌∷◌, map, filter, Option, Some, None, refl, ap, sym, ◌∙◌, subst}
 use Rattle.rb_base.specs.declared.ports.Pin.{Pin}
 use Rattle.rtl_net.specs.Value.{Values}
-use Rattle.rtl_net.specs.Net.{Net, registers_of}
-use Rattle.rtl_net.specs.Ports.{seat_names}
+use Rattle.rtl_net.specs.Net.{registers_of}
 use Rattle.rtl_net.specs.Run.{seat_pin, values_at, SameAt}
 use Rattle.rtl_net.specs.Fits.{FitsPins, ValuesFit}
 use Rattle.rtl_net.specs.declared.node.Id.{Id}

@@ -1,8 +1,7 @@
 -- Nodes under the numbers of their copies.
-use Rattle.std.specs.List.{slice_get, AllByRecursion}
-use Rattle.std.proofs.Common.{zero, suc, ℕ, ◌+◌, ◌≡◌, ◌<◌, ◌≤◌, List, [], ◌∷◌, ◌++◌, length, get_or, refl, ap, sym, ◌∙◌, arith}
-use Rattle.std.proofs.lemmas.Grind.{common_steps}
-use Rattle.rtl_net.specs.Value.{At, expr_value, expr_width, operands}
+use Rattle.std.specs.List.{AllByRecursion}
+use Rattle.std.proofs.Common.{zero, suc, ℕ, ◌≡◌, ◌<◌, ◌≤◌, List, [], ◌∷◌, ◌++◌, length, refl, ap, sym, ◌∙◌, arith}
+use Rattle.rtl_net.specs.Value.{expr_value, expr_width, operands}
 use Rattle.rtl_net.specs.Net.{Net, Has, Stands, widths, width_in, CanWire}
 use Rattle.rtl_net.specs.Made.{IsPinBelow}
 use Rattle.rtl_net.specs.Graft.{at}

@@ -2,18 +2,18 @@
 use Rattle.std.specs.List.{slice_get, list_any, list_all, AllByRecursion}
 use Rattle.std.specs.Str.{bytes_eq}
 use Rattle.std.specs.Cmp.Lexicographic.{nat_list_eq_equiv}
-use Rattle.std.proofs.Common.{zero, suc, ℕ, ◌≡◌, ◌==◌, Bool, true, false, ◌&&◌, ◌||◌, if◌then◌else◌, List, [], ◌∷◌, ◌++◌, map, Option, Some, None, inl, inr, ◌⊎◌, refl, ap, sym, ◌∙◌, subst, arith, is_none, length}
-use Rattle.std.proofs.lemmas.Bool.{cases_Bool, and_parts, and_from, or_parts, or_from, eqb-true, eq-eqb}
+use Rattle.std.proofs.Common.{zero, suc, ℕ, ◌≡◌, ◌==◌, Bool, true, false, ◌&&◌, ◌||◌, if◌then◌else◌, List, [], ◌∷◌, ◌++◌, Some, None, inl, inr, ◌⊎◌, refl, ap, sym, ◌∙◌, subst, arith, is_none}
+use Rattle.std.proofs.lemmas.Bool.{cases_Bool, and_parts, and_from, or_parts, or_from, eqb-true}
 use Rattle.std.proofs.lemmas.Slice.Eq.{bytes_eq-Decides}
 use Rattle.std.proofs.lemmas.Map.Keys.{IsDistinct-push}
 use Rattle.std.proofs.lemmas.List.Folds.{list_any-append}
 use Rattle.rtl_net.specs.Names.{Lacks, is_net_name}
-use Rattle.rtl_net.specs.Net.{Net, Settles, Extends}
+use Rattle.rtl_net.specs.Net.{Net, Extends}
 use Rattle.rtl_net.specs.Ports.{seat_names, has_room, seated}
 use Rattle.rtl_net.specs.Made.{AreNames}
 use Rattle.rtl_net.specs.declared.node.Seat.{Seat}
 use Rattle.rtl_net.specs.declared.node.Taken.{Taken}
-use Rattle.rtl_net.proofs.Places.{slice_get-front, slice_get-end, push_cases}
+use Rattle.rtl_net.proofs.Places.{slice_get-front}
 use Rattle.rtl_net.proofs.PortLists.{taken_by}
 
 abbrev pub seat_of : List ℕ → ℕ → Taken → Seat

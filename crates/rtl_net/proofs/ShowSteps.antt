@@ -1,16 +1,16 @@
 -- The steps of adding the outputs that show copies.
 use Rattle.std.specs.List.{slice_get}
-use Rattle.std.proofs.Common.{zero, suc, ℕ, ◌+◌, ◌≡◌, ◌<◌, ◌≤◌, IsTrue, List, [], ◌∷◌, ◌++◌, length, map, take, Option, Some, None, inl, inr, refl, ap, sym, ◌∙◌, subst, arith}
+use Rattle.std.proofs.Common.{ℕ, ◌+◌, ◌≡◌, ◌<◌, IsTrue, List, [], ◌∷◌, ◌++◌, length, map, take, Option, Some, None, inl, inr, refl, ap, sym, ◌∙◌, subst, arith}
 use Rattle.std.proofs.lemmas.Bool.{cases_lt}
 use Rattle.std.proofs.lemmas.List.{take_more}
 use Rattle.std.proofs.lemmas.Option.{get_or_from_slice_get}
 use Rattle.rtl_net.specs.Names.{is_net_name}
 use Rattle.rtl_net.specs.Value.{At}
-use Rattle.rtl_net.specs.Net.{Net, Settles, Extends, Has, Stands, width_in, registers_of}
-use Rattle.rtl_net.specs.Ports.{seat_names, register_names, seated, IsFree}
+use Rattle.rtl_net.specs.Net.{Net, Settles, Extends, Stands, width_in, registers_of}
+use Rattle.rtl_net.specs.Ports.{seat_names, seated, IsFree}
 use Rattle.rtl_net.specs.Made.{IsMade}
 use Rattle.rtl_net.specs.Graft.{at, with_output, with_outputs}
-use Rattle.rtl_net.specs.Driving.{shown_by, HasCopies, FreeFrom, ShowsFirst, ShowsSoFar}
+use Rattle.rtl_net.specs.Driving.{shown_by, HasCopies, FreeFrom, ShowsSoFar}
 use Rattle.rtl_net.specs.declared.node.Id.{Id}
 use Rattle.rtl_net.specs.declared.node.Seat.{Seat}
 use Rattle.rtl_net.specs.declared.node.Taken.{Taken}

@@ -1,13 +1,13 @@
 -- A register that is tied to its next value.
 use Rattle.std.specs.List.{slice_get, list_any}
 use Rattle.std.proofs.Math.ListN.{set, length-set}
-use Rattle.std.proofs.Common.{zero, suc, ℕ, ◌+◌, ◌≡◌, ◌<◌, ◌≤◌, ◌^◌, Bool, true, false, cond, List, [], ◌∷◌, length, get_or, map, Option, Some, None, inl, inr, refl, ap, sym, ◌∙◌, subst, arith}
+use Rattle.std.proofs.Common.{zero, suc, ℕ, ◌+◌, ◌≡◌, ◌<◌, ◌^◌, cond, List, [], ◌∷◌, length, get_or, map, Some, None, inl, inr, refl, ap, sym, ◌∙◌, subst, arith}
 use Rattle.std.proofs.lemmas.Bool.{cases_eq}
 use Rattle.std.proofs.lemmas.List.Sums.{sum_by-set}
 use Rattle.std.proofs.lemmas.Option.{get_or_from_slice_get}
-use Rattle.rtl_net.specs.Value.{At, widths_after, under, node_value}
-use Rattle.rtl_net.specs.Net.{Net, Settles, Stands, Has, IsInput, IsWire, HasClock, is_clock, Extends, Awaits, width_in, widths, registers_of, undriven, awaits_next}
-use Rattle.rtl_net.specs.Ports.{seat_names, register_names}
+use Rattle.rtl_net.specs.Value.{At, under, node_value}
+use Rattle.rtl_net.specs.Net.{Net, Settles, Stands, is_clock, Extends, Awaits, width_in, widths, registers_of, undriven, awaits_next}
+use Rattle.rtl_net.specs.Ports.{seat_names}
 use Rattle.rtl_net.specs.Made.{IsMade, AreNames, IsNodeMade}
 use Rattle.rtl_net.specs.declared.node.Id.{Id}
 use Rattle.rtl_net.specs.declared.node.NetReset.{NetReset}

@@ -1,11 +1,11 @@
 -- The values of expressions.
 use Rattle.std.specs.List.{slice_get, AllByRecursion, list_all}
-use Rattle.std.proofs.Common.{zero, suc, ℕ, ◌+◌, ◌≡◌, ◌<◌, ◌≤◌, ◌^◌, ◌==◌, Bool, true, false, ◌&&◌, List, [], ◌∷◌, length, Option, Some, None, is_some, unwrap_or, IfSome, refl, ap, sym, ◌∙◌, subst, arith}
+use Rattle.std.proofs.Common.{ℕ, ◌≡◌, ◌<◌, ◌^◌, ◌==◌, true, false, List, [], ◌∷◌, Option, Some, None, is_some, unwrap_or, IfSome, refl, ap, sym, ◌∙◌, subst}
 use Rattle.std.specs.Prelude.{count_ones, option_and_then}
 use Rattle.std.proofs.lemmas.Bool.{and_parts}
 use Rattle.std.proofs.lemmas.Option.{none-some}
-use Rattle.rtl_net.specs.Value.{At, expr_width, expr_value, operands, node_width}
-use Rattle.rtl_net.specs.Net.{Net, widths, width_in, Settles, IsWire, IsWidth, CanWire, Stands}
+use Rattle.rtl_net.specs.Value.{At, expr_width, expr_value, operands}
+use Rattle.rtl_net.specs.Net.{Net, widths, width_in, Settles, CanWire}
 use Rattle.rtl_net.specs.Made.{IsMade}
 use Rattle.rtl_net.specs.Fold.{constant, constant_of, constant_at, is_constant, constant_values}
 use Rattle.rtl_net.specs.declared.node.Id.{Id}
@@ -13,9 +13,9 @@ use Rattle.rtl_net.specs.declared.node.NetNode.{NetNode}
 use Rattle.rtl_net.specs.declared.node.NetNode.TheVariants.{Input, Register, Wire}
 use Rattle.rtl_net.specs.declared.node.NetExpr.{NetExpr}
 use Rattle.rtl_net.specs.declared.node.NetExpr.TheVariants.{Const, Part, Cat, Not, All, Any, Odd, Add, Sub, And, Or, Xor, Eq, Lt, Pick}
-use Rattle.rtl_net.proofs.Places.{slice_get-within, item_at}
+use Rattle.rtl_net.proofs.Places.{slice_get-within}
 use Rattle.rtl_net.proofs.Widths.{width_at, width_most}
-use Rattle.rtl_net.proofs.Making.{wire_width, operands_below}
+use Rattle.rtl_net.proofs.Making.{wire_width}
 use Rattle.rtl_net.proofs.Numbers.{bit_fits, odd_fits, mod_fits, cat_fits, and_fits, or_fits, xor_fits, not_fits, pick_fits}
 
 -- an expression looks at its operands alone

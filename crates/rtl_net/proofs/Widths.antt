@@ -1,13 +1,13 @@
 -- The widths of nodes by their numbers.
 use Rattle.std.specs.List.{slice_get, AllByRecursion, list_any}
 use Rattle.std.specs.Str.{bytes_eq}
-use Rattle.std.proofs.Common.{zero, suc, ℕ, ◌+◌, ◌≡◌, ◌<◌, ◌≤◌, Bool, true, false, ◌||◌, if◌then◌else◌, List, [], ◌∷◌, ◌++◌, length, get_or, take, Option, Some, None, inl, inr, refl, ap, sym, ◌∙◌, subst, arith, length-append, zero-add}
-use Rattle.std.proofs.lemmas.Bool.{cases_Bool, cases_lt, or_cases, OnTrue_at}
+use Rattle.std.proofs.Common.{zero, suc, ℕ, ◌+◌, ◌≡◌, ◌<◌, ◌≤◌, Bool, true, false, ◌||◌, if◌then◌else◌, List, [], ◌∷◌, ◌++◌, length, get_or, take, Some, None, inl, inr, refl, ap, sym, ◌∙◌, arith, length-append}
+use Rattle.std.proofs.lemmas.Bool.{cases_Bool, cases_lt, OnTrue_at}
 use Rattle.std.proofs.lemmas.Slice.Eq.{bytes_eq-Decides}
 use Rattle.std.proofs.lemmas.Grind.{common_steps}
 use Rattle.rtl_net.specs.Names.{clock}
 use Rattle.rtl_net.specs.Value.{widths_after, node_width, expr_width, operands}
-use Rattle.rtl_net.specs.Net.{Net, widths, width_in, IsInput, HasClock, is_clock, IsWidth}
+use Rattle.rtl_net.specs.Net.{Net, widths, width_in, IsInput, HasClock, is_clock}
 use Rattle.rtl_net.specs.Made.{IsMade, IsNodeMade}
 use Rattle.rtl_net.specs.declared.node.Id.{Id}
 use Rattle.rtl_net.specs.declared.node.NetNode.{NetNode}

@@ -2,7 +2,7 @@
 use Rattle.std.specs.Bool.{OnTrue, OnFalse}
 use Rattle.std.specs.List.{AllByRecursion}
 use Rattle.std.specs.Str.{bytes_eq}
-use Rattle.std.specs.Prelude.{ℕ, ◌+◌, ◌≡◌, ◌<◌, ◌≤◌, true, IsTrue, List, [], ◌∷◌, ◌++◌, length, take, slice_get, Option, Some, None, MatchOption, is_none}
+use Rattle.std.specs.Prelude.{ℕ, ◌+◌, ◌≡◌, ◌<◌, ◌≤◌, true, IsTrue, List, [], ◌∷◌, ◌++◌, length, take, slice_get, Option, Some, MatchOption, is_none}
 use Rattle.rtl_net.specs.Names.{clock, is_net_name}
 use Rattle.rtl_net.specs.Value.{At, expr_width, expr_value, under, operands}
 use Rattle.rtl_net.specs.Net.{Net, Settles, Extends, Keeps, widths, IsInput, Stands, IsNode, IsWidth, Awaits, CanWire, CanReset, HasClock, registers_of, undriven}

@@ -3,9 +3,9 @@ use Rattle.std.specs.List.{list_all}
 use Rattle.std.specs.Prelude.{ℕ, Bool, List, Option, Some, None, is_some, unwrap_or, option_and_then, slice_get}
 use Rattle.rtl_net.specs.Value.{operands}
 use Rattle.rtl_net.specs.declared.node.NetExpr.{NetExpr}
-use Rattle.rtl_net.specs.declared.node.NetExpr.TheVariants.{Const, Part, Cat, Not, All, Any, Odd, Add, Sub, And, Or, Xor, Eq, Lt, Pick}
+use Rattle.rtl_net.specs.declared.node.NetExpr.TheVariants.{Const}
 use Rattle.rtl_net.specs.declared.node.NetNode.{NetNode}
-use Rattle.rtl_net.specs.declared.node.NetNode.TheVariants.{Input, Register, Wire}
+use Rattle.rtl_net.specs.declared.node.NetNode.TheVariants.{Wire}
 
 abbrev pub constant_of : NetExpr → Option ℕ
 constant_of (Const w x) = Some x

@@ -2,7 +2,7 @@
 use Rattle.std.specs.Str.{bytes_eq}
 use Rattle.std.specs.List.{list_all, IsDistinct, AllByRecursion}
 use Rattle.std.specs.Bool.{OnTrue}
-use Rattle.std.specs.Prelude.{ℕ, ◌≡◌, ◌<◌, ◌≤◌, IsTrue, List, [], ◌∷◌, slice_get, Option, Some, None}
+use Rattle.std.specs.Prelude.{ℕ, ◌≡◌, ◌<◌, ◌≤◌, IsTrue, List, slice_get, Option, Some, None}
 use Rattle.rtl_net.specs.Names.{clock, is_identifier, is_net_name, Lacks}
 use Rattle.rtl_net.specs.Value.{expr_width, operands}
 use Rattle.rtl_net.specs.Net.{Net, widths, IsInput, IsWire, Stands, IsWidth, CanWire, CanReset}

@@ -1,7 +1,6 @@
 -- A netlist, and what is known of its nodes.
 use Rattle.std.specs.Str.{bytes_eq}
 use Rattle.std.specs.List.{list_any}
-use Rattle.std.specs.Bool.{OnTrue}
 use Rattle.std.specs.Prelude.{ℕ, ◌+◌, ◌≡◌, ◌<◌, ◌≤◌, ◌^◌, Bool, true, false, IsTrue, List, [], ◌∷◌, length, slice_index, slice_get, count_by, Option, Some, None}
 use Rattle.rb_base.specs.declared.ports.Pin.{Pin}
 use Rattle.rtl_net.specs.Names.{clock}
@@ -14,7 +13,6 @@ use Rattle.rtl_net.specs.declared.node.NetReset.TheVariants as resets
 use Rattle.rtl_net.specs.declared.node.NetExpr.{NetExpr}
 use Rattle.rtl_net.specs.declared.node.NetExpr.TheVariants.{Const, Part, Cat, Not, All, Any, Odd, Add, Sub, And, Or, Xor, Eq, Lt, Pick}
 use Rattle.rtl_net.specs.declared.node.Seat.{Seat}
-use Rattle.rtl_net.specs.declared.node.Taken.{Taken}
 use Rattle.rtl_net.specs.declared.node.Taken.TheVariants as takes
 
 -- a module's name, its nodes by number, and its ports in order

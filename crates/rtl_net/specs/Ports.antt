@@ -1,8 +1,8 @@
 -- The ports of a netlist, and which names are new.
 use Rattle.std.specs.Str.{bytes_eq}
 use Rattle.std.specs.List.{list_any}
-use Rattle.std.specs.Prelude.{ℕ, ◌≡◌, ◌==◌, Bool, true, false, ◌&&◌, ◌||◌, not, if◌then◌else◌, List, [], ◌∷◌, map, Option, Some, None, is_none, is_some}
-use Rattle.rtl_net.specs.Names.{Lacks, clock}
+use Rattle.std.specs.Prelude.{ℕ, ◌≡◌, ◌==◌, Bool, true, ◌&&◌, ◌||◌, if◌then◌else◌, List, [], ◌∷◌, map, Option, Some, None, is_none, is_some}
+use Rattle.rtl_net.specs.Names.{Lacks}
 use Rattle.rtl_net.specs.Net.{Net, registers_of}
 use Rattle.rtl_net.specs.declared.node.Seat.{Seat}
 use Rattle.rtl_net.specs.declared.node.Taken.{Taken}

@@ -1,5 +1,5 @@
 -- The wires of a netlist by their expressions.
-use Rattle.std.specs.Prelude.{ℕ, ◌+◌, ◌≡◌, ◌≢◌, Bool, true, false, List, [], ◌∷◌, slice_get, Some}
+use Rattle.std.specs.Prelude.{ℕ, ◌+◌, ◌≢◌, Bool, true, false, List, [], ◌∷◌, slice_get, Some}
 use Rattle.rtl_net.specs.declared.node.Id.{Id}
 use Rattle.rtl_net.specs.declared.node.NetExpr.{NetExpr}
 use Rattle.rtl_net.specs.declared.node.NetNode.{NetNode}

@@ -1,4 +1,4 @@
-use Rattle.std.proofs.Common.{◌≡◌, ◌∙◌, ap, sym, cond, ◌++◌, ◌∷◌, [], map, List, ℕ, false, subst}
+use Rattle.std.proofs.Common.{◌≡◌, ◌∙◌, ap, sym, cond, ◌++◌, ◌∷◌, [], map, false}
 use Rattle.std.specs.List.{list_any}
 use Rattle.std.specs.Str.{bytes_eq}
 use Rattle.std.proofs.lemmas.List.{map-append}

@@ -1,4 +1,3 @@
-use Rattle.std.proofs.Common.{◌≡◌, ◌∙◌, sym, None, Option}
 use Rattle.std.proofs.lemmas.Map.Views.{IfSome-lookup}
 use Rattle.rtl_net.proofs.Exprs.{same_expr-true, none_found}
 use Rattle.rtl_net.proofs.nodes.wire_of.Goals as goal

@@ -1,8 +1,6 @@
-use Rattle.std.proofs.Common.{◌≡◌, ◌+◌, ◌<◌, ◌≤◌, ◌++◌, ◌∷◌, [], ℕ, List, Option, Some, None, length, slice_get, refl, ap, sym, ◌∙◌, subst, arith}
-use Rattle.rtl_net.specs.Net.{Net, Extends, Keeps}
+use Rattle.std.proofs.Common.{◌≡◌, ◌+◌, Some, length, slice_get, refl, ap, sym, ◌∙◌, subst, arith}
 use Rattle.rtl_net.specs.Graft.{replacement}
-use Rattle.rtl_net.specs.Copy.{NamesBelow, CanCopy, IsCopied, CopiesFirst, CanCopyRest, CopiesSoFar}
-use Rattle.rtl_net.specs.declared.node.NetNode.{NetNode}
+use Rattle.rtl_net.specs.Copy.{NamesBelow, CanCopy, IsCopied, CopiesFirst, CanCopyRest}
 use Rattle.rtl_net.proofs.Nets.{Extends-refl, Extends-trans, Keeps-refl, Keeps-trans}
 use Rattle.rtl_net.proofs.Places.{at_place, read_at}
 use Rattle.rtl_net.proofs.Copying.{names_below}

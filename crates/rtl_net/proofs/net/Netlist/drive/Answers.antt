@@ -1,5 +1,5 @@
 use Rattle.std.proofs.Common.{◌≡◌, ◌∙◌, ap, sym, subst, map}
-use Rattle.rtl_net.specs.Value.{At, under}
+use Rattle.rtl_net.specs.Value.{under}
 use Rattle.rtl_net.specs.Net.{Awaits, Stands, registers_of, undriven}
 use Rattle.rtl_net.specs.contracts.net.Netlist.{the_view}
 use Rattle.rtl_net.proofs.Calls.{Driven, register_driven, with_nodes, one_waiting}

@@ -1,5 +1,4 @@
-use Rattle.std.proofs.Common.{◌≡◌, ◌+◌, ◌<◌, ◌≤◌, ℕ, List, Some, None, length, refl, ap, sym, ◌∙◌, subst, arith}
-use Rattle.rtl_net.specs.Net.{Net}
+use Rattle.std.proofs.Common.{◌≡◌, ◌+◌, length, ap, sym, ◌∙◌, subst, arith}
 use Rattle.rtl_net.specs.Driving.{DrivesFirst, DrivesSoFar}
 use Rattle.rtl_net.proofs.Places.{read_at}
 use Rattle.rtl_net.proofs.DriveSteps.{drives_none, next_within, can_drive, drive_step, skip_step}

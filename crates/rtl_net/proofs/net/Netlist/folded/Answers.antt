@@ -1,8 +1,4 @@
-use Rattle.std.proofs.Common.{◌≡◌, ◌∙◌, ap, sym, subst}
-use Rattle.rtl_net.specs.Value.{expr_value}
-use Rattle.rtl_net.specs.Net.{CanWire, widths}
-use Rattle.rtl_net.specs.declared.node.NetExpr.TheVariants.{Const}
-use Rattle.rtl_net.specs.contracts.net.Netlist.{the_view}
+use Rattle.std.proofs.Common.{◌∙◌, subst}
 use Rattle.rtl_net.specs.Made.{IsMade}
 use Rattle.rtl_net.proofs.Values.{folded_can, folded_value}
 use Rattle.rtl_net.proofs.net.Netlist.folded.Goals as goal

@@ -1,8 +1,7 @@
-use Rattle.std.proofs.Common.{◌≡◌, ◌+◌, ◌<◌, ℕ, List, None, length, refl, ap, sym, ◌∙◌, subst}
-use Rattle.rtl_net.specs.Net.{Net, Keeps}
+use Rattle.std.proofs.Common.{length, sym, subst}
 use Rattle.rtl_net.specs.Made.{IsMade}
-use Rattle.rtl_net.specs.Driving.{HasCopies, AwaitsFrom, FreeFrom, DrivesFirst, ShowsFirst}
-use Rattle.rtl_net.proofs.Grafting.{has_copies, awaits_all, driven_copies, driven_free, driven_keeps, copies_settle, copies_stand_all, inputs_copied, left_all, all_registers, all_undriven, all_seats, Keeps-nodes}
+use Rattle.rtl_net.specs.Driving.{HasCopies, AwaitsFrom, DrivesFirst, ShowsFirst}
+use Rattle.rtl_net.proofs.Grafting.{has_copies, awaits_all, driven_copies, driven_keeps, copies_settle, copies_stand_all, inputs_copied, Keeps-nodes}
 use Rattle.rtl_net.proofs.net.Netlist.graft.Goals as goal
 
 pub drive_copies-requires-clause-copies : goal.drive_copies-requires-clause-copies

@@ -1,5 +1,5 @@
 use Rattle.std.proofs.Common.{◌∙◌, ap}
-use Rattle.rtl_net.specs.Net.{registers_of, undriven}
+use Rattle.rtl_net.specs.Net.{registers_of}
 use Rattle.rtl_net.specs.Ports.{IsFree}
 use Rattle.rtl_net.specs.contracts.net.Netlist.{the_view}
 use Rattle.rtl_net.proofs.Calls.{InputAdded, input_added}

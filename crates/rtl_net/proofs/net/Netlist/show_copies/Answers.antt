@@ -1,5 +1,5 @@
-use Rattle.std.proofs.Common.{◌≡◌, ◌+◌, ◌<◌, ◌≤◌, ℕ, IsTrue, List, Some, None, length, slice_get, refl, ap, sym, ◌∙◌, subst, arith}
-use Rattle.rtl_net.specs.Net.{Net, width_in}
+use Rattle.std.proofs.Common.{◌≡◌, ◌+◌, IsTrue, length, ap, sym, ◌∙◌, subst, arith}
+use Rattle.rtl_net.specs.Net.{width_in}
 use Rattle.rtl_net.specs.Names.{is_net_name}
 use Rattle.rtl_net.specs.Ports.{seated, IsFree}
 use Rattle.rtl_net.specs.Graft.{at}

@@ -1,5 +1,4 @@
-use Rattle.std.proofs.Common.{◌≡◌, ◌≤◌, ap, ◌∙◌, sym, length, arith, max, get_or}
-use Rattle.std.proofs.lemmas.List.{get_or_read}
+use Rattle.std.proofs.Common.{◌≡◌, ◌≤◌, ap, ◌∙◌, length, arith, get_or}
 use Rattle.rtl_net.specs.Net.{width_in}
 use Rattle.rtl_net.specs.contracts.net.Netlist.{the_view}
 use Rattle.rtl_net.proofs.NodeLists.{length-widths}

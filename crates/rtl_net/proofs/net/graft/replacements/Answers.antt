@@ -1,7 +1,6 @@
-use Rattle.std.proofs.Common.{◌≡◌, ◌<◌, ℕ, List, Option, Some, None, length, drop, replicate, refl, ap, sym, ◌∙◌, subst, arith, drop_of_length-le, slice_get}
+use Rattle.std.proofs.Common.{◌≡◌, ℕ, List, Option, None, length, drop, replicate, sym, subst, arith, drop_of_length-le}
 use Rattle.std.proofs.lemmas.List.{length-replicate}
 use Rattle.rtl_net.proofs.Slots.{HasSlots, slice_get-replicate, slots_before}
-use Rattle.rtl_net.specs.Graft.{replacement}
 use Rattle.rtl_net.specs.declared.node.Given.{Given}
 use Rattle.rtl_net.specs.declared.node.Id.{Id}
 use Rattle.rtl_net.proofs.net.graft.replacements.Goals as goal

@@ -1,4 +1,3 @@
-use Rattle.std.proofs.lemmas.Option.{IfSome_then}
 use Rattle.rtl_net.proofs.NodeLists.{wire_found, wire_lacking}
 use Rattle.rtl_net.proofs.nodes.Nodes.find.Goals as goal
 

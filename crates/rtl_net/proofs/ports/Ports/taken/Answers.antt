@@ -1,4 +1,4 @@
-use Rattle.std.proofs.Common.{◌≡◌, ◌∙◌, ap, sym, slice_get, Some, arith, length, take}
+use Rattle.std.proofs.Common.{◌≡◌, ◌∙◌, ap, sym, slice_get, Some, take}
 use Rattle.rtl_net.specs.Names.{Lacks}
 use Rattle.rtl_net.specs.Ports.{seat_names, taken_in}
 use Rattle.rtl_net.proofs.Places.{slice_get-within}
