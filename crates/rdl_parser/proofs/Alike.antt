@@ -85,7 +85,7 @@ fronts zero a = none
 fronts (suc n) none = none
 fronts (suc n) (both k p a) = both k p (fronts n a)
 
-rests : {ts us : List Token} (n : ℕ) → Alike ts us → Alike (drop n ts) (drop n us)
+pub rests : {ts us : List Token} (n : ℕ) → Alike ts us → Alike (drop n ts) (drop n us)
 rests zero a = a
 rests (suc n) none = none
 rests (suc n) (both k p a) = rests n a
@@ -123,6 +123,3 @@ deep_alike {i = i} d a = record {
   };
   begins = begins d.begins (fronts (i + 1) a);
 }
-
-pub rests_alike : {ts us : List Token} (n : ℕ) → Alike ts us → Alike (drop n ts) (drop n us)
-rests_alike n a = rests n a

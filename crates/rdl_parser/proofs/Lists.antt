@@ -24,8 +24,11 @@ module _ {X : Type 0} {Derives : List Token → List Token → X → Type 0} whe
       go us x _ (more {vs = ws} {x = y} {xs = ys} i e m) d = next d i (go ws y ys m e)
 
   pub hashed_from : {t u : Token} {ts us vs ws xs : List Token} {y : X} {ys : List X} → IsMark marks.Hash ts t us → IsMark marks.OpenParen us u vs → Derives vs ws y → DerivesClosed Derives ws xs ys → DerivesHashed Derives ts xs (y ∷ ys)
-  hashed_from {xs = xs} h o d c = let p = go _ _ _ c d in tree.some h o p.2 p.3
+  hashed_from {ts = ts} {us = us} {vs = vs} {xs = xs} {y = y} {ys = ys} h o d c = let p = go _ _ _ c d in close p.0 p.1 p.2 p.3
     where
+      close : (zs : List Token) (t : Token) → DerivesListed Derives vs zs (y ∷ ys) → IsMark marks.CloseParen zs t xs → DerivesHashed Derives ts xs (y ∷ ys)
+      close zs t l i = tree.some h o l i
+
       go : (ws : List Token) (y : X) (ys : List X) → DerivesClosed Derives ws xs ys → {vs : List Token} → Derives vs ws y → (zs : List Token) × (t : Token) × DerivesListed Derives vs zs (y ∷ ys) × IsMark marks.CloseParen zs t xs
       go ws y _ (closed {t = t} i) d = (ws, t, last d, i)
       go ws y _ (closed_more {vs = zs} {x = z} {xs = xs} i e m) d = let p = go zs z xs m e in (p.0, p.1, next d i p.2, p.3)

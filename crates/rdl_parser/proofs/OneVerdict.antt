@@ -15,7 +15,7 @@ use Rattle.rdl_parser.specs.Judging.{IsGood}
 use Rattle.rdl_parser.specs.Verdicts.{SpellsTokens, place_of, end_of, IsAccepted, IsWrong, IsTooDeep, HasError}
 use Rattle.rdl_parser.specs.Verdicts as verdicts
 use Rattle.rdl_parser.proofs.Judged.{one_wrong, one_too_deep, good_not_wrong, good_not_too_deep, wrong_not_too_deep}
-use Rattle.rdl_parser.proofs.Alike.{Alike, alike, place_alike, rule_alike, good_alike, wrong_alike, deep_alike, rests_alike}
+use Rattle.rdl_parser.proofs.Alike.{Alike, alike, place_alike, rule_alike, good_alike, wrong_alike, deep_alike, rests}
 
 same_tokens : (text : List ℕ) (ts us : List Token) → SpellsTokens text ts → SpellsTokens text us → Alike ts us
 same_tokens text ts us p q = alike ts us (spells_once systemrdl text (map seen ts) (map seen us) p q)
@@ -41,7 +41,7 @@ one_depth : (text : List ℕ) (p q : Place) → IsTooDeep text p → IsTooDeep t
 one_depth text p q a b =
     let k = same_tokens text a.tokens b.tokens a.spelled b.spelled in
     let e = one_too_deep b.tokens a.index b.index (deep_alike a.deep k) b.deep in
-    a.at ∙ (place_alike (end_of text) (rests_alike a.index k) ∙ (ap (λ (n : ℕ). place_of (drop n b.tokens) (end_of text)) e ∙ sym b.at))
+    a.at ∙ (place_alike (end_of text) (rests a.index k) ∙ (ap (λ (n : ℕ). place_of (drop n b.tokens) (end_of text)) e ∙ sym b.at))
 
 wrong_excludes_depth : (text : List ℕ) (p q : Place) (r : Rule) → IsWrong text p r → IsTooDeep text q → ⊥
 wrong_excludes_depth text p q r a b =

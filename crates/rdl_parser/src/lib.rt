@@ -7,9 +7,11 @@ mod error;
 mod expressions;
 mod instances;
 mod laws;
-mod reading;
 mod parser;
 mod properties;
+mod reading;
+#[cfg(test)]
+mod tests;
 
 pub use error::ParseError;
 pub use laws::one_verdict;
