@@ -1,0 +1,35 @@
+//! Names that are not declared.
+
+ghost use Rattle.std.specs.Prelude.{◌≡◌, List};
+ghost use Rattle.v_design.specs.WellFormed.{names};
+ghost use Rattle.v_syntax.specs.Tokens.{placed, seen};
+ghost use Rattle.v_check.specs.Found.{Finds, Stands};
+ghost use Rattle.v_check.specs.Nets.{AreNets, IsUndeclared, is_unknown as unknown, nets_seen, token_places};
+ghost use Rattle.v_check.specs.declared.nets.Net.{Net};
+
+use crate::found::note;
+use crate::nets::Table;
+use rb_base::Place;
+use v_syntax::{VKind, VToken};
+
+fn is_unknown(table: &Table, token: &VToken) -> bool
+    ensures { (ns : List Net) → AreNets table.now ns → result ≡ unknown (names (nets_seen ns)) (seen token.now).token }
+{
+    match token.kind {
+        VKind::Id => !table.declares(token.text),
+        VKind::Dec | VKind::Const { .. } | VKind::Word | VKind::Mark => false,
+    }
+}
+
+/// The least place of a name that is not declared, among the tokens behind so many.
+pub(crate) fn undeclared(table: &Table, tokens: &[VToken], before: usize) -> Option<Place>
+    ensures { (ns : List Net) → AreNets table.now ns
+        → Finds (Stands (IsUndeclared (names (nets_seen ns)) before (placed tokens.now)) (token_places (placed tokens.now))) result }
+{
+    let mut found = None;
+    for (index, token) in tokens.iter().enumerate() {
+        let wrong = index >= before && is_unknown(table, token);
+        found = note(found, wrong, token.place);
+    }
+    found
+}
