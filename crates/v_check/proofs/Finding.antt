@@ -116,8 +116,10 @@ module _ (declared : List (List ℕ)) (before : ℕ) (ts : List VToken) (i : ℕ
     λ h. (seen (get_or ts i e), low, token-at ts i e l, sym test ∙ h),
   )
 
-  pub undeclared-early : i < before → b ≡ nat_le before i → (IsUndeclared declared before (placed ts) i → b ≡ true) × (b ≡ true → IsUndeclared declared before (placed ts) i)
-  undeclared-early low test = (λ h. absurd (let m = h.1 in omega (arith, low, m)), λ h. absurd (above low (sym test ∙ h)))
-    where
-      above : i < before → nat_le before i ≡ true → ⊥
-      above l h = let m = le-true before i h in omega (arith, l, m)
+-- a token before is not judged
+pub undeclared-early : (declared : List (List ℕ)) (before : ℕ) (ts : List VToken) (i : ℕ) (b : Bool) → i < before → b ≡ nat_le before i
+    → (IsUndeclared declared before (placed ts) i → b ≡ true) × (b ≡ true → IsUndeclared declared before (placed ts) i)
+undeclared-early declared before ts i b low test = (λ h. absurd (let m = h.1 in omega (arith, low, m)), λ h. absurd (above low (sym test ∙ h)))
+  where
+    above : i < before → nat_le before i ≡ true → ⊥
+    above l h = let m = le-true before i h in omega (arith, l, m)

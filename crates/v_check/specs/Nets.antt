@@ -1,5 +1,6 @@
 -- The declared nets of a module that was parsed.
 use Rattle.std.specs.Prelude.{◌≡◌, ℕ, ◌≤◌, Bool, false, not, IsTrue, if◌then◌else◌, Option, Some, None, List, [], ◌∷◌, ◌++◌, map, take, slice_get}
+use Rattle.std.specs.Option.{option_map_or}
 use Rattle.std.specs.Str.{bytes_eq}
 use Rattle.std.specs.HashMap.{HashMap, get_by}
 use Rattle.std.specs.declared.hash.FoldHasher.{FoldHasher}
@@ -62,6 +63,10 @@ IsTwice ns i = (n : List ℕ) × (slice_get ns i ≡ Some n) × IsTrue (among (t
 abbrev pub width_in : List Net → Widths
 width_in [] n = 0
 width_in (d ∷ ds) n = if bytes_eq d.name n then d.width else width_in ds n
+
+-- the widths that a table has
+abbrev pub widths_at : Table → Widths
+widths_at table n = option_map_or (λ d. d.width) (net_at table n) 0
 
 -- the places of tokens
 abbrev pub token_places : List (At Token) → List ℕ

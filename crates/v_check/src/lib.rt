@@ -5,3 +5,4 @@ mod found;
 mod names;
 mod nets;
 mod undeclared;
+mod widths;

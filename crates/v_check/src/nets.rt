@@ -89,7 +89,7 @@ impl<'s> Table<'s> {
     ghost use Rattle.std.specs.Prelude.{◌≡◌, ◌++◌, ◌∷◌, [], true, List, IfOk, map};
     ghost use Rattle.v_design.specs.Lexemes.{among};
     ghost use Rattle.v_design.specs.WellFormed.{distinct, has, is_pin, names};
-    ghost use Rattle.v_check.specs.Nets.{AreNets, first_net, kind_seen, nets_seen, width_in};
+    ghost use Rattle.v_check.specs.Nets.{AreNets, kind_seen, net_at, nets_seen, widths_at};
     ghost use Rattle.v_check.specs.declared.nets.Net.{Net};
 
     /// No nets yet.
@@ -115,7 +115,7 @@ impl<'s> Table<'s> {
 
     /// The first net of a name.
     fn find(&self, name: &[u8]) -> Option<Net<'s>>
-        ensures { (ns : List Net) → AreNets self.now ns → result ≡ first_net ns name.now }
+        ensures { result ≡ net_at self.now name.now }
     {
         self.nets.get(name).copied()
     }
@@ -151,7 +151,7 @@ impl<'s> Table<'s> {
 
     /// The width of the net of this name in bits, or 0.
     pub(crate) fn width(&self, name: &[u8]) -> u8
-        ensures { (ns : List Net) → AreNets self.now ns → result ≡ width_in (nets_seen ns) name.now }
+        ensures { result ≡ widths_at self.now name.now }
     {
         match self.find(name) {
             Some(net) => net.width,

@@ -14,7 +14,7 @@ loop-index-preserved c = λ ns h.
     c.note-found.ensures (token-place c.args.tokens.now c.loop-index.index _ c.loop-index-test.true)
     (elim c.if-index-before.branch [
       | then-index-before w ↦ undeclared-late declared c.args.before c.args.tokens.now c.loop-index.index _ wrong c.loop-index-test.true w.if-index-before.true (w.wrong-is ∙ w.is_unknown-wrong.ensures ns h)
-      | else-index-before w ↦ undeclared-early declared c.args.before c.args.tokens.now c.loop-index.index _ wrong c.loop-index-test.true w.if-index-before.false w.wrong-is
+      | else-index-before w ↦ undeclared-early declared c.args.before c.args.tokens.now c.loop-index.index wrong w.if-index-before.false w.wrong-is
     ])
     (c.loop-index.invariant ns h)
 

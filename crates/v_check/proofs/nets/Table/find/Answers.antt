@@ -2,4 +2,4 @@ use Rattle.std.proofs.Common.{◌∙◌}
 use Rattle.v_check.proofs.nets.Table.find.Goals as goal
 
 pub returns : goal.returns
-returns c = λ ns h. c.copied.ensures ∙ (c.get.ensures.value ∙ h.at c.args.name.now)
+returns c = c.copied.ensures ∙ c.get.ensures.value

@@ -4,7 +4,7 @@ use Rattle.v_check.proofs.Tables.{has-found}
 use Rattle.v_check.proofs.nets.Table.has.Goals as goal
 
 pub returns-in-Some : goal.returns-in-Some
-returns-in-Some c = λ ns h once. c.is.ensures ∙ has-found ns (Some c.in-Some.net) (kind_seen c.args.kind) c.args.name.now (c.in-Some.ensures ns h) once
+returns-in-Some c = λ ns h once. c.is.ensures ∙ has-found ns (Some c.in-Some.net) (kind_seen c.args.kind) c.args.name.now (c.in-Some.ensures ∙ h.at c.args.name.now) once
 
 pub returns-in-None : goal.returns-in-None
-returns-in-None c = λ ns h once. has-found ns None (kind_seen c.args.kind) c.args.name.now (c.in-None.ensures ns h) once
+returns-in-None c = λ ns h once. has-found ns None (kind_seen c.args.kind) c.args.name.now (c.in-None.ensures ∙ h.at c.args.name.now) once

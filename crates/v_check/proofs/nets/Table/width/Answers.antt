@@ -1,9 +1,9 @@
-use Rattle.std.proofs.Common.{Some, None, ◌∙◌}
-use Rattle.v_check.proofs.Tables.{width-found}
+use Rattle.std.specs.Option.{option_map_or}
+use Rattle.std.proofs.Common.{ap}
 use Rattle.v_check.proofs.nets.Table.width.Goals as goal
 
 pub returns-in-Some : goal.returns-in-Some
-returns-in-Some c = λ ns h. width-found ns (Some c.in-Some.net) c.args.name.now (c.in-Some.ensures ns h)
+returns-in-Some c = ap (λ o. option_map_or (λ d. d.width) o 0) c.in-Some.ensures
 
 pub returns-in-None : goal.returns-in-None
-returns-in-None c = λ ns h. width-found ns None c.args.name.now (c.in-None.ensures ns h)
+returns-in-None c = ap (λ o. option_map_or (λ d. d.width) o 0) c.in-None.ensures
