@@ -1,11 +1,13 @@
 -- The least place of what is wrong, as it is found one thing after the other.
-use Rattle.std.proofs.Common.{◌≡◌, ℕ, zero, suc, ◌+◌, ◌<◌, ◌≤◌, nat_le, Bool, true, false, if◌then◌else◌, Option, Some, None, List, [], ◌∷◌, length, slice_get, get_or, refl, ap, sym, ◌∙◌, subst, ◌⊎◌, inl, inr, arith}
+use Rattle.std.proofs.Common.{◌≡◌, ℕ, zero, suc, ◌+◌, ◌<◌, ◌≤◌, nat_le, Bool, true, false, not, if◌then◌else◌, Option, Some, None, List, [], ◌∷◌, length, slice_get, get_or, refl, ap, sym, ◌∙◌, subst, ◌⊎◌, inl, inr, arith}
 use Rattle.std.proofs.lemmas.Bool.Decides.{nat_tests}
 use Rattle.rb_base.specs.declared.place.Place.{Place}
 use Rattle.rb_grammar.specs.Spelling.{At}
 use Rattle.v_design.specs.Lexemes.{Token}
 use Rattle.v_syntax.specs.Tokens.{placed, seen}
 use Rattle.v_syntax.specs.declared.token.VToken.{VToken}
+use Rattle.v_design.specs.declared.design.Stmt.{Stmt}
+use Rattle.v_check.specs.Sizes.{stmt_places}
 use Rattle.v_check.specs.Nets.{IsUndeclared, is_unknown, numbers, token_places}
 use Rattle.v_check.specs.Found.{noted, IsLeast, Finds, Stands, StandsBefore}
 
@@ -123,3 +125,33 @@ undeclared-early declared before ts i b low test = (λ h. absurd (let m = h.1 in
   where
     above : i < before → nat_le before i ≡ true → ⊥
     above l h = let m = le-true before i h in omega (arith, l, m)
+
+-- the place of a statement
+pub stmt-place : (ss : List Stmt) (i : ℕ) (s : Stmt) → i < length ss → s ≡ get_or ss i s → s.place.0 ≡ get_or (stmt_places ss) i 0
+stmt-place [] i s l is = absurd (omega (arith, l))
+stmt-place (x ∷ xs) zero s l is = ap (λ y. y.place.0) is
+stmt-place (x ∷ xs) (suc i) s l is = stmt-place xs i s (omega (arith, l)) is
+
+pub element-at : {X : Type 0} (xs : List X) (i : ℕ) (x : X) → i < length xs → x ≡ get_or xs i x → slice_get xs i ≡ Some x
+element-at [] i x l is = absurd (omega (arith, l))
+element-at (y ∷ ys) zero x l is = ap Some (sym is)
+element-at (y ∷ ys) (suc i) x l is = element-at ys i x (omega (arith, l)) is
+
+pub element-within : {X : Type 0} (xs : List X) (i : ℕ) (x : X) → slice_get xs i ≡ Some x → i < length xs
+element-within [] i x h = cc h
+element-within (y ∷ ys) zero x h = omega arith
+element-within (y ∷ ys) (suc i) x h = let l = element-within ys i x h in omega (arith, l)
+
+-- a test of an element decides what holds of the element at its place
+pub element-test : {X : Type 0} (xs : List X) (i : ℕ) (x : X) (wrong : X → Bool) (b : Bool) → i < length xs → x ≡ get_or xs i x → b ≡ not (wrong x)
+    → ((y : X) × (slice_get xs i ≡ Some y) × (wrong y ≡ false) → b ≡ true) × (b ≡ true → (y : X) × (slice_get xs i ≡ Some y) × (wrong y ≡ false))
+element-test xs i x wrong b l is test = (
+  λ h. let f : Some h.0 ≡ Some x = sym h.1 ∙ element-at xs i x l is in
+      let f' : h.0 ≡ x = cc in
+      test ∙ ap not (ap wrong (sym f') ∙ h.2),
+  λ h. (x, element-at xs i x l is, not-true (wrong x) (sym test ∙ h)),
+)
+  where
+    not-true : (c : Bool) → not c ≡ true → c ≡ false
+    not-true true h = cc h
+    not-true false h = refl

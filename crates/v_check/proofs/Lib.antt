@@ -1,3 +1,4 @@
 pub mod Exprs
 pub mod Tables
 pub mod Finding
+pub mod Sizing
