@@ -143,15 +143,19 @@ element-within (y ∷ ys) zero x h = omega arith
 element-within (y ∷ ys) (suc i) x h = let l = element-within ys i x h in omega (arith, l)
 
 -- a test of an element decides what holds of the element at its place
-pub element-test : {X : Type 0} (xs : List X) (i : ℕ) (x : X) (wrong : X → Bool) (b : Bool) → i < length xs → x ≡ get_or xs i x → b ≡ not (wrong x)
-    → ((y : X) × (slice_get xs i ≡ Some y) × (wrong y ≡ false) → b ≡ true) × (b ≡ true → (y : X) × (slice_get xs i ≡ Some y) × (wrong y ≡ false))
-element-test xs i x wrong b l is test = (
-  λ h. let f : Some h.0 ≡ Some x = sym h.1 ∙ element-at xs i x l is in
+pub some-test : {X : Type 0} (xs : List X) (i : ℕ) (x : X) (well : X → Bool) (b : Bool) → slice_get xs i ≡ Some x → b ≡ not (well x)
+    → ((y : X) × (slice_get xs i ≡ Some y) × (well y ≡ false) → b ≡ true) × (b ≡ true → (y : X) × (slice_get xs i ≡ Some y) × (well y ≡ false))
+some-test xs i x well b at test = (
+  λ h. let f : Some h.0 ≡ Some x = sym h.1 ∙ at in
       let f' : h.0 ≡ x = cc in
-      test ∙ ap not (ap wrong (sym f') ∙ h.2),
-  λ h. (x, element-at xs i x l is, not-true (wrong x) (sym test ∙ h)),
+      test ∙ ap not (ap well (sym f') ∙ h.2),
+  λ h. (x, at, not-true (well x) (sym test ∙ h)),
 )
   where
     not-true : (c : Bool) → not c ≡ true → c ≡ false
     not-true true h = cc h
     not-true false h = refl
+
+pub element-test : {X : Type 0} (xs : List X) (i : ℕ) (x : X) (well : X → Bool) (b : Bool) → i < length xs → x ≡ get_or xs i x → b ≡ not (well x)
+    → ((y : X) × (slice_get xs i ≡ Some y) × (well y ≡ false) → b ≡ true) × (b ≡ true → (y : X) × (slice_get xs i ≡ Some y) × (well y ≡ false))
+element-test xs i x well b l is test = some-test xs i x well b (element-at xs i x l is) test

@@ -2,3 +2,4 @@ pub mod Exprs
 pub mod Tables
 pub mod Finding
 pub mod Sizing
+pub mod Driving

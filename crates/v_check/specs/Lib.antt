@@ -1,3 +1,4 @@
 pub mod Found
 pub mod Nets
 pub mod Sizes
+pub mod Drivers

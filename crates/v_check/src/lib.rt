@@ -1,6 +1,7 @@
 //! Judging a module that was parsed: its names, drivers and widths, and whether its assignments lead back.
 #![tactic(auto)]
 
+mod drivers;
 mod found;
 mod names;
 mod nets;

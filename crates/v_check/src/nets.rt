@@ -35,7 +35,7 @@ impl Kind {
     ghost use Rattle.v_check.specs.Nets.{kind_seen};
 
     /// Whether the kinds are one.
-    fn is(self, kind: Kind) -> bool
+    pub(crate) fn is(self, kind: Kind) -> bool
         ensures { result ≡ same_kind (kind_seen self) (kind_seen kind) }
     {
         self == kind
