@@ -3,3 +3,4 @@ pub mod Tables
 pub mod Finding
 pub mod Sizing
 pub mod Driving
+pub mod Ranking

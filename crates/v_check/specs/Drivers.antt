@@ -1,5 +1,5 @@
 -- What drives each net of a module that was parsed.
-use Rattle.std.specs.Prelude.{◌≡◌, ℕ, Bool, true, false, not, ◌&&◌, ◌||◌, Option, Some, is_some, List, [], ◌∷◌, take, slice_get}
+use Rattle.std.specs.Prelude.{◌≡◌, ℕ, ◌<◌, Bool, true, false, not, ◌&&◌, ◌||◌, Option, Some, is_some, List, [], ◌∷◌, take, slice_get}
 use Rattle.std.specs.List.{list_any}
 use Rattle.std.specs.Str.{bytes_eq}
 use Rattle.std.specs.HashMap.{get_by}
@@ -34,3 +34,11 @@ IsMisdriven ns ss i = (s : Statement) × (slice_get ss i ≡ Some s) × ((drives
 -- the net of this number is no input and has no driver
 abbrev pub IsUndriven : List Net → Drivers → ℕ → Type 0
 IsUndriven ns drivers i = (n : Net) × (slice_get ns i ≡ Some n) × ((same_kind n.kind Given || is_some (driver_at drivers n.name)) ≡ false)
+
+-- the numbers of drivers are below this
+abbrev pub AreNumbers : Drivers → ℕ → Type 0
+AreNumbers drivers count = (n : List ℕ) (i : ℕ) → driver_at drivers n ≡ Some i → i < count
+
+-- no statement drives a net that has a driver before
+abbrev pub IsSingle : List Statement → Type 0
+IsSingle ss = (i : ℕ) (s : Statement) → slice_get ss i ≡ Some s → list_any (among (all_driven (take i ss))) (driven_by s) ≡ false

@@ -3,7 +3,9 @@
 
 mod drivers;
 mod found;
+mod loops;
 mod names;
 mod nets;
+mod settling;
 mod undeclared;
 mod widths;

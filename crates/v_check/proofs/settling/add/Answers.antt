@@ -1,0 +1,12 @@
+use Rattle.std.proofs.Common.{get_or, ap, ◌∙◌, ◌++◌, ◌∷◌, [], sym}
+use Rattle.std.proofs.Math.ListN.{set}
+use Rattle.v_check.specs.Settling.{lists}
+use Rattle.v_check.proofs.Ranking.{lists-set, list-at}
+use Rattle.v_check.proofs.settling.add.Goals as goal
+
+pub returns : goal.returns
+returns c =
+    let items = c.args.waiting.now.items in
+    lists-set items c.args.thing c.push.new.self
+    ∙ ap (set (lists items) c.args.thing)
+    (c.in_ok-push.ensures.items ∙ ap (λ l. l ++ c.args.waiter ∷ []) (ap (λ v. v.items) c.index_mut.ensures.value ∙ sym (list-at items c.args.thing c.index_mut.result.now c.requires)))

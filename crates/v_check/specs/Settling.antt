@@ -1,0 +1,75 @@
+-- Numbered things, each of which needs others: their ranks, and which of them never get one.
+use Rattle.std.specs.Prelude.{◌≡◌, ℕ, ◌+◌, ◌<◌, ◌≤◌, ◌⊎◌, is_some, Option, Some, None, List, [], length, map, count_by, slice_get, slice_index_or, Vec}
+use Rattle.std.specs.Global.{Global}
+use Rattle.std.specs.Option.{option_map_or}
+use Rattle.v_check.specs.declared.settling.Settling.{Settling}
+use Rattle.v_check.specs.declared.settling.Waiter.{Waiter}
+
+-- lists of lists, and the list of a number
+abbrev pub lists : {X : Type 0} → List (Vec X Global) → List (List X)
+lists vs = map (λ v. v.items) vs
+
+abbrev pub list_at : {X : Type 0} → List (Vec X Global) → ℕ → List X
+list_at vs i = slice_index_or (lists vs) i []
+
+-- the need of a thing at a place, and the waiter at a place among those of a thing
+abbrev pub need_at : List (Vec ℕ Global) → ℕ → ℕ → Option ℕ
+need_at needs i k = slice_get (list_at needs i) k
+
+abbrev pub waiter_at : List (Vec Waiter Global) → ℕ → ℕ → Option Waiter
+waiter_at waiting j m = slice_get (list_at waiting j) m
+
+-- the rank of a thing
+abbrev pub rank_at : List (Option ℕ) → ℕ → Option ℕ
+rank_at ranks i = slice_index_or ranks i None
+
+-- the thing has a rank
+abbrev pub IsSettled : List (Option ℕ) → ℕ → Type 0
+IsSettled ranks i = (r : ℕ) × (rank_at ranks i ≡ Some r)
+
+-- the need at a place is the first that is not settled, from another place on, and this is the place behind it
+pub record StopsAt (ranks : List (Option ℕ)) (needs : List ℕ) (from need next : ℕ) : Type 0 where
+  pub place : ℕ
+  pub at : slice_get needs place ≡ Some need
+  pub behind : next ≡ place + 1
+  pub unsettled : rank_at ranks need ≡ None
+  pub before : (i j : ℕ) → from ≤ i → i < place → slice_get needs i ≡ Some j → IsSettled ranks j
+
+-- each need is a thing
+abbrev pub AreWithin : List (Vec ℕ Global) → Type 0
+AreWithin needs = (i k j : ℕ) → need_at needs i k ≡ Some j → j < length needs
+
+-- each thing that has a rank needs things of lower ranks, and each other needs one without a rank
+pub record AreRanks (needs : List (Vec ℕ Global)) (ranks : List (Option ℕ)) : Type 0 where
+  pub sized : length ranks ≡ length needs
+  pub rises : (i r k j : ℕ) → rank_at ranks i ≡ Some r → need_at needs i k ≡ Some j → (q : ℕ) × (rank_at ranks j ≡ Some q) × (q < r)
+  pub stays : (i : ℕ) → i < length needs → rank_at ranks i ≡ None → (k : ℕ) × (j : ℕ) × (need_at needs i k ≡ Some j) × (rank_at ranks j ≡ None)
+
+-- the ranks are places in the order, and what waits for a thing has its earlier needs settled
+pub record IsSound (needs : List (Vec ℕ Global)) (s : Settling) : Type 0 where
+  pub ranked : length s.ranks.items ≡ length needs
+  pub waited : length s.waiting.items ≡ length needs
+  pub counted : count_by is_some s.ranks.items ≡ length s.order.items
+  pub ordered : (i r : ℕ) → rank_at s.ranks.items i ≡ Some r → slice_get s.order.items r ≡ Some i
+  pub settled : (r i : ℕ) → slice_get s.order.items r ≡ Some i → (i < length needs) × (rank_at s.ranks.items i ≡ Some r)
+  pub rises : (i r k j : ℕ) → rank_at s.ranks.items i ≡ Some r → need_at needs i k ≡ Some j → (q : ℕ) × (rank_at s.ranks.items j ≡ Some q) × (q < r)
+  pub ready : (j m : ℕ) (w : Waiter) → waiter_at s.waiting.items j m ≡ Some w
+      → (w.by < length needs) × ((k h : ℕ) → k < w.next → need_at needs w.by k ≡ Some h → (h ≡ j) ⊎ IsSettled s.ranks.items h)
+
+-- the thing waits for one that is not among the first of the order
+abbrev pub Waits : List (Vec ℕ Global) → Settling → (done : ℕ) → ℕ → Type 0
+Waits needs s done i = (k : ℕ) × (j : ℕ) × (m : ℕ) × (w : Waiter) × (need_at needs i k ≡ Some j) × (waiter_at s.waiting.items j m ≡ Some w) × (w.by ≡ i)
+    × ((r : ℕ) → rank_at s.ranks.items j ≡ Some r → done ≤ r)
+
+-- each thing without a rank waits so
+abbrev pub AllWait : List (Vec ℕ Global) → Settling → (done : ℕ) → Type 0
+AllWait needs s done = (i : ℕ) → i < length needs → rank_at s.ranks.items i ≡ None → Waits needs s done i
+
+-- what is settled or waits stays so, new ranks are behind the order, and this thing is settled or waits for one that is not
+pub record Advances (needs : List (Vec ℕ Global)) (old new : Settling) (by : ℕ) : Type 0 where
+  pub keeps : (i r : ℕ) → rank_at old.ranks.items i ≡ Some r → rank_at new.ranks.items i ≡ Some r
+  pub waits : (j m : ℕ) (w : Waiter) → waiter_at old.waiting.items j m ≡ Some w → waiter_at new.waiting.items j m ≡ Some w
+  pub behind : (i r : ℕ) → rank_at new.ranks.items i ≡ Some r → (rank_at old.ranks.items i ≡ Some r) ⊎ (length old.order.items ≤ r)
+  pub longer : length old.order.items ≤ length new.order.items
+  pub acts : IsSettled new.ranks.items by
+      ⊎ ((k : ℕ) × (j : ℕ) × (m : ℕ) × (w : Waiter) × (need_at needs by k ≡ Some j) × (waiter_at new.waiting.items j m ≡ Some w) × (w.by ≡ by) × (rank_at new.ranks.items j ≡ None))
