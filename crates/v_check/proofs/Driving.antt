@@ -99,7 +99,7 @@ front_last [] i x h = cc h
 front_last (y ∷ ys) zero x h = h
 front_last (y ∷ ys) (suc i) x h = front_last ys i x h
 
-any-append : {A : Type 0} (p : A → Bool) (xs ys : List A) → list_any p (xs ++ ys) ≡ (list_any p xs || list_any p ys)
+pub any-append : {A : Type 0} (p : A → Bool) (xs ys : List A) → list_any p (xs ++ ys) ≡ (list_any p xs || list_any p ys)
 any-append p [] ys = refl
 any-append p (x ∷ xs) ys = go (p x) (any-append p xs ys)
   where

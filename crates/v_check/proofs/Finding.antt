@@ -11,10 +11,10 @@ use Rattle.v_check.specs.Sizes.{stmt_places}
 use Rattle.v_check.specs.Nets.{IsUndeclared, is_unknown, numbers, token_places}
 use Rattle.v_check.specs.Found.{noted, IsLeast, Finds, Stands, StandsBefore}
 
-le-true : (a b : ℕ) → nat_le a b ≡ true → a ≤ b
+pub le-true : (a b : ℕ) → nat_le a b ≡ true → a ≤ b
 le-true a b h = grind (arith, nat_tests)
 
-le-false : (a b : ℕ) → nat_le a b ≡ false → b < a
+pub le-false : (a b : ℕ) → nat_le a b ≡ false → b < a
 le-false a b h = grind (arith, nat_tests)
 
 -- one more place is judged
@@ -159,3 +159,7 @@ some-test xs i x well b at test = (
 pub element-test : {X : Type 0} (xs : List X) (i : ℕ) (x : X) (well : X → Bool) (b : Bool) → i < length xs → x ≡ get_or xs i x → b ≡ not (well x)
     → ((y : X) × (slice_get xs i ≡ Some y) × (well y ≡ false) → b ≡ true) × (b ≡ true → (y : X) × (slice_get xs i ≡ Some y) × (well y ≡ false))
 element-test xs i x well b l is test = some-test xs i x well b (element-at xs i x l is) test
+
+-- other facts of the same things
+pub finds_stands : (F G : ℕ → Type 0) (places : List ℕ) (r : Option Place) → ((i : ℕ) → F i → G i) → ((i : ℕ) → G i → F i) → Finds (Stands F places) r → Finds (Stands G places) r
+finds_stands F G places r f g h = finds_as (Stands F places) (Stands G places) r (λ k q. (q.0, f q.0 q.1, q.2)) (λ k q. (q.0, g q.0 q.1, q.2)) h

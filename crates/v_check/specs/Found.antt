@@ -25,3 +25,8 @@ Stands F places k = (i : ℕ) × F i × (k ≡ slice_index places i)
 -- the same, of a thing with a lower number than this
 abbrev pub StandsBefore : (ℕ → Type 0) → (places : List ℕ) → (end : ℕ) → ℕ → Type 0
 StandsBefore F places end k = (i : ℕ) × (i < end) × F i × (k ≡ slice_index places i)
+
+-- the lesser of two places
+abbrev pub either_found : Option Place → Option Place → Option Place
+either_found one None = one
+either_found one (Some place) = noted one true place

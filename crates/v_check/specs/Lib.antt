@@ -4,3 +4,4 @@ pub mod Sizes
 pub mod Drivers
 pub mod Settling
 pub mod Loops
+pub mod Judged

@@ -1,7 +1,7 @@
 //! The least place of a problem.
 
 ghost use Rattle.std.specs.Prelude.{◌≡◌};
-ghost use Rattle.v_check.specs.Found.{noted};
+ghost use Rattle.v_check.specs.Found.{either_found, noted};
 
 use rb_base::Place;
 
@@ -21,5 +21,15 @@ pub(crate) fn note(found: Option<Place>, wrong: bool, place: Place) -> Option<Pl
             }
         }
         None => Some(place),
+    }
+}
+
+/// The lesser of two places.
+pub(crate) fn either(one: Option<Place>, other: Option<Place>) -> Option<Place>
+    ensures { result ≡ either_found one other }
+{
+    match other {
+        Some(place) => note(one, true, place),
+        None => one,
     }
 }

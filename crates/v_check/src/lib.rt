@@ -1,6 +1,7 @@
 //! Judging a module that was parsed: its names, drivers and widths, and whether its assignments lead back.
 #![tactic(auto)]
 
+mod judging;
 mod drivers;
 mod found;
 mod loops;
@@ -9,3 +10,5 @@ mod nets;
 mod settling;
 mod undeclared;
 mod widths;
+
+pub use judging::check;

@@ -5,4 +5,4 @@ use Rattle.v_check.specs.Nets.{texts}
 use Rattle.v_check.proofs.loops.needs_of.Given as goal
 
 abbrev pub invariant-loop-name : goal.invariant-loop-name
-invariant-loop-name l = l.needs.items ≡ numbers_of (driver_at l.drivers) (texts (take l.name-index l.names.items))
+invariant-loop-name l = l.needs.items ≡ numbers_of (driver_at l.drivers) (texts (take l.name-index l.name-items))

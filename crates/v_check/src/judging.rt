@@ -1,0 +1,71 @@
+//! The first problem of a module.
+
+ghost use Rattle.std.specs.Prelude.{◌≡◌, ◌⊎◌, IfErr, IfOk, OnOk};
+ghost use Rattle.v_design.specs.Tree.{Tree};
+ghost use Rattle.v_design.specs.WellFormed.{IsWellFormed};
+ghost use Rattle.v_syntax.specs.Failing.{FailsIn};
+ghost use Rattle.v_syntax.specs.Syntax.{IsSyntax};
+ghost use Rattle.v_syntax.specs.Tokens.{placed};
+ghost use Rattle.v_check.specs.Judged.{Judged};
+
+use crate::drivers::{misdriven, undriven};
+use crate::found::either;
+use crate::loops::looping;
+use crate::nets::{declare, nets_of};
+use crate::undeclared::undeclared;
+use crate::widths::misfit;
+use rb_base::NoMemory;
+use std::alloc::Global;
+use v_syntax::{Parsed, VError, VToken};
+
+/// The first problem of a module, if it has one.
+fn judge<'s>(
+    alloc: Global,
+    tokens: &[VToken<'s>],
+    parsed: &Parsed<'s>,
+) -> Result<Option<VError>, NoMemory>
+    requires { (t : Tree) × IsSyntax (placed tokens.now) parsed.now t }
+    ensures { IfOk result (λ r. (t : Tree) → IsSyntax (placed tokens.now) parsed.now t → Judged t (placed tokens.now) r) }
+{
+    let nets = nets_of(alloc, &parsed.ports, &parsed.decls)?;
+    let (table, twice) = declare(alloc, &nets, &parsed.declared)?;
+    if let Some(place) = twice {
+        return Ok(Some(VError::Twice { place }));
+    }
+    if let Some(place) = undeclared(&table, tokens, parsed.before) {
+        return Ok(Some(VError::Undeclared { place }));
+    }
+    let (drivers, wrong) = misdriven(alloc, &table, &parsed.stmts, &parsed.events)?;
+    if let Some(place) = either(wrong, undriven(&drivers, &nets, &parsed.declared)) {
+        return Ok(Some(VError::Driver { place }));
+    }
+    if let Some(place) = misfit(&table, &parsed.stmts) {
+        return Ok(Some(VError::Width { place }));
+    }
+    if let Some(place) = looping(alloc, &drivers, &parsed.stmts)? {
+        return Ok(Some(VError::Loop { place }));
+    }
+    Ok(None)
+}
+
+/// Judges a module that was parsed: whether it is well-formed, and else its first problem (this project's rules).
+///
+/// `Twice`, `Undeclared`, `Driver`, `Width` and `Loop` are judged in this order, each where those before it do not fail,
+/// and answered at its least place. `NoMemory` comes for want of memory alone. Takes time in proportion to the size of
+/// the module, and stack in proportion to the nesting of its expressions.
+pub fn check<'s>(
+    alloc: Global,
+    tokens: &[VToken<'s>],
+    parsed: &Parsed<'s>,
+) -> Result<(), VError>
+    requires { (t : Tree) × IsSyntax (placed tokens.now) parsed.now t }
+    ensures ok { OnOk result ((t : Tree) → IsSyntax (placed tokens.now) parsed.now t → IsWellFormed t) }
+    ensures err { IfErr result (λ e. (e ≡ VError.NoMemory)
+        ⊎ ((t : Tree) → IsSyntax (placed tokens.now) parsed.now t → FailsIn t (placed tokens.now) e)) }
+{
+    match judge(alloc, tokens, parsed) {
+        Ok(None) => Ok(()),
+        Ok(Some(problem)) => Err(problem),
+        Err(NoMemory) => Err(VError::NoMemory),
+    }
+}
