@@ -46,21 +46,21 @@ or-false-both false b h = (refl, h)
 
 -- the lesser of what two searches find
 pub finds_either : (P Q : ℕ → Type 0) (r q : Option Place) → Finds P r → Finds Q q → Finds (λ k. P k ⊎ Q k) (either_found r q)
-finds_either P Q r None h k = finds_as P (λ k. P k ⊎ Q k) r (λ k p. inl p) (λ k p. elim p [ | inl x ↦ x | inr x ↦ absurd (k k x) ]) h
+finds_either P Q r None h g = finds_as P (λ k. P k ⊎ Q k) r (λ k p. inl p) (λ k p. elim p [ inl x ↦ x | inr x ↦ absurd (g k x) ]) h
 finds_either P Q None (Some p) h k = record {
   at = inr k.at;
-  least = λ j e. elim e [ | inl x ↦ absurd (h j x) | inr x ↦ k.least j x ];
+  least = λ j e. elim e [ inl x ↦ absurd (h j x) | inr x ↦ k.least j x ];
 }
 finds_either P Q (Some e) (Some p) h k = go (nat_le e.0 p.0) refl
   where
     go : (b : Bool) → nat_le e.0 p.0 ≡ b → Finds (λ k. P k ⊎ Q k) (if b then Some e else Some p)
     go true t = let l = le-true e.0 p.0 t in record {
       at = inl h.at;
-      least = λ j x. elim x [ | inl y ↦ h.least j y | inr y ↦ let m = k.least j y in omega (arith, l, m) ];
+      least = λ j x. elim x [ inl y ↦ h.least j y | inr y ↦ let m = k.least j y in omega (arith, l, m) ];
     }
     go false t = let l = le-false e.0 p.0 t in record {
       at = inr k.at;
-      least = λ j x. elim x [ | inl y ↦ let m = h.least j y in omega (arith, l, m) | inr y ↦ k.least j y ];
+      least = λ j x. elim x [ inl y ↦ let m = h.least j y in omega (arith, l, m) | inr y ↦ k.least j y ];
     }
 
 module _ (t : Tree) (ts : List (At Token)) where
@@ -76,7 +76,7 @@ module _ (t : Tree) (ts : List (At Token)) where
   IsDriver drivers k = Stands (IsMisdriven (nets t) t.stmts) (statement_places t ts) k ⊎ Stands (IsUndriven (nets t) drivers) (declared_places t ts) k
 
   faulty-driver : (drivers : Drivers) → AreDrivers drivers t.stmts → (k : ℕ) → Faulty t ts Driver k → IsDriver drivers k
-  faulty-driver drivers d _ (drives_badly i s at bad) = inl (i, (s, at, ap (λ b. b && _) bad), refl)
+  faulty-driver drivers d _ (drives_badly i s at bad) = inl (i, (s, at, ap (λ b. b && not (list_any (among (all_driven (take i t.stmts))) (driven_by s))) bad), refl)
   faulty-driver drivers d _ (second_driver i s at second) = inl (i, (s, at, ap (λ b. drives_well (nets t) s && not b) second ∙ and-last (drives_well (nets t) s)), refl)
     where
       and-last : (b : Bool) → (b && false) ≡ false
@@ -119,13 +119,13 @@ module _ (t : Tree) (ts : List (At Token)) where
           let (n, name, none) = unknown-name (names (nets t)) a.token unknown in
           subst (Faulty t ts Undeclared) (sym (is ∙ token-place-at ts i a at)) (undeclared i a n low at name none)
 
-  pub driver-found : (drivers : Drivers) (ns : List Net) (stmt_at net_at : List ℕ) (r q : Option Place) → AreDrivers drivers t.stmts → ns ≡ nets t → stmt_at ≡ statement_places t ts → net_at ≡ declared_places t ts
-      → Finds (Stands (IsMisdriven ns t.stmts) stmt_at) r → Finds (Stands (IsUndriven ns drivers) net_at) q → Finds (Faulty t ts Driver) (either_found r q)
-  driver-found drivers ns stmt_at net_at r q d is at places h k =
+  pub driver-found : (drivers : Drivers) (ns os : List Net) (stmt_at net_at : List ℕ) (r q : Option Place) → AreDrivers drivers t.stmts → ns ≡ nets t → os ≡ nets t → stmt_at ≡ statement_places t ts → net_at ≡ declared_places t ts
+      → Finds (Stands (IsMisdriven ns t.stmts) stmt_at) r → Finds (Stands (IsUndriven os drivers) net_at) q → Finds (Faulty t ts Driver) (either_found r q)
+  driver-found drivers ns os stmt_at net_at r q d is other at places h k =
       finds_as (IsDriver drivers) (Faulty t ts Driver) (either_found r q) (driver-faulty drivers d) (faulty-driver drivers d)
       (finds_either (Stands (IsMisdriven (nets t) t.stmts) (statement_places t ts)) (Stands (IsUndriven (nets t) drivers) (declared_places t ts)) r q
       (subst (λ ms. Finds (Stands (IsMisdriven ms t.stmts) (statement_places t ts)) r) is (subst (λ ps. Finds (Stands (IsMisdriven ns t.stmts) ps) r) at h))
-      (subst (λ ms. Finds (Stands (IsUndriven ms drivers) (declared_places t ts)) q) is (subst (λ ps. Finds (Stands (IsUndriven ns drivers) ps) q) places k)))
+      (subst (λ ms. Finds (Stands (IsUndriven ms drivers) (declared_places t ts)) q) other (subst (λ ps. Finds (Stands (IsUndriven os drivers) ps) q) places k)))
 
   pub width-found : (places : List ℕ) (r : Option Place) → places ≡ statement_places t ts → Finds (Stands IsUnfit places) r → Finds (Faulty t ts Width) r
   width-found places r at h =

@@ -20,25 +20,25 @@ le-false a b h = grind (arith, nat_tests)
 -- one more place is judged
 pub note_finds : (P Q : ℕ → Type 0) (r : Option Place) (b : Bool) (p : Place) → Finds P r → (b ≡ true → Q p.0) → ((k : ℕ) → P k → Q k) → ((k : ℕ) → Q k → P k ⊎ ((b ≡ true) × (k ≡ p.0)))
     → Finds Q (noted r b p)
-note_finds P Q None false p h here old all = λ k q. elim (all k q) [ | inl x ↦ h k x | inr x ↦ cc x.0 ]
+note_finds P Q None false p h here old all = λ k q. elim (all k q) [ inl x ↦ h k x | inr x ↦ cc x.0 ]
 note_finds P Q (Some e) false p h here old all = record {
   at = old e.0 h.at;
-  least = λ k q. elim (all k q) [ | inl x ↦ h.least k x | inr x ↦ cc x.0 ];
+  least = λ k q. elim (all k q) [ inl x ↦ h.least k x | inr x ↦ cc x.0 ];
 }
 note_finds P Q None true p h here old all = record {
   at = here refl;
-  least = λ k q. elim (all k q) [ | inl x ↦ absurd (h k x) | inr x ↦ omega (arith, x.1) ];
+  least = λ k q. elim (all k q) [ inl x ↦ absurd (h k x) | inr x ↦ omega (arith, x.1) ];
 }
 note_finds P Q (Some e) true p h here old all = go (nat_le e.0 p.0) refl
   where
     go : (c : Bool) → nat_le e.0 p.0 ≡ c → Finds Q (if c then Some e else Some p)
     go true t = let le = le-true e.0 p.0 t in record {
       at = old e.0 h.at;
-      least = λ k q. elim (all k q) [ | inl x ↦ h.least k x | inr x ↦ omega (arith, le, x.1) ];
+      least = λ k q. elim (all k q) [ inl x ↦ h.least k x | inr x ↦ omega (arith, le, x.1) ];
     }
     go false t = let lt = le-false e.0 p.0 t in record {
       at = here refl;
-      least = λ k q. elim (all k q) [ | inl x ↦ let l = h.least k x in omega (arith, lt, l) | inr x ↦ omega (arith, x.1) ];
+      least = λ k q. elim (all k q) [ inl x ↦ let l = h.least k x in omega (arith, lt, l) | inr x ↦ omega (arith, x.1) ];
     }
 
 -- the same facts at the same places
@@ -57,8 +57,8 @@ module _ (F : ℕ → Type 0) (places : List ℕ) where
   finds_more P r b p i at test h =
       note_finds (λ k. P k ⊎ StandsBefore F places i k) (λ k. P k ⊎ StandsBefore F places (i + 1) k) r b p h
       (λ e. inr (i, omega arith, test.1 e, at))
-      (λ k q. elim q [ | inl x ↦ inl x | inr x ↦ inr (x.0, (let l = x.1 in omega (arith, l)), x.2, x.3) ])
-      (λ k q. elim q [ | inl x ↦ inl (inl x) | inr x ↦ step k x ])
+      (λ k q. elim q [ inl x ↦ inl x | inr x ↦ inr (x.0, (let l = x.1 in omega (arith, l)), x.2, x.3) ])
+      (λ k q. elim q [ inl x ↦ inl (inl x) | inr x ↦ step k x ])
     where
       step : (k : ℕ) → StandsBefore F places (i + 1) k → (P k ⊎ StandsBefore F places i k) ⊎ ((b ≡ true) × (k ≡ p.0))
       step k x = go (nat_le i x.0) refl
@@ -70,8 +70,8 @@ module _ (F : ℕ → Type 0) (places : List ℕ) where
   pub finds_step : (r : Option Place) (b : Bool) (p : Place) (i : ℕ) → p.0 ≡ get_or places i 0 → (F i → b ≡ true) × (b ≡ true → F i)
       → Finds (StandsBefore F places i) r → Finds (StandsBefore F places (i + 1)) (noted r b p)
   finds_step r b p i at test h =
-      finds_as (λ k. ⊥ ⊎ StandsBefore F places (i + 1) k) (StandsBefore F places (i + 1)) (noted r b p) (λ k q. elim q [ | inl x ↦ absurd x | inr x ↦ x ]) (λ k q. inr q)
-      (finds_more (λ k. ⊥) r b p i at test (finds_as (StandsBefore F places i) (λ k. ⊥ ⊎ StandsBefore F places i k) r (λ k q. inr q) (λ k q. elim q [ | inl x ↦ absurd x | inr x ↦ x ]) h))
+      finds_as (λ k. ⊥ ⊎ StandsBefore F places (i + 1) k) (StandsBefore F places (i + 1)) (noted r b p) (λ k q. elim q [ inl x ↦ absurd x | inr x ↦ x ]) (λ k q. inr q)
+      (finds_more (λ k. ⊥) r b p i at test (finds_as (StandsBefore F places i) (λ k. ⊥ ⊎ StandsBefore F places i k) r (λ k q. inr q) (λ k q. elim q [ inl x ↦ absurd x | inr x ↦ x ]) h))
 
   -- the same, where the result is known by an equation
   pub finds_next : (r r' : Option Place) (b : Bool) (p : Place) (i : ℕ) → r' ≡ noted r b p → p.0 ≡ get_or places i 0 → (F i → b ≡ true) × (b ≡ true → F i)

@@ -7,3 +7,6 @@ pub mod Ranking
 pub mod Looping
 pub mod Spelled
 pub mod Faults
+pub mod Capping
+pub mod Forming
+pub mod Parts

@@ -140,13 +140,13 @@ same-count (x ∷ xs) (e ∷ es) [] h = absurd h
 same-count (x ∷ xs) (e ∷ es) (t ∷ ts) h = ap suc (same-count xs es ts h.1)
 
 -- an assignment that is fed
-feeds-assign : (from to : List ℕ) (s : Statement) → feeds from to s ≡ true → (x : List ℕ) × (e : Term) × (s ≡ Assign x e) × (x ≡ to) × (among (nets_of (expr_of e)) from ≡ true)
+pub feeds-assign : (from to : List ℕ) (s : Statement) → feeds from to s ≡ true → (x : List ℕ) × (e : Term) × (s ≡ Assign x e) × (x ≡ to) × (among (nets_of (expr_of e)) from ≡ true)
 feeds-assign from to (Assign x e) h = (x, e, refl, same-true x to (and-left (bytes_eq x to) (among (nets_of (expr_of e)) from) h), and-right (bytes_eq x to) (among (nets_of (expr_of e)) from) h)
 feeds-assign from to (Clocked c x e) h = cc h
 feeds-assign from to (Resettable c low reset negated test x width value again e) h = cc h
 
 only : (x n : List ℕ) → among (x ∷ []) n ≡ true → x ≡ n
-only x n h = elim (or_cases (bytes_eq x n) false h) [ | inl e ↦ same-true x n e | inr e ↦ cc e ]
+only x n h = elim (or_cases (bytes_eq x n) false h) [ inl e ↦ same-true x n e | inr e ↦ cc e ]
 
 drives-own : (to : List ℕ) → among (to ∷ []) to ≡ true
 drives-own to = or-left (bytes_eq to to) false (same-refl to)
@@ -162,7 +162,7 @@ module _ (drivers : Drivers) (stmts : List Stmt) (events : List Event) (ss : Lis
   one-driver : (i j : ℕ) (s t : Statement) (n : List ℕ) → slice_get ss i ≡ Some s → slice_get ss j ≡ Some t → among (driven_by s) n ≡ true → among (driven_by t) n ≡ true → i ≡ j
   one-driver i j s t n a b p q = elim (cases_lt i j) [
     | inl l ↦ absurd (earlier i j s t n a b p q l)
-    | inr l ↦ elim (cases_lt j i) [ | inl m ↦ absurd (earlier j i t s n b a q p m) | inr m ↦ omega (arith, l, m) ]
+    | inr l ↦ elim (cases_lt j i) [ inl m ↦ absurd (earlier j i t s n b a q p m) | inr m ↦ omega (arith, l, m) ]
   ]
 
   -- and that has its number

@@ -48,7 +48,7 @@ get-pushed : {X : Type 0} (xs : List X) (w x : X) (m : ℕ) → slice_get (xs ++
 get-pushed [] w x zero h = inr (refl, cc)
 get-pushed [] w x (suc m) h = cc h
 get-pushed (y ∷ xs) w x zero h = inl h
-get-pushed (y ∷ xs) w x (suc m) h = elim (get-pushed xs w x m h) [ | inl p ↦ inl p | inr p ↦ inr (ap suc p.0, p.1) ]
+get-pushed (y ∷ xs) w x (suc m) h = elim (get-pushed xs w x m h) [ inl p ↦ inl p | inr p ↦ inr (ap suc p.0, p.1) ]
 
 -- one element more behind the list at one place
 module _ {X : Type 0} (old new : List (List X)) (t : ℕ) (w : X) (within : t < length old) (is : new ≡ set old t (get_or old t [] ++ w ∷ [])) where
@@ -113,7 +113,7 @@ module _ (needs : List (Vec ℕ Global)) (old new : Settling) (by from need next
       ]
     where
       early : (k h : ℕ) → k < stop.place → need_at needs by k ≡ Some h → IsSettled old.ranks.items h
-      early k h l at = elim (below k from) [ | inl b ↦ before k h b at | inr b ↦ stop.before k h b l at ]
+      early k h l at = elim (below k from) [ inl b ↦ before k h b at | inr b ↦ stop.before k h b l at ]
         where
           below : (a b : ℕ) → (a < b) ⊎ (b ≤ a)
           below a b = go (cases_lt a b)
@@ -130,7 +130,7 @@ module _ (needs : List (Vec ℕ Global)) (old new : Settling) (by from need next
     settled = λ r i e. let p = sound.settled r i (ap (λ v. slice_get v.items r) (sym order) ∙ e) in (p.0, same_rank i ∙ p.1);
     rises = λ i r k j e f. let p = sound.rises i r k j (sym (same_rank i) ∙ e) f in (p.0, same_rank j ∙ p.1, p.2);
     ready = λ j m x e. elim (pushed-cases (lists old.waiting.items) (lists new.waiting.items) need w in_lists waiting j m x e) [
-      | inl p ↦ let q = sound.ready j m x p in (q.0, λ k h l f. elim (q.1 k h l f) [ | inl y ↦ inl y | inr y ↦ inr (settled_still h y) ])
+      | inl p ↦ let q = sound.ready j m x p in (q.0, λ k h l f. elim (q.1 k h l f) [ inl y ↦ inl y | inr y ↦ inr (settled_still h y) ])
       | inr p ↦ (
         let a : x.by ≡ w.by = ap (λ y. y.by) p.1 in omega (arith, a, w_by, within),
         λ k h l f. elim (ready_need k h (let b : x.next ≡ w.next = ap (λ y. y.next) p.1 in omega (arith, b, l)) (ap (λ y. need_at needs y.by k) (sym p.1) ∙ f)) [
@@ -211,14 +211,14 @@ module _ (needs : List (Vec ℕ Global)) (old new : Settling) (by : ℕ) (sound 
           (q.0, still j q.0 q.1, omega (arith, low, top))
     ];
     ready = λ j m x e. let q = sound.ready j m x (ap (λ v. waiter_at v.items j m) (sym waiting) ∙ e) in
-        (q.0, λ k h l f. elim (q.1 k h l f) [ | inl y ↦ inl y | inr y ↦ inr (settled_yet h y) ]);
+        (q.0, λ k h l f. elim (q.1 k h l f) [ inl y ↦ inl y | inr y ↦ inr (settled_yet h y) ]);
   }
 
   pub advances-ranked : Advances needs old new by
   advances-ranked = record {
     keeps = still;
     waits = λ j m x e. ap (λ v. waiter_at v.items j m) waiting ∙ e;
-    behind = λ i r e. elim (rank_cases i r e) [ | inl p ↦ inl p | inr p ↦ inr (let a = p.1 in omega (arith, a)) ];
+    behind = λ i r e. elim (rank_cases i r e) [ inl p ↦ inl p | inr p ↦ inr (let a = p.1 in omega (arith, a)) ];
     longer = (let a = length-append old.order.items (by ∷ []) in let b = ap length order in omega (arith, a, b));
     acts = inl (length old.order.items, rank_here);
   }
@@ -277,8 +277,14 @@ module _ (needs : List (Vec ℕ Global)) (old new : Settling) (by : ℕ) (h : Ad
 
   pub waits-still : (done i : ℕ) → done ≤ length old.order.items → Waits needs old done i → Waits needs new done i
   waits-still done i low (k, j, m, w, at, there, is, late) = (
-    k, j, m, w, at, h.waits j m w there, is,
-    λ r e. elim (h.behind j r e) [ | inl p ↦ late r p | inr l ↦ omega (arith, l, low) ],
+    k,
+    j,
+    m,
+    w,
+    at,
+    h.waits j m w there,
+    is,
+    λ r e. elim (h.behind j r e) [ inl p ↦ late r p | inr l ↦ omega (arith, l, low) ],
   )
 
   pub waits-here : (done : ℕ) → rank_at new.ranks.items by ≡ None → Waits needs new done by
@@ -301,7 +307,7 @@ begun-more needs old new by h held i l free = elim (held i l (unranked-before ne
 ]
 
 pub begun-all : (needs : List (Vec ℕ Global)) (s : Settling) (n : ℕ) → length needs ≤ n → BegunBefore needs s n → AllWait needs s 0
-begun-all needs s n l h i low free = elim (h i low free) [ | inl m ↦ absurd (omega (arith, l, low, m)) | inr w ↦ w ]
+begun-all needs s n l h i low free = elim (h i low free) [ inl m ↦ absurd (omega (arith, l, low, m)) | inr w ↦ w ]
 
 -- the things that wait, where those that wait for one thing from a place on are yet to go on
 abbrev pub ReleasedBefore : List (Vec ℕ Global) → Settling → (done thing count : ℕ) → ℕ → Type 0
@@ -341,7 +347,7 @@ released-more needs old new done thing count n w h at low held i l free = elim (
 ]
 
 pub released-all : (needs : List (Vec ℕ Global)) (s : Settling) (done thing count n : ℕ) → count ≤ n → ReleasedBefore needs s done thing count n → AllWait needs s (done + 1)
-released-all needs s done thing count n l h i low free = elim (h i low free) [ | inl (m, x, from, to, there, by) ↦ absurd (omega (arith, l, from, to)) | inr w ↦ w ]
+released-all needs s done thing count n l h i low free = elim (h i low free) [ inl (m, x, from, to, there, by) ↦ absurd (omega (arith, l, from, to)) | inr w ↦ w ]
 
 -- the earlier needs of one that waits for a settled thing are settled
 pub ready-before : (needs : List (Vec ℕ Global)) (s : Settling) (thing m done : ℕ) (w : Waiter) → IsSound needs s → waiter_at s.waiting.items thing m ≡ Some w → rank_at s.ranks.items thing ≡ Some done
@@ -371,9 +377,9 @@ ranks-settled needs s done sound past h = record {
         free : (o : Option ℕ) → rank_at s.ranks.items j ≡ o → rank_at s.ranks.items j ≡ None
         free None e = e
         free (Some r) e = absurd (
-          let a = late r e in let b = get-within s.order.items r j (sound.ordered j r e) in let c = count_by-le-length is_some s.ranks.items in let d = sound.counted in let f = sound.ranked in
-          omega (arith, a, b, c, d, f, past)
-        )
+            let a = late r e in let b = get-within s.order.items r j (sound.ordered j r e) in let c = count_by-le-length is_some s.ranks.items in let d = sound.counted in let f = sound.ranked in
+            omega (arith, a, b, c, d, f, past)
+            )
 
 pub sound-new : (needs : List (Vec ℕ Global)) (s : Settling) → ((i : ℕ) → rank_at s.ranks.items i ≡ None) → length s.ranks.items ≡ length needs → s.order.items ≡ [] → ((i : ℕ) → list_at s.waiting.items i ≡ []) → length s.waiting.items ≡ length needs
     → IsSound needs s

@@ -53,11 +53,7 @@ fn judge<'s>(
 /// `Twice`, `Undeclared`, `Driver`, `Width` and `Loop` are judged in this order, each where those before it do not fail,
 /// and answered at its least place. `NoMemory` comes for want of memory alone. Takes time in proportion to the size of
 /// the module, and stack in proportion to the nesting of its expressions.
-pub fn check<'s>(
-    alloc: Global,
-    tokens: &[VToken<'s>],
-    parsed: &Parsed<'s>,
-) -> Result<(), VError>
+pub fn check<'s>(alloc: Global, tokens: &[VToken<'s>], parsed: &Parsed<'s>) -> Result<(), VError>
     requires { (t : Tree) × IsSyntax (placed tokens.now) parsed.now t }
     ensures ok { OnOk result ((t : Tree) → IsSyntax (placed tokens.now) parsed.now t → IsWellFormed t) }
     ensures err { IfErr result (λ e. (e ≡ VError.NoMemory)

@@ -37,7 +37,11 @@ fn needs_of(alloc: Global, drivers: &Drivers, stmt: &Stmt) -> Result<Vec<usize>,
     Ok(needs)
 }
 
-fn needs_of_each(alloc: Global, drivers: &Drivers, stmts: &[Stmt]) -> Result<Vec<Vec<usize>>, NoMemory>
+fn needs_of_each(
+    alloc: Global,
+    drivers: &Drivers,
+    stmts: &[Stmt],
+) -> Result<Vec<Vec<usize>>, NoMemory>
     ensures { IfOk result (λ r. lists r.items ≡ all_needs (driver_at drivers.now) stmts.now) }
 {
     let mut needs = Vec::new(alloc);
@@ -60,7 +64,11 @@ fn unranked(ranks: &[Option<usize>], stmts: &[Stmt]) -> Option<Place>
 
 /// The least place of an assignment from whose net one can go on for ever, from a net to one that its assignment reads.
 /// Takes time in proportion to the size of the statements, and no stack in proportion to a chain of them.
-pub(crate) fn looping(alloc: Global, drivers: &Drivers, stmts: &[Stmt]) -> Result<Option<Place>, NoMemory>
+pub(crate) fn looping(
+    alloc: Global,
+    drivers: &Drivers,
+    stmts: &[Stmt],
+) -> Result<Option<Place>, NoMemory>
     requires { AreNumbers drivers.now (length stmts.now) }
     ensures found { IfOk result (λ r. (events : List Event) (ss : List Statement) → AreStatements stmts.now events ss → AreDrivers drivers.now ss
         → IsSingle ss → Finds (Stands (IsLooping ss) (stmt_places stmts.now)) r) }

@@ -58,7 +58,11 @@ fn decl_kind(reg: bool) -> Kind
 }
 
 /// The nets that a module declares, in order.
-pub(crate) fn nets_of<'s>(alloc: Global, ports: &'s [Port], decls: &'s [Decl]) -> Result<Vec<Net<'s>>, NoMemory>
+pub(crate) fn nets_of<'s>(
+    alloc: Global,
+    ports: &'s [Port],
+    decls: &'s [Decl],
+) -> Result<Vec<Net<'s>>, NoMemory>
     ensures { IfOk result (λ r. nets_seen r.items ≡ declared_nets ports.now decls.now) }
 {
     let mut nets = Vec::new(alloc);
