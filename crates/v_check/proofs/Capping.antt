@@ -1,7 +1,6 @@
 -- Widths of a module that was parsed, and of its tree.
-use Rattle.std.specs.List.{list_all, list_any}
 use Rattle.std.specs.Str.{bytes_eq}
-use Rattle.std.proofs.Common.{◌≡◌, ℕ, zero, suc, ◌+◌, ◌-◌, ◌<◌, ◌≤◌, min, nat_le, nat_lt, ◌==◌, if◌then◌else◌, Bool, true, false, ◌&&◌, Option, Some, None, List, [], ◌∷◌, ◌++◌, length, map, slice_get, refl, ap, sym, ◌∙◌, subst, arith}
+use Rattle.std.proofs.Common.{◌≡◌, ℕ, zero, suc, ◌+◌, ◌-◌, ◌<◌, ◌≤◌, min, nat_le, nat_lt, ◌==◌, if◌then◌else◌, Bool, true, false, ◌&&◌, Option, Some, List, [], ◌∷◌, ◌++◌, map, slice_get, refl, ap, sym, ◌∙◌, subst, arith}
 use Rattle.std.proofs.lemmas.Bool.Decides.{nat_tests}
 use Rattle.rb_base.specs.declared.ports.Port.{Port}
 use Rattle.rb_base.specs.declared.place.Place.{Place}
@@ -12,7 +11,7 @@ use Rattle.v_design.specs.Expr.{Expr, Exprs, Net, Bits, Const, Cat, One, Two, Pi
 use Rattle.v_design.specs.Tree.{Tree, Statement, Assign, Clocked, Resettable, port_widths, decl_widths, is_width}
 use Rattle.v_design.specs.Design.{module_of, widths, width_among, port_pin, decl_pin, expr_of, step_of}
 use Rattle.v_design.specs.Seen.{step_seen}
-use Rattle.v_design.specs.WellFormed.{nets, port_net, decl_net, fits_well}
+use Rattle.v_design.specs.WellFormed.{nets, decl_net, fits_well}
 use Rattle.v_design.specs.declared.design.Decl.{Decl}
 use Rattle.v_design.specs.declared.design.Stmt.{Stmt}
 use Rattle.v_syntax.specs.Syntax.{AreStatements, IsStatement, IsShaped, capped, capped_all, capped_step}

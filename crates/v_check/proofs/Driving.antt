@@ -1,15 +1,14 @@
 -- What drives each net, statement after statement.
-use Rattle.std.specs.List.{list_any, flat_map}
+use Rattle.std.specs.List.{list_any}
 use Rattle.std.specs.Str.{bytes_eq}
-use Rattle.std.proofs.Common.{◌≡◌, ℕ, zero, suc, ◌+◌, ◌<◌, ◌≤◌, Bool, true, false, not, ◌&&◌, ◌||◌, if◌then◌else◌, Option, Some, None, is_some, List, [], ◌∷◌, ◌++◌, length, take, get_or, slice_get, map, refl, ap, sym, ◌∙◌, subst, ◌⊎◌, inl, inr, Bor, arith}
+use Rattle.std.proofs.Common.{◌≡◌, ℕ, zero, suc, ◌<◌, ◌≤◌, Bool, true, false, not, ◌&&◌, ◌||◌, if◌then◌else◌, Some, None, is_some, List, [], ◌∷◌, ◌++◌, length, take, get_or, slice_get, refl, ap, sym, ◌∙◌, subst, Bor, arith}
 use Rattle.std.proofs.lemmas.List.{take_all}
-use Rattle.rb_base.specs.declared.place.Place.{Place}
 use Rattle.v_design.specs.Lexemes.{among}
 use Rattle.v_design.specs.Expr.{Expr, Exprs, Net, Bits, Const, Cat, One, Two, Pick, none, more, nets_of, nets_of_each}
 use Rattle.v_design.specs.Tree.{Statement, Assign, Clocked, Resettable}
 use Rattle.v_design.specs.Design.{step_of}
 use Rattle.v_design.specs.Seen.{expr_seen}
-use Rattle.v_design.specs.WellFormed.{Net as specNet, clock, distinct, drives_well, drives_its_kind, expr, names}
+use Rattle.v_design.specs.WellFormed.{Net as specNet, expr}
 use Rattle.v_design.specs.declared.design.Stmt.{Stmt}
 use Rattle.v_syntax.specs.Faulty.{all_driven, driven_by}
 use Rattle.v_syntax.specs.Syntax.{AreStatements, IsStatement, capped, capped_all}
@@ -17,11 +16,8 @@ use Rattle.v_syntax.specs.declared.parsed.Event.{Event}
 use Rattle.v_syntax.specs.declared.parsed.Event.TheVariants as event
 use Rattle.v_check.specs.declared.drivers.Drivers.{Drivers}
 use Rattle.v_check.specs.declared.nets.Net.{Net as NetOf}
-use Rattle.v_check.specs.declared.nets.Table.{Table}
-use Rattle.v_check.specs.Drivers.{AreDrivers, IsMisdriven, driven_names, driver_at}
-use Rattle.v_check.specs.Found.{Finds, StandsBefore}
-use Rattle.v_check.specs.Nets.{AreNets, net_seen, nets_seen, texts}
-use Rattle.v_check.specs.Sizes.{stmt_places}
+use Rattle.v_check.specs.Drivers.{AreDrivers, driven_names, driver_at}
+use Rattle.v_check.specs.Nets.{net_seen, nets_seen, texts}
 
 -- a text among others
 pub lists-among : (ts : List (Bor (List ℕ))) (n : List ℕ) → list_any (λ t. bytes_eq t.now n) ts ≡ among (texts ts) n

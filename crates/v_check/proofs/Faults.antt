@@ -1,20 +1,17 @@
 -- The problems of a tree, as they are found.
-use Rattle.std.specs.List.{list_all, list_any, flat_map}
-use Rattle.std.specs.Str.{bytes_eq}
-use Rattle.std.proofs.Common.{◌≡◌, ℕ, zero, suc, ◌+◌, ◌<◌, ◌≤◌, nat_le, if◌then◌else◌, Bool, true, false, not, ◌&&◌, ◌||◌, Option, Some, None, is_some, List, [], ◌∷◌, ◌++◌, length, map, take, get_or, slice_get, refl, ap, sym, ◌∙◌, subst, ◌⊎◌, inl, inr, arith}
+use Rattle.std.specs.List.{list_any}
+use Rattle.std.proofs.Common.{◌≡◌, ℕ, zero, suc, ◌<◌, nat_le, if◌then◌else◌, Bool, true, false, not, ◌&&◌, ◌||◌, Option, Some, None, is_some, List, [], ◌∷◌, take, get_or, slice_get, refl, ap, sym, ◌∙◌, subst, ◌⊎◌, inl, inr, arith}
 use Rattle.rb_base.specs.declared.place.Place.{Place}
 use Rattle.rb_grammar.specs.Spelling.{At}
-use Rattle.rb_grammar.specs.Spelling as spelling
 use Rattle.v_design.specs.Lexemes.{Token, Name, Word, Number, Const, among}
-use Rattle.v_design.specs.Tree.{Tree, Statement, Assign, Clocked, Resettable, Term}
-use Rattle.v_design.specs.Tree as tree
+use Rattle.v_design.specs.Tree.{Tree, Statement}
 use Rattle.v_design.specs.Design.{module_of, widths}
-use Rattle.v_design.specs.WellFormed.{Net, Given, same_kind, nets, names, drives_well, fits_well, used}
-use Rattle.v_syntax.specs.Faulty.{Problem, Twice, Undeclared, Driver, Width, Loop, turn, Faulty, IsFirst, GoesOn, all_driven, driven_by, name_place, statement_place, twice, undeclared, drives_badly, second_driver, no_driver, wrong_width, loop}
+use Rattle.v_design.specs.WellFormed.{Net, Given, same_kind, nets, names, drives_well, fits_well}
+use Rattle.v_syntax.specs.Faulty.{Problem, Twice, Undeclared, Driver, Width, Loop, turn, Faulty, IsFirst, all_driven, driven_by, twice, undeclared, drives_badly, second_driver, no_driver, wrong_width, loop}
 use Rattle.v_syntax.specs.Syntax.{declared_places, statement_places, statements_from}
 use Rattle.v_check.specs.declared.drivers.Drivers.{Drivers}
 use Rattle.v_check.specs.Drivers.{AreDrivers, IsMisdriven, IsUndriven, driver_at}
-use Rattle.v_check.specs.Found.{noted, either_found, IsLeast, Finds, Stands}
+use Rattle.v_check.specs.Found.{either_found, Finds, Stands}
 use Rattle.v_check.specs.Loops.{IsLooping}
 use Rattle.v_check.specs.Nets.{IsTwice, IsUndeclared, is_unknown, token_places}
 use Rattle.v_check.proofs.Finding.{le-true, le-false, finds_as}

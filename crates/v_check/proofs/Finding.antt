@@ -9,7 +9,7 @@ use Rattle.v_syntax.specs.declared.token.VToken.{VToken}
 use Rattle.v_design.specs.declared.design.Stmt.{Stmt}
 use Rattle.v_check.specs.Sizes.{stmt_places}
 use Rattle.v_check.specs.Nets.{IsUndeclared, is_unknown, numbers, token_places}
-use Rattle.v_check.specs.Found.{noted, IsLeast, Finds, Stands, StandsBefore}
+use Rattle.v_check.specs.Found.{noted, Finds, Stands, StandsBefore}
 
 pub le-true : (a b : ℕ) → nat_le a b ≡ true → a ≤ b
 le-true a b h = grind (arith, nat_tests)

@@ -1,20 +1,19 @@
 -- A tree without problems is well-formed, and a well-formed tree has none.
 use Rattle.std.specs.List.{AllByRecursion, list_all, list_any, flat_map}
 use Rattle.std.specs.Str.{bytes_eq}
-use Rattle.std.proofs.Common.{◌≡◌, ℕ, zero, suc, ◌+◌, ◌<◌, ◌≤◌, Bool, true, false, not, ◌&&◌, ◌||◌, Option, Some, None, List, [], ◌∷◌, ◌++◌, length, map, take, slice_get, refl, ap, sym, ◌∙◌, subst, ◌⊎◌, inl, inr, arith}
+use Rattle.std.proofs.Common.{◌≡◌, ℕ, zero, suc, ◌+◌, ◌<◌, Bool, true, false, not, ◌||◌, Some, List, [], ◌∷◌, map, take, slice_get, refl, ap, sym, ◌∙◌, subst, inl, inr, arith}
 use Rattle.std.proofs.lemmas.Bool.{cases_lt, or_cases}
 use Rattle.rb_grammar.specs.Spelling.{At}
 use Rattle.rb_grammar.specs.Spelling as spelling
 use Rattle.v_design.proofs.Tests.{and-left, and-right, same-refl, same-true}
 use Rattle.v_design.proofs.Names.{or-left, or-right, both, not-flip, not-true-false}
-use Rattle.v_design.specs.Lexemes.{Token, Name, among}
+use Rattle.v_design.specs.Lexemes.{Token, among}
 use Rattle.v_design.specs.Expr.{nets_of}
 use Rattle.v_design.specs.Tree.{Tree, Statement, Assign, Clocked, Resettable}
 use Rattle.v_design.specs.Tree as tree
-use Rattle.v_design.specs.Design.{expr_of, module_of, widths, clock}
-use Rattle.v_design.specs.WellFormed.{IsWellFormed, Net, Given, Kept, AllBelow, Rises, RisesAlong, all_among, distinct, driven, drives_its_kind, drives_well, fits_well, has, is_clock, is_reset, names, nets, reads_no_clock, same_kind, target, used}
+use Rattle.v_design.specs.Design.{expr_of, module_of, widths}
+use Rattle.v_design.specs.WellFormed.{IsWellFormed, Net, Given, AllBelow, Rises, RisesAlong, distinct, drives_its_kind, drives_well, fits_well, names, nets, reads_no_clock, same_kind, target, used}
 use Rattle.v_syntax.specs.Faulty.{Problem, Twice, Undeclared, Driver, Width, Loop, turn, Faulty, IsFirst, GoesOn, all_driven, driven_by, feeds, twice, undeclared, drives_badly, second_driver, no_driver, wrong_width, loop}
-use Rattle.v_syntax.specs.Syntax.{statements_from}
 use Rattle.v_check.specs.Drivers.{IsSingle}
 use Rattle.v_check.proofs.Driving.{any-append}
 use Rattle.v_check.proofs.Faults.{Lacks}

@@ -1,10 +1,9 @@
 -- From which assignments one can go on for ever.
-use Rattle.std.specs.Bool.{beq}
-use Rattle.std.specs.List.{AllByRecursion, list_any, flat_map}
+use Rattle.std.specs.List.{AllByRecursion, list_any}
 use Rattle.std.specs.Option.{option_map_or}
 use Rattle.std.specs.Str.{bytes_eq}
-use Rattle.std.proofs.Common.{◌≡◌, ℕ, zero, suc, ◌+◌, ◌<◌, ◌≤◌, Bool, true, false, not, ◌&&◌, ◌||◌, if◌then◌else◌, Option, Some, None, IfNone, is_some, List, [], ◌∷◌, ◌++◌, length, map, take, get_or, slice_get, refl, ap, sym, ◌∙◌, subst, ◌⊎◌, inl, inr, add-one, arith, Vec, Global, Bor}
-use Rattle.std.proofs.lemmas.Bool.{cases_eq, cases_lt, or_cases}
+use Rattle.std.proofs.Common.{◌≡◌, ℕ, zero, suc, ◌+◌, ◌<◌, Bool, true, false, not, if◌then◌else◌, Option, Some, None, IfNone, is_some, List, [], ◌∷◌, ◌++◌, length, map, take, get_or, slice_get, refl, ap, sym, ◌∙◌, subst, inl, inr, add-one, arith, Vec, Global, Bor}
+use Rattle.std.proofs.lemmas.Bool.{cases_lt, or_cases}
 use Rattle.std.proofs.lemmas.List.{length-map, append-nil}
 use Rattle.rb_base.specs.declared.place.Place.{Place}
 use Rattle.v_design.proofs.Tests.{and-left, and-right, same-refl, same-true}
@@ -14,21 +13,19 @@ use Rattle.v_design.specs.Expr.{nets_of}
 use Rattle.v_design.specs.Design.{expr_of}
 use Rattle.v_design.specs.Seen.{expr_seen}
 use Rattle.v_design.specs.Tree.{Statement, Assign, Clocked, Resettable, Term}
-use Rattle.v_design.specs.WellFormed.{AllBelow, Rises, RisesAlong}
+use Rattle.v_design.specs.WellFormed.{Rises, RisesAlong}
 use Rattle.v_design.specs.declared.design.Stmt.{Stmt}
 use Rattle.v_syntax.specs.Faulty.{GoesOn, all_driven, driven_by, feeds}
 use Rattle.v_syntax.specs.Syntax.{AreStatements, IsStatement}
 use Rattle.v_syntax.specs.declared.parsed.Event.{Event}
-use Rattle.v_syntax.specs.declared.parsed.Event.TheVariants as event
 use Rattle.v_check.specs.declared.drivers.Drivers.{Drivers}
 use Rattle.v_check.specs.Drivers.{AreDrivers, AreNumbers, IsSingle, driver_at}
 use Rattle.v_check.specs.Found.{Finds, Stands}
 use Rattle.v_check.specs.Loops.{IsLooping, IsUnranked, all_needs, numbers_of, stmt_needs, with_number}
 use Rattle.v_check.specs.Settling.{AreRanks, AreWithin, lists, list_at, need_at, rank_at}
 use Rattle.v_check.specs.Nets.{texts}
-use Rattle.v_check.specs.Sizes.{stmt_places}
-use Rattle.v_check.proofs.Driving.{nets-statement, statement-within, any-append}
-use Rattle.v_check.proofs.Ranking.{get-at, get-within, length-lists}
+use Rattle.v_check.proofs.Driving.{nets-statement, any-append}
+use Rattle.v_check.proofs.Ranking.{get-within, length-lists}
 
 -- tests of some element
 pub any-at : {X : Type 0} (p : X → Bool) (xs : List X) (i : ℕ) (x : X) → slice_get xs i ≡ Some x → p x ≡ true → list_any p xs ≡ true

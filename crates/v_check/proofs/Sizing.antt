@@ -1,10 +1,8 @@
 -- Widths of expressions that agree.
-use Rattle.std.proofs.Common.{◌≡◌, ℕ, zero, suc, ◌+◌, ◌-◌, ◌<◌, ◌≤◌, Bool, true, false, ◌&&◌, ◌==◌, nat_le, nat_lt, if◌then◌else◌, Option, Some, None, List, [], ◌∷◌, length, take, get_or, refl, ap, sym, ◌∙◌, subst, ◌⊎◌, inl, inr, arith}
+use Rattle.std.proofs.Common.{◌≡◌, ℕ, zero, suc, ◌+◌, ◌<◌, ◌≤◌, Bool, true, false, ◌&&◌, nat_le, if◌then◌else◌, Some, None, List, [], ◌∷◌, length, take, get_or, refl, ap, sym, ◌∙◌, arith}
 use Rattle.std.proofs.lemmas.Bool.Decides.{nat_tests}
 use Rattle.v_design.specs.declared.design.VExpr.{VExpr}
-use Rattle.v_design.specs.declared.design.VOne.{VOne}
-use Rattle.v_design.specs.declared.design.VTwo.{VTwo}
-use Rattle.v_design.specs.Expr.{Expr, Exprs, Net, Bits, Const, Cat, One, Two, Pick, none, more, Widths, width_of, width_of_all, width_over, is_sized, are_sized}
+use Rattle.v_design.specs.Expr.{Expr, Exprs, Cat, none, more, Widths, width_of, width_of_all, is_sized, are_sized}
 use Rattle.v_design.specs.Seen.{expr_seen}
 use Rattle.v_check.specs.Sizes.{sized_width}
 use Rattle.v_check.proofs.Exprs.{listed, behind}

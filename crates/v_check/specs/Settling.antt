@@ -1,7 +1,6 @@
 -- Numbered things, each of which needs others: their ranks, and which of them never get one.
 use Rattle.std.specs.Prelude.{◌≡◌, ℕ, ◌+◌, ◌<◌, ◌≤◌, ◌⊎◌, is_some, Option, Some, None, List, [], length, map, count_by, slice_get, slice_index_or, Vec}
 use Rattle.std.specs.Global.{Global}
-use Rattle.std.specs.Option.{option_map_or}
 use Rattle.v_check.specs.declared.settling.Settling.{Settling}
 use Rattle.v_check.specs.declared.settling.Waiter.{Waiter}
 

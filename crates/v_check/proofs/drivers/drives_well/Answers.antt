@@ -1,4 +1,4 @@
-use Rattle.std.proofs.Common.{true, not, ◌&&◌, ap, sym, ◌∙◌}
+use Rattle.std.proofs.Common.{not, ap, sym, ◌∙◌}
 use Rattle.v_design.specs.Lexemes.{among}
 use Rattle.v_design.specs.Expr.{nets_of}
 use Rattle.v_design.specs.WellFormed.{clock, drives_its_kind, expr}

@@ -1,5 +1,5 @@
 use Rattle.std.specs.List.{list_any}
-use Rattle.std.proofs.Common.{◌≡◌, ℕ, suc, ◌+◌, ◌&&◌, not, length, take, get_or, ap, sym, ◌∙◌, subst, add-one, arith}
+use Rattle.std.proofs.Common.{◌&&◌, not, take, sym, ◌∙◌, subst, add-one, arith}
 use Rattle.v_design.specs.Lexemes.{among}
 use Rattle.v_design.specs.WellFormed.{drives_well}
 use Rattle.v_syntax.specs.Faulty.{all_driven, driven_by}

@@ -1,6 +1,4 @@
-use Rattle.std.specs.List.{list_any}
-use Rattle.std.specs.Str.{bytes_eq}
-use Rattle.std.proofs.Common.{[], ◌++◌, ap, ◌∙◌}
+use Rattle.std.proofs.Common.{◌++◌, ap, ◌∙◌}
 use Rattle.v_design.specs.Expr.{nets_of}
 use Rattle.v_design.specs.Lexemes.{among}
 use Rattle.v_design.specs.Seen.{expr_seen}

@@ -1,4 +1,4 @@
-use Rattle.std.proofs.Common.{◌||◌, not, is_some, length, ap, ◌∙◌, arith}
+use Rattle.std.proofs.Common.{◌||◌, not, is_some, ap, ◌∙◌, arith}
 use Rattle.v_design.specs.WellFormed.{Given, same_kind}
 use Rattle.v_check.specs.Drivers.{IsUndriven, driver_at}
 use Rattle.v_check.specs.Nets.{nets_seen, numbers}

@@ -1,11 +1,10 @@
-use Rattle.std.proofs.Common.{◌≡◌, ℕ, true, Option, Some, None, IfNone, List, length, ap, sym, ◌∙◌, subst}
+use Rattle.std.proofs.Common.{◌≡◌, ℕ, true, IfNone, List, ap, sym, ◌∙◌, subst}
 use Rattle.v_design.specs.WellFormed.{Rises, distinct, names}
 use Rattle.v_syntax.specs.Faulty.{Twice, Undeclared, Driver, Width, Loop, Faulty}
 use Rattle.v_syntax.specs.Syntax.{AreStatements}
 use Rattle.v_syntax.specs.Tokens.{placed}
-use Rattle.v_check.specs.Drivers.{AreDrivers}
-use Rattle.v_check.specs.Found.{Finds, Stands}
-use Rattle.v_check.specs.Nets.{AreNets, nets_seen, numbers}
+use Rattle.v_check.specs.Found.{Finds}
+use Rattle.v_check.specs.Nets.{nets_seen, numbers}
 use Rattle.v_check.specs.Sizes.{stmt_places}
 use Rattle.v_check.proofs.Faults.{twice-found, undeclared-found, driver-found, width-found, loop-found, first-twice, first-undeclared, first-driver, first-width, first-loop}
 use Rattle.v_check.proofs.Capping.{same-widths, all-narrow, unfit-found}

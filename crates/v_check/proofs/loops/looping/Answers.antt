@@ -1,11 +1,9 @@
-use Rattle.std.proofs.Common.{◌≡◌, ℕ, ap, sym, ◌∙◌, subst, length, Option, Some, None, IfNone, arith}
-use Rattle.v_check.specs.Drivers.{driver_at}
-use Rattle.v_check.specs.Found.{Finds, Stands}
-use Rattle.v_check.specs.Loops.{IsLooping, IsUnranked, all_needs}
-use Rattle.v_check.specs.Settling.{AreWithin, AreRanks, lists}
+use Rattle.std.proofs.Common.{ap, sym, ◌∙◌, subst}
+use Rattle.v_check.specs.Loops.{IsLooping, IsUnranked}
+use Rattle.v_check.specs.Settling.{AreRanks, lists}
 use Rattle.v_check.specs.Sizes.{stmt_places}
 use Rattle.v_check.proofs.Finding.{finds_stands}
-use Rattle.v_check.proofs.Looping.{looping-unranked, unranked-looping, ranks-rise, needs-within, rises-if-none}
+use Rattle.v_check.proofs.Looping.{looping-unranked, unranked-looping, needs-within, rises-if-none}
 use Rattle.v_check.proofs.loops.looping.Goals as goal
 
 pub settle-requires : goal.settle-requires

@@ -1,4 +1,4 @@
-use Rattle.std.proofs.Common.{ap, ◌∙◌, sym}
+use Rattle.std.proofs.Common.{ap, ◌∙◌}
 use Rattle.v_check.specs.Drivers.{driver_at}
 use Rattle.v_check.proofs.Looping.{number-pushed, number-skipped}
 use Rattle.v_check.proofs.loops.needs_of.Goals as goal

@@ -1,4 +1,4 @@
-use Rattle.std.proofs.Common.{length, arith}
+use Rattle.std.proofs.Common.{arith}
 use Rattle.v_check.specs.Loops.{IsUnranked}
 use Rattle.v_check.specs.Sizes.{stmt_places}
 use Rattle.v_check.proofs.Finding.{finds_next, finds_all, stmt-place}

@@ -1,8 +1,6 @@
-use Rattle.std.proofs.Common.{length, take, ap, ◌∙◌, sym, arith}
-use Rattle.std.proofs.lemmas.List.{take_all}
+use Rattle.std.proofs.Common.{take, arith}
 use Rattle.v_design.specs.WellFormed.{names}
-use Rattle.v_check.specs.Found.{Finds, StandsBefore}
-use Rattle.v_check.specs.Nets.{AreNets, IsTwice, nets_seen, numbers}
+use Rattle.v_check.specs.Nets.{IsTwice, nets_seen, numbers}
 use Rattle.v_check.proofs.Finding.{finds_next, finds_all, number-at}
 use Rattle.v_check.proofs.Tables.{more_nets, name-within, twice-test}
 use Rattle.v_check.proofs.nets.declare.Goals as goal

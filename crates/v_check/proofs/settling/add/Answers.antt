@@ -1,4 +1,4 @@
-use Rattle.std.proofs.Common.{get_or, ap, ◌∙◌, ◌++◌, ◌∷◌, [], sym}
+use Rattle.std.proofs.Common.{ap, ◌∙◌, ◌++◌, ◌∷◌, [], sym}
 use Rattle.std.proofs.Math.ListN.{set}
 use Rattle.v_check.specs.Settling.{lists}
 use Rattle.v_check.proofs.Ranking.{lists-set, list-at}

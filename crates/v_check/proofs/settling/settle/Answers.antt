@@ -1,4 +1,4 @@
-use Rattle.std.proofs.Common.{◌+◌, length, subst, sym, inl, ap, ◌∙◌, arith}
+use Rattle.std.proofs.Common.{◌+◌, subst, sym, inl, arith}
 use Rattle.v_check.specs.Settling.{AllWait, IsSound}
 use Rattle.v_check.proofs.Ranking.{begun-more, begun-all, none-left, ranks-settled, sound-new}
 use Rattle.v_check.proofs.settling.settle.Goals as goal

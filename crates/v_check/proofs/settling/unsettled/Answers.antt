@@ -1,4 +1,4 @@
-use Rattle.std.proofs.Common.{length, arith}
+use Rattle.std.proofs.Common.{arith}
 use Rattle.v_check.proofs.Ranking.{more-settled, get-within}
 use Rattle.v_check.proofs.settling.unsettled.Goals as goal
 

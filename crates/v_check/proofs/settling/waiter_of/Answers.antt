@@ -1,7 +1,6 @@
 use Rattle.std.specs.List.{slice_get}
-use Rattle.std.proofs.Common.{◌≡◌, Some, List, length, get_or, ap, ◌∙◌, sym, subst, ◌<◌, arith}
+use Rattle.std.proofs.Common.{◌≡◌, Some, length, ap, ◌∙◌, sym, arith}
 use Rattle.v_check.specs.Settling.{list_at}
-use Rattle.v_check.specs.declared.settling.Waiter.{Waiter}
 use Rattle.v_check.proofs.Ranking.{list-at, get-at, waiter-within}
 use Rattle.v_check.proofs.settling.waiter_of.Goals as goal
 

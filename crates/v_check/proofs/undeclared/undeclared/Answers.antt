@@ -1,4 +1,4 @@
-use Rattle.std.proofs.Common.{length, arith, ◌∙◌}
+use Rattle.std.proofs.Common.{arith, ◌∙◌}
 use Rattle.v_design.specs.WellFormed.{names}
 use Rattle.v_syntax.specs.Tokens.{placed}
 use Rattle.v_check.specs.Nets.{IsUndeclared, nets_seen, token_places}

@@ -1,6 +1,4 @@
-use Rattle.std.proofs.Common.{◌≡◌, ℕ, ◌<◌, ◌+◌, ◌≤◌, Option, Some, None, List, ap, sym, ◌∙◌, subst, arith}
-use Rattle.v_design.specs.declared.design.VExpr.{VExpr}
-use Rattle.v_design.specs.declared.design.VExpr.TheVariants as variant
+use Rattle.std.proofs.Common.{◌≡◌, ◌+◌, ap, sym, ◌∙◌, subst, arith}
 use Rattle.v_design.specs.Expr as expr
 use Rattle.v_design.specs.Expr.{Expr}
 use Rattle.v_design.specs.Seen.{expr_seen}

@@ -1,4 +1,4 @@
-use Rattle.std.proofs.Common.{not, length, ap, sym, ◌∙◌, arith}
+use Rattle.std.proofs.Common.{not, ap, arith}
 use Rattle.v_design.specs.Seen.{step_seen}
 use Rattle.v_check.specs.Nets.{widths_at}
 use Rattle.v_check.specs.Sizes.{IsMisfit, step_fits, stmt_places}

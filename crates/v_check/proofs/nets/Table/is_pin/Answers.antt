@@ -1,4 +1,4 @@
-use Rattle.std.proofs.Common.{Some, None, ◌∙◌, ap, sym, ◌&&◌, ◌==◌}
+use Rattle.std.proofs.Common.{Some, None, ◌∙◌, ap, ◌&&◌, ◌==◌}
 use Rattle.v_check.proofs.Tables.{pin-found}
 use Rattle.v_check.proofs.nets.Table.is_pin.Goals as goal
 

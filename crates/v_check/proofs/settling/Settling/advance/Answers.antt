@@ -1,4 +1,4 @@
-use Rattle.std.proofs.Common.{get_or, ap, ◌∙◌, ◌++◌, ◌∷◌, [], sym, refl, length, Result, Ok, Err, OnOk, arith}
+use Rattle.std.proofs.Common.{◌∙◌, sym, refl, Result, Ok, Err, OnOk, arith}
 use Rattle.std.proofs.lemmas.Result.{on_ok_weaker}
 use Rattle.v_check.proofs.Ranking.{advances-settled, sound-waits, advances-waits, sound-ranked, advances-ranked, stops-at, all-settled, settled-from, unsettled-from, any-default}
 use Rattle.v_check.proofs.settling.Settling.advance.Goals as goal

@@ -1,6 +1,6 @@
 use Rattle.std.specs.List.{slice_get}
-use Rattle.std.proofs.Common.{◌≡◌, ◌<◌, Some, length, subst, sym, ap, ◌∙◌, refl, arith}
-use Rattle.v_check.specs.Settling.{AllWait, IsSound, list_at, waiter_at}
+use Rattle.std.proofs.Common.{◌≡◌, Some, length, sym, ap, ◌∙◌, arith}
+use Rattle.v_check.specs.Settling.{list_at, waiter_at}
 use Rattle.v_check.proofs.Ranking.{released-none, released-more, released-all, ready-before, get-within, get-at, waiters-kept}
 use Rattle.v_check.proofs.settling.Settling.release.Goals as goal
 
