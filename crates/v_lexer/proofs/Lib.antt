@@ -1,0 +1,5 @@
+pub mod Fronts
+pub mod Digits
+pub mod NumberFronts
+pub mod Steps
+pub mod Scans

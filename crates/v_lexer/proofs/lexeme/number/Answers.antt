@@ -1,0 +1,28 @@
+use Rattle.std.proofs.Common.{subst, List, ℕ}
+use Rattle.v_lexer.specs.Reading.{IsSuffixLen}
+use Rattle.v_lexer.proofs.NumberFronts.{rest_is, decimal_lexeme, constant_lexeme, constant_fault, constant_based}
+use Rattle.v_lexer.proofs.lexeme.number.Goals as goal
+
+pub returns-then-suffix-eq0-clause-some : goal.returns-then-suffix-eq0-clause-some
+returns-then-suffix-eq0-clause-some c =
+    let n = c.decimal_len-size.result in
+    let text = c.args.text.now in
+    decimal_lexeme n c.suffix_len-suffix.result text c.requires.bare c.requires.digit c.decimal_len-size.ensures (subst (λ (z : List ℕ). IsSuffixLen z c.suffix_len-suffix.result) (rest_is n text) c.suffix_len-suffix.ensures) c.if-suffix-eq0.true
+
+pub constant-requires-clause-based : goal.constant-requires-clause-based
+constant-requires-clause-based c =
+    let n = c.decimal_len-size.result in
+    let text = c.args.text.now in
+    constant_based n c.suffix_len-suffix.result text c.decimal_len-size.ensures (subst (λ (z : List ℕ). IsSuffixLen z c.suffix_len-suffix.result) (rest_is n text) c.suffix_len-suffix.ensures) c.if-suffix-eq0.false
+
+pub returns-in_err-width-clause-none : goal.returns-in_err-width-clause-none
+returns-in_err-width-clause-none c =
+    let n = c.decimal_len-size.result in
+    let text = c.args.text.now in
+    rw c.from_residual.ensures (constant_fault n c.suffix_len-suffix.result text c.requires.bare c.requires.digit c.decimal_len-size.ensures (subst (λ (z : List ℕ). IsSuffixLen z c.suffix_len-suffix.result) (rest_is n text) c.suffix_len-suffix.ensures) c.if-suffix-eq0.false c.in_err-width.ensures)
+
+pub returns-clause-some : goal.returns-clause-some
+returns-clause-some c =
+    let n = c.decimal_len-size.result in
+    let text = c.args.text.now in
+    constant_lexeme n c.suffix_len-suffix.result c.in_ok-width.width c.in_ok-width.value text c.requires.bare c.requires.digit c.decimal_len-size.ensures (subst (λ (z : List ℕ). IsSuffixLen z c.suffix_len-suffix.result) (rest_is n text) c.suffix_len-suffix.ensures) c.if-suffix-eq0.false c.in_ok-width.ensures
