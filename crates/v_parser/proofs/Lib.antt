@@ -1,0 +1,14 @@
+pub mod Firsts
+pub mod Spanning
+pub mod Taking
+pub mod Walking
+pub mod Marks
+pub mod Ranges
+pub mod Results
+pub mod Terms
+pub mod Blocks
+pub mod Loops
+pub mod Whole
+pub mod Trees
+pub mod Ends
+pub mod Fitting
