@@ -11,7 +11,7 @@ use Rattle.v_design.proofs.Tests.{and-left, and-right}
 use Rattle.first_form.specs.Form.{Form, is_name_byte}
 use Rattle.first_form.specs.Described.{word_of, block_of}
 use Rattle.first_form.proofs.Named.{IsNamed}
-use Rattle.first_form.proofs.FirstAgrees.{name_wider, path_wider, wider}
+use Rattle.first_form.proofs.Identifiers.{name_wider, path_wider, wider}
 
 -- a name of a source has no $
 plain_byte : (b : ℕ) → is_name_byte b ≡ true → not (b == 36) ≡ true

@@ -1,10 +1,6 @@
-pub mod Spelled
-pub mod Split
-pub mod Ended
+pub mod Reading
+pub mod Places
+pub mod Deciding
 pub mod Named
-pub mod FirstForm
-pub mod FirstText
-pub mod FirstRun
-pub mod FirstAgrees
+pub mod Identifiers
 pub mod FirstSound
-pub mod Appending

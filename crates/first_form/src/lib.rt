@@ -1,11 +1,13 @@
-//! The sources that are compiled so far, the blocks that they describe, and the modules of these.
+//! The sources that are compiled so far, and the blocks that they describe.
 #![tactic(auto)]
 
 mod form;
 mod laws;
-mod lexeme;
-mod text;
+mod shape;
+mod tokens;
 
 pub use form::{Form, read_form};
 pub use laws::{block_is_sound, one_form};
-pub use text::module_text;
+
+#[cfg(test)]
+mod tests;
