@@ -5,3 +5,4 @@ pub mod Drivers
 pub mod Settling
 pub mod Loops
 pub mod Judged
+pub mod Sample

@@ -9,6 +9,8 @@ mod loops;
 mod names;
 mod nets;
 mod settling;
+#[cfg(test)]
+mod tests;
 mod undeclared;
 mod widths;
 

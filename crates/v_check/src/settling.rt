@@ -116,6 +116,7 @@ impl Settling {
         ensures advances { OnOk result (Advances needs.now self.old self.new waiter.by) }
     {
         let Waiter { by, next } = waiter;
+        // A thing that is settled waits for nothing.
         if self.ranks[by].is_some() {
             return Ok(());
         }
