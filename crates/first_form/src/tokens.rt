@@ -8,18 +8,18 @@ ghost use Rattle.rdl_lexer.specs.Lexemes.{seen, systemrdl};
 use rdl_lexer::Lexer;
 use rdl_tree::Token;
 
-/// Puts the tokens of a source of fewer than 2^32 - 1 bytes into these places. False where it has more or fewer, or a
+/// Puts the tokens of a source of fewer than 2^32 - 1 bytes into these slots. False where it has more or fewer, or a
 /// lexical fault.
-pub fn read_tokens<'s>(src: &'s [u8], places: &mut [Token<'s>]) -> bool
+pub fn read_tokens<'s>(src: &'s [u8], slots: &mut [Token<'s>]) -> bool
     requires { length src.now < 2 ^ 32 - 1 }
-    ensures spelled { result ≡ true → Spells systemrdl src.now (map seen places.new) }
-    ensures none { result ≡ false → (ts : List Token) → Spells systemrdl src.now (map seen ts) → length ts ≢ length places.old }
-    ensures long { length places.new ≡ length places.old }
+    ensures spelled { result ≡ true → Spells systemrdl src.now (map seen slots.new) }
+    ensures none { result ≡ false → (ts : List Token) → Spells systemrdl src.now (map seen ts) → length ts ≢ length slots.old }
+    ensures long { length slots.new ≡ length slots.old }
 {
     let mut lexer = Lexer::new(src);
-    for place in places.iter_mut() {
+    for slot in slots.iter_mut() {
         match lexer.next() {
-            Ok(Some(token)) => *place = token,
+            Ok(Some(token)) => *slot = token,
             Ok(None) => return false,
             Err(_) => return false,
         }

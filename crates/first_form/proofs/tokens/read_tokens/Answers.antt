@@ -20,47 +20,47 @@ placed ps i t below = ap (λ z. map seen z) (take_more_set ps i t below) ∙ map
 seen_count : (ps : List Token) (i : ℕ) → i ≤ length ps → length (map seen (take i ps)) ≡ i
 seen_count ps i within = omega (arith, length-map (take i ps) seen, length-take i ps)
 
-pub loop-place-preserved : goal.loop-place-preserved
-loop-place-preserved c = let start = next_at _ _ _ _ _ _ c.in-Ok-Some.field-0-is c.loop-place.invariant.size c.in-Ok-Some.ensures.token in record {
-  size = c.in-Ok-Some.ensures.size ∙ c.loop-place.invariant.size;
+pub loop-slot-preserved : goal.loop-slot-preserved
+loop-slot-preserved c = let start = next_at _ _ _ _ _ _ c.in-Ok-Some.field-0-is c.loop-slot.invariant.size c.in-Ok-Some.ensures.token in record {
+  size = c.in-Ok-Some.ensures.size ∙ c.loop-slot.invariant.size;
   sound = c.in-Ok-Some.ensures.remembered;
-  leads = rw (placed c.loop-place.places c.loop-place.place-index c.in-Ok-Some.token (omega arith))
-      (leads_more systemrdl (length c.args.src.now) c.args.src.now c.loop-place.lexer.rest c.next.new.self.rest (map seen (take c.loop-place.place-index c.loop-place.places)) (seen c.in-Ok-Some.token) c.loop-place.invariant.leads start);
+  leads = rw (placed c.loop-slot.slots c.loop-slot.slot-index c.in-Ok-Some.token (omega arith))
+      (leads_more systemrdl (length c.args.src.now) c.args.src.now c.loop-slot.lexer.rest c.next.new.self.rest (map seen (take c.loop-slot.slot-index c.loop-slot.slots)) (seen c.in-Ok-Some.token) c.loop-slot.invariant.leads start);
 }
 
 pub returns-in-Ok-None-clause-none : goal.returns-in-Ok-None-clause-none
 returns-in-Ok-None-clause-none c = λ failed ts spelled same.
     let ends = (rw c.in-Ok-None.field-0-is at c.in-Ok-None.ensures.end).0 in
-    let count = no_more systemrdl c.args.src.now c.loop-place.lexer.rest (map seen (take c.loop-place.place-index c.loop-place.places)) (map seen ts) c.loop-place.invariant.leads
-    (subst (λ (n : ℕ). SpellsFrom systemrdl n c.loop-place.lexer.rest []) c.loop-place.invariant.size ends) spelled in
-    omega (arith, count, seen_count c.loop-place.places c.loop-place.place-index (omega arith), length-map ts seen)
+    let count = no_more systemrdl c.args.src.now c.loop-slot.lexer.rest (map seen (take c.loop-slot.slot-index c.loop-slot.slots)) (map seen ts) c.loop-slot.invariant.leads
+    (subst (λ (n : ℕ). SpellsFrom systemrdl n c.loop-slot.lexer.rest []) c.loop-slot.invariant.size ends) spelled in
+    omega (arith, count, seen_count c.loop-slot.slots c.loop-slot.slot-index (omega arith), length-map ts seen)
 
 pub returns-in-Err-clause-none : goal.returns-in-Err-clause-none
 returns-in-Err-clause-none c = λ failed ts spelled same.
-    let f = c.in-Err.ensures.fault c.loop-place.invariant.sound in
-    none_spelled systemrdl c.args.src.now c.loop-place.lexer.rest (map seen (take c.loop-place.place-index c.loop-place.places)) (map seen ts) f.wrong c.in-Err.field-0.place.0 c.loop-place.invariant.leads
-    (subst (λ (n : ℕ). FailsAt systemrdl n c.loop-place.lexer.rest f.wrong c.in-Err.field-0.place.0) c.loop-place.invariant.size f.fails) spelled
+    let f = c.in-Err.ensures.fault c.loop-slot.invariant.sound in
+    none_spelled systemrdl c.args.src.now c.loop-slot.lexer.rest (map seen (take c.loop-slot.slot-index c.loop-slot.slots)) (map seen ts) f.wrong c.in-Err.field-0.place.0 c.loop-slot.invariant.leads
+    (subst (λ (n : ℕ). FailsAt systemrdl n c.loop-slot.lexer.rest f.wrong c.in-Err.field-0.place.0) c.loop-slot.invariant.size f.fails) spelled
 
--- all places have a token
+-- every slot has a token
 all_taken : (ps : List Token) (i : ℕ) → length ps ≤ i → map seen (take i ps) ≡ map seen ps
 all_taken ps i full = ap (λ z. map seen z) (take_all i ps full)
 
 pub returns-in-Ok-None-next-clause-spelled : goal.returns-in-Ok-None-next-clause-spelled
 returns-in-Ok-None-next-clause-spelled c = λ done.
     let ends = (rw c.in-Ok-None-next.field-0-is at c.in-Ok-None-next.ensures.end).0 in
-    let all = leads_spells systemrdl (length c.args.src.now) c.args.src.now c.loop-place.lexer.rest (map seen (take c.loop-place.place-index c.loop-place.places)) [] c.loop-place.invariant.leads
-    (subst (λ (n : ℕ). SpellsFrom systemrdl n c.loop-place.lexer.rest []) c.loop-place.invariant.size ends) in
-    subst (λ (ts : List (At Lexeme)). Spells systemrdl c.args.src.now ts) (append-nil (map seen (take c.loop-place.place-index c.loop-place.places)) ∙ all_taken c.loop-place.places c.loop-place.place-index (omega arith)) all
+    let all = leads_spells systemrdl (length c.args.src.now) c.args.src.now c.loop-slot.lexer.rest (map seen (take c.loop-slot.slot-index c.loop-slot.slots)) [] c.loop-slot.invariant.leads
+    (subst (λ (n : ℕ). SpellsFrom systemrdl n c.loop-slot.lexer.rest []) c.loop-slot.invariant.size ends) in
+    subst (λ (ts : List (At Lexeme)). Spells systemrdl c.args.src.now ts) (append-nil (map seen (take c.loop-slot.slot-index c.loop-slot.slots)) ∙ all_taken c.loop-slot.slots c.loop-slot.slot-index (omega arith)) all
 
 pub returns-in-Ok-Some-next-clause-none : goal.returns-in-Ok-Some-next-clause-none
 returns-in-Ok-Some-next-clause-none c = λ failed ts spelled same.
-    let start = next_at _ _ _ _ _ _ c.in-Ok-Some-next.field-0-is c.loop-place.invariant.size c.in-Ok-Some-next.ensures.token in
-    let leads = subst (λ (ts : List (At Lexeme)). Leads systemrdl (length c.args.src.now) c.args.src.now ts c.loop-place.lexer.rest) (all_taken c.loop-place.places c.loop-place.place-index (omega arith)) c.loop-place.invariant.leads in
-    let more = more_spelled systemrdl c.args.src.now c.loop-place.lexer.rest c.next-2.new.self.rest (map seen c.loop-place.places) (map seen ts) (seen c.in-Ok-Some-next.field-0-0) leads start spelled in
-    omega (arith, more, length-map ts seen, length-map c.loop-place.places seen)
+    let start = next_at _ _ _ _ _ _ c.in-Ok-Some-next.field-0-is c.loop-slot.invariant.size c.in-Ok-Some-next.ensures.token in
+    let leads = subst (λ (ts : List (At Lexeme)). Leads systemrdl (length c.args.src.now) c.args.src.now ts c.loop-slot.lexer.rest) (all_taken c.loop-slot.slots c.loop-slot.slot-index (omega arith)) c.loop-slot.invariant.leads in
+    let more = more_spelled systemrdl c.args.src.now c.loop-slot.lexer.rest c.next-2.new.self.rest (map seen c.loop-slot.slots) (map seen ts) (seen c.in-Ok-Some-next.field-0-0) leads start spelled in
+    omega (arith, more, length-map ts seen, length-map c.loop-slot.slots seen)
 
 pub returns-in-Err-next-clause-none : goal.returns-in-Err-next-clause-none
 returns-in-Err-next-clause-none c = λ failed ts spelled same.
-    let f = c.in-Err-next.ensures.fault c.loop-place.invariant.sound in
-    none_spelled systemrdl c.args.src.now c.loop-place.lexer.rest (map seen (take c.loop-place.place-index c.loop-place.places)) (map seen ts) f.wrong c.in-Err-next.field-0.place.0 c.loop-place.invariant.leads
-    (subst (λ (n : ℕ). FailsAt systemrdl n c.loop-place.lexer.rest f.wrong c.in-Err-next.field-0.place.0) c.loop-place.invariant.size f.fails) spelled
+    let f = c.in-Err-next.ensures.fault c.loop-slot.invariant.sound in
+    none_spelled systemrdl c.args.src.now c.loop-slot.lexer.rest (map seen (take c.loop-slot.slot-index c.loop-slot.slots)) (map seen ts) f.wrong c.in-Err-next.field-0.place.0 c.loop-slot.invariant.leads
+    (subst (λ (n : ℕ). FailsAt systemrdl n c.loop-slot.lexer.rest f.wrong c.in-Err-next.field-0.place.0) c.loop-slot.invariant.size f.fails) spelled
