@@ -1,0 +1,6 @@
+//! Numbers as text.
+#![tactic(auto)]
+
+mod hex;
+
+pub use hex::hex_digits;

@@ -1,0 +1,64 @@
+//! A module and a table, from their bytes to a run.
+
+ghost use Rattle.std.specs.Prelude.{◌≡◌, ◌<◌, ◌≤◌, ◌-◌, ◌^◌, ◌⊎◌, length, Ok, Err, IfOk, IfErr};
+ghost use Rattle.v_design.specs.Design.{inputs, outputs};
+ghost use Rattle.v_design.specs.Seen.{module_seen};
+ghost use Rattle.stim_csv.specs.PinTable.{table_of, records_of};
+ghost use Rattle.v_reader.specs.Reading.{IsDesign};
+ghost use Rattle.sim_run.specs.Stimulus.{problem_text as problem_words};
+ghost use Rattle.sim_run.specs.Simulated.{IsSimulated, IsProblem, Prevents};
+
+use crate::SimError;
+use crate::running::run_text;
+use crate::stimulus::problem_text;
+use std::alloc::Global;
+use stim_csv::Stimulus;
+use v_design::Design;
+use v_reader::read;
+use v_syntax::VError;
+
+/// The run of a module from zeros over a table of pin values, as text: the names of its outputs as a line, and a line of
+/// numbers for each vector. The bytes of the module are fewer than 2^32 - 1.
+pub fn simulate(alloc: Global, verilog: &[u8], stimulus: &[u8]) -> Result<Vec<u8>, SimError>
+    requires { length verilog.now < 2 ^ 32 - 1 }
+    ensures ok { IfOk result (λ text. IsSimulated verilog.now stimulus.now text.items) }
+    ensures err { IfErr result (Prevents verilog.now stimulus.now) }
+{
+    let design = match read(alloc, verilog) {
+        Ok(design) => design,
+        Err(VError::NoMemory) => return Err(SimError::NoMemory),
+        Err(error) => return Err(SimError::Verilog(error)),
+    };
+    let table = match table(alloc, verilog, &design, stimulus) {
+        Ok(table) => table,
+        Err(error) => return Err(error),
+    };
+    match run_text(alloc, &design, &table) {
+        Ok(text) => Ok(text),
+        Err(_) => Err(SimError::NoMemory),
+    }
+}
+
+// The table for the inputs of a module that was read.
+fn table(
+    alloc: Global,
+    verilog: &[u8],
+    design: &Design,
+    stimulus: &[u8],
+) -> Result<Stimulus, SimError>
+    requires small { length verilog.now < 2 ^ 32 - 1 }
+    requires few { length design.now.ports.items ≤ length verilog.now }
+    requires is { IsDesign verilog.now design.now }
+    ensures ok { IfOk result (λ s. table_of (inputs (module_seen design.now)) (length (outputs (module_seen design.now))) (records_of stimulus.now) ≡ Ok s) }
+    ensures err { IfErr result (Prevents verilog.now stimulus.now) }
+{
+    let outputs = design.outputs().len() as u32;
+    let problem = match Stimulus::read(alloc, stimulus, design.inputs(), outputs) {
+        Ok(table) => return Ok(table),
+        Err(problem) => problem,
+    };
+    match problem_text(alloc, design.inputs(), problem) {
+        Ok(text) => Err(SimError::Stimulus(text)),
+        Err(_) => Err(SimError::NoMemory),
+    }
+}

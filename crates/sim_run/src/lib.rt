@@ -1,0 +1,14 @@
+//! The run of a module over a table of pin values, as text.
+#![tactic(auto)]
+
+mod answer;
+mod error;
+mod printed;
+mod running;
+mod stimulus;
+#[cfg(test)]
+mod tests;
+
+pub use answer::simulate;
+pub use error::SimError;
+pub use printed::{push_names, push_numbers};

@@ -1,0 +1,9 @@
+pub mod Scanning
+pub mod Placed
+pub mod Nesting
+pub mod Uncapped
+pub mod Answering
+pub mod Verdicts
+pub mod Within
+pub mod Few
+pub mod Results
