@@ -1,0 +1,6 @@
+//! The register machine of a block as a program, one rising edge of the clock at a time.
+#![tactic(auto)]
+
+mod effects;
+mod sight;
+mod table;
