@@ -1,1 +1,3 @@
-
+pub mod Scenes
+pub mod Lines
+pub mod Settling

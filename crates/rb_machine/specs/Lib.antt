@@ -1,2 +1,4 @@
 pub mod Table
 pub mod Sight
+pub mod Plan
+pub mod Scene

@@ -2,5 +2,7 @@
 #![tactic(auto)]
 
 mod effects;
+mod plan;
+mod scene;
 mod sight;
 mod table;

@@ -6,9 +6,11 @@ ghost use Rattle.rb_model.specs.Items.{Now};
 ghost use Rattle.rb_machine.specs.Table.{values_of};
 ghost use Rattle.rb_machine.specs.Sight.{GateSees};
 
-use crate::effects::{counted, finished, latched, loaded, overflows, underflows};
+use crate::effects::{
+    counted, counting, finished, is_interrupt, is_on, latched, loaded, overflows, underflows,
+};
 use crate::table::{item_value, number_at};
-use rb_model::{Amount, Class, Feed, Field, Gate, Level, Mask, Part};
+use rb_model::{Amount, Class, Feed, Field, Gate, Level, Mask, Part, RefItem};
 
 /// What a field keeps from one edge to the next.
 #[derive(Clone, Copy)]
@@ -138,6 +140,7 @@ impl<'a> FieldNow<'a> {
     ghost use Rattle.rb_model.specs.Kept.{Val};
     ghost use Rattle.rb_model.specs.Machine as machine;
     ghost use Rattle.rb_machine.specs.Table.{values_of};
+    ghost use Rattle.rb_machine.specs.Scene.{raises_line};
     ghost use Rattle.rb_machine.specs.Sight.{Sees};
 
     /// The number of the pin at a place.
@@ -229,6 +232,21 @@ impl<'a> FieldNow<'a> {
             None => 0,
             Some(count) => u64::from(value <= level_value(count.below, self.table)),
         }
+    }
+
+    /// Whether the field, which has this value, raises the line intr of a register, or its line halt.
+    pub fn raises(&self, value: u64, reg: u32, halt: bool) -> bool
+        requires { self.now.field.now.width ≤ 64 }
+        ensures { (k : ℕ) → value ≡ values_of self.now.table.now (RefItem.Field k)
+            → result ≡ raises_line (values_of self.now.table.now) halt reg (k, self.now.field.now) }
+    {
+        let field = self.field;
+        let mask = if halt { field.halt } else { field.enable };
+        let bits = mask_value(mask, self.table);
+        (!halt || is_on(mask))
+            && is_interrupt(field.latch)
+            && field.reg == reg
+            && 0 < counting(mask, field.width, value, bits)
     }
 
     /// What the count makes of a value.

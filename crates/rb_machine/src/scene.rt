@@ -1,0 +1,189 @@
+//! What a block finds at an edge, and the values of its items.
+ghost use Rattle.std.specs.Prelude.{◌≡◌};
+
+use crate::effects::ones;
+use crate::plan::Plan;
+use crate::sight::{FieldNow, FieldState};
+use crate::table::{item_place, item_value, number_at};
+use rb_model::{Block, RefItem};
+
+/// What is held from one edge to the next: of each field, and of a bus with a wait state that the vector before carried
+/// an access, and the data and the error that answer it.
+#[derive(Drop)]
+pub(crate) struct Held {
+    pub fields: Vec<FieldState>,
+    pub waited: bool,
+    pub data: u64,
+    pub error: bool,
+}
+
+/// Whether an access modifies a field, and whether it reads or writes it.
+#[derive(Clone, Copy)]
+pub(crate) struct Mark {
+    pub modified: bool,
+    pub accessed: bool,
+}
+
+/// A block at an edge, with the pins, what it holds, and the marks of the access.
+#[derive(Clone, Copy)]
+pub(crate) struct Scene<'a> {
+    pub block: &'a Block,
+    pub plan: &'a Plan,
+    pub pins: &'a [u64],
+    pub held: &'a Held,
+    pub marks: &'a [Mark],
+}
+
+impl<'a> Scene<'a> {
+    ghost use Rattle.std.specs.Prelude.{◌≡◌, ◌<◌, ℕ, false, None, Some, MatchOption, length, slice_get};
+    ghost use Rattle.rb_machine.specs.Plan.{members_of};
+    ghost use Rattle.std.specs.List.{enumerate_from, list_any};
+    ghost use Rattle.std.specs.Option.{option_map_or};
+    ghost use Rattle.rb_model.specs.declared.kinds.RefItem.{RefItem};
+    ghost use Rattle.rb_model.specs.Items as spec;
+    ghost use Rattle.rb_model.specs.Items.{Access, AreItemValues};
+    ghost use Rattle.rb_model.specs.Ports.{signal_name};
+    ghost use Rattle.rb_model.specs.Run.{pins_of};
+    ghost use Rattle.rb_machine.specs.Table as places;
+    ghost use Rattle.rb_machine.specs.Table.{values_of};
+    ghost use Rattle.rb_machine.specs.Scene.{AreMarks, IsAt, IsScene, mark_at, now_in, raises_line};
+
+    /// The field of a number, if there is one.
+    pub fn at(&self, table: &'a [u64], number: usize) -> Option<FieldNow<'a>>
+        requires { IsScene self.now }
+        ensures { MatchOption result (slice_get self.now.block.now.fields number ≡ None) (IsAt self.now table.now number) }
+    {
+        let block = self.block;
+        let field = block.fields.items.get(number)?;
+        let places = self.plan.fields.get(number)?;
+        let state = self.held.fields.get(number)?;
+        Some(FieldNow {
+            field,
+            places,
+            pins: self.pins,
+            table,
+            state: *state,
+        })
+    }
+
+    /// The number at a signal's pin.
+    pub fn signal_pin(&self, number: u32) -> u64
+        requires { IsScene self.now }
+        ensures { result ≡ option_map_or (λ g. pins_of self.now.block.now self.now.pins.now (signal_name g)) (slice_get self.now.block.now.signals number) 0 }
+    {
+        let block = self.block;
+        if number as usize >= block.signals.items.len() {
+            return 0;
+        }
+        match self.plan.signals.get(number as usize) {
+            Some(place) => number_at(self.pins, *place),
+            None => 0,
+        }
+    }
+
+    /// What the access does to the field of a number.
+    fn mark(&self, number: u32) -> Mark
+        ensures { result ≡ mark_at self.now.marks.now number }
+    {
+        match self.marks.get(number as usize) {
+            Some(mark) => *mark,
+            None => Mark {
+                modified: false,
+                accessed: false,
+            },
+        }
+    }
+
+    /// Whether a field raises the line intr of a register, or its line halt.
+    fn raises(&self, table: &[u64], number: u32, reg: u32, halt: bool) -> bool
+        requires { IsScene self.now }
+        ensures { result ≡ option_map_or (λ f. raises_line (values_of table.now) halt reg (number, f)) (slice_get self.now.block.now.fields number) false }
+    {
+        match self.at(table, number as usize) {
+            None => false,
+            Some(at) => at.raises(item_value(table, RefItem::Field(number)), reg, halt),
+        }
+    }
+
+    /// The interrupts that are listed for a register.
+    fn members(&self, reg: u32) -> &[u32]
+        ensures { result.now ≡ members_of self.now.plan.now reg }
+    {
+        match self.plan.members.get(reg as usize) {
+            Some(members) => members,
+            None => &[],
+        }
+    }
+
+    /// Whether a field raises the line intr of a register, or its line halt.
+    fn is_raised(&self, table: &[u64], reg: u32, halt: bool) -> bool
+        requires { IsScene self.now }
+        ensures { result ≡ list_any (raises_line (values_of table.now) halt reg) (enumerate_from 0 self.now.block.now.fields) }
+    {
+        for number in self.members(reg) {
+            if self.raises(table, *number, reg, halt) {
+                return true;
+            }
+        }
+        false
+    }
+
+    /// What an item is made of the others' values.
+    fn made(&self, table: &[u64], item: RefItem) -> u64
+        requires { IsScene self.now }
+        ensures { (a : Access) → AreMarks self.now.block.now a self.now.marks.now
+            → result ≡ spec.made self.now.block.now (now_in self.now a) (values_of table.now) item }
+    {
+        match item {
+            RefItem::Field(number) => match self.at(table, number as usize) {
+                None => 0,
+                Some(at) => at.class_value(),
+            },
+            RefItem::Signal(number) => self.signal_pin(number),
+            RefItem::Anded(number) => match self.at(table, number as usize) {
+                None => 0,
+                Some(at) => u64::from(
+                    item_value(table, RefItem::Field(number)) == ones(at.field.width),
+                ),
+            },
+            RefItem::Ored(number) => u64::from(0 < item_value(table, RefItem::Field(number))),
+            RefItem::Xored(number) => {
+                u64::from(item_value(table, RefItem::Field(number)).count_ones() % 2)
+            }
+            RefItem::IncrThreshold(number) => match self.at(table, number as usize) {
+                None => 0,
+                Some(at) => at.incr_threshold(item_value(table, RefItem::Field(number))),
+            },
+            RefItem::DecrThreshold(number) => match self.at(table, number as usize) {
+                None => 0,
+                Some(at) => at.decr_threshold(item_value(table, RefItem::Field(number))),
+            },
+            RefItem::Overflow(number) => match self.at(table, number as usize) {
+                None => 0,
+                Some(at) => at.overflow(),
+            },
+            RefItem::Underflow(number) => match self.at(table, number as usize) {
+                None => 0,
+                Some(at) => at.underflow(),
+            },
+            RefItem::SwMod(number) => u64::from(self.mark(number).modified),
+            RefItem::SwAcc(number) => u64::from(self.mark(number).accessed),
+            RefItem::Intr(number) => u64::from(self.is_raised(table, number, false)),
+            RefItem::Halt(number) => u64::from(self.is_raised(table, number, true)),
+        }
+    }
+
+    /// Computes each item once, behind those that it refers to.
+    pub fn settle(&self, table: &mut [u64])
+        requires scene { IsScene self.now }
+        requires room { (k : ℕ) (i : RefItem) → slice_get self.now.block.now.order k ≡ Some i → places.item_place i < length table.old }
+        ensures { (a : Access) → AreMarks self.now.block.now a self.now.marks.now
+            → AreItemValues self.now.block.now (now_in self.now a) (values_of table.new) }
+    {
+        let block = self.block;
+        for item in &block.order.items {
+            let value = self.made(table, *item);
+            table[item_place(*item)] = value;
+        }
+    }
+}
