@@ -1,3 +1,5 @@
 pub mod Scenes
 pub mod Lines
 pub mod Settling
+pub mod Buses
+pub mod Holding

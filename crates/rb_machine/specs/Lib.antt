@@ -2,3 +2,6 @@ pub mod Table
 pub mod Sight
 pub mod Plan
 pub mod Scene
+pub mod Slots
+pub mod Moves
+pub mod Transfers

@@ -3,8 +3,9 @@ ghost use Rattle.std.specs.Prelude.{◌≡◌};
 
 use crate::effects::ones;
 use crate::plan::Plan;
+use crate::reset::signal_pin;
 use crate::sight::{FieldNow, FieldState};
-use crate::table::{item_place, item_value, number_at};
+use crate::table::{item_place, item_value};
 use rb_model::{Block, RefItem};
 
 /// What is held from one edge to the next: of each field, and of a bus with a wait state that the vector before carried
@@ -66,21 +67,6 @@ impl<'a> Scene<'a> {
         })
     }
 
-    /// The number at a signal's pin.
-    pub fn signal_pin(&self, number: u32) -> u64
-        requires { IsScene self.now }
-        ensures { result ≡ option_map_or (λ g. pins_of self.now.block.now self.now.pins.now (signal_name g)) (slice_get self.now.block.now.signals number) 0 }
-    {
-        let block = self.block;
-        if number as usize >= block.signals.items.len() {
-            return 0;
-        }
-        match self.plan.signals.get(number as usize) {
-            Some(place) => number_at(self.pins, *place),
-            None => 0,
-        }
-    }
-
     /// What the access does to the field of a number.
     fn mark(&self, number: u32) -> Mark
         ensures { result ≡ mark_at self.now.marks.now number }
@@ -139,7 +125,7 @@ impl<'a> Scene<'a> {
                 None => 0,
                 Some(at) => at.class_value(),
             },
-            RefItem::Signal(number) => self.signal_pin(number),
+            RefItem::Signal(number) => signal_pin(self.block, self.plan, self.pins, number),
             RefItem::Anded(number) => match self.at(table, number as usize) {
                 None => 0,
                 Some(at) => u64::from(

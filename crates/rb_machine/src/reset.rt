@@ -1,0 +1,81 @@
+//! Resets, and the pins of signals.
+ghost use Rattle.std.specs.Prelude.{◌≡◌, ℕ, Some, ◌&&◌, not, length, slice_get};
+ghost use Rattle.std.specs.Option.{option_map_or};
+ghost use Rattle.rb_model.specs.declared.block.Field.{Field};
+ghost use Rattle.rb_model.specs.Machine as spec;
+ghost use Rattle.rb_model.specs.Ports.{input_pins, signal_name};
+ghost use Rattle.rb_model.specs.Run.{pins_of};
+ghost use Rattle.rb_machine.specs.Moves as moves;
+ghost use Rattle.rb_machine.specs.Plan.{IsPlanOf};
+ghost use Rattle.rb_machine.specs.Scene.{state_at};
+
+use crate::plan::Plan;
+use crate::sight::FieldState;
+use crate::table::number_at;
+use rb_model::{Block, Field, ResetBy};
+
+/// The number at the pin of the signal of a number, or 0 where there is none.
+pub(crate) fn signal_pin(block: &Block, plan: &Plan, pins: &[u64], number: u32) -> u64
+    requires planned { IsPlanOf block.now plan.now }
+    requires sized { length pins.now ≡ length (input_pins block.now) }
+    ensures { result ≡ option_map_or (λ g. pins_of block.now pins.now (signal_name g)) (slice_get block.now.signals number) 0 }
+{
+    if number as usize >= block.signals.items.len() {
+        return 0;
+    }
+    match plan.signals.get(number as usize) {
+        Some(place) => number_at(pins, *place),
+        None => 0,
+    }
+}
+
+/// The number at the pin of a reset.
+fn reset_pin(block: &Block, plan: &Plan, pins: &[u64], by: ResetBy) -> u64
+    requires planned { IsPlanOf block.now plan.now }
+    requires sized { length pins.now ≡ length (input_pins block.now) }
+    ensures { result ≡ spec.reset_pin block.now (pins_of block.now pins.now) by }
+{
+    match by.signal {
+        None => number_at(pins, plan.bus.resetn),
+        Some(signal) => signal_pin(block, plan, pins, signal),
+    }
+}
+
+/// Whether a reset is asserted.
+pub(crate) fn is_asserted(block: &Block, plan: &Plan, pins: &[u64], by: ResetBy) -> bool
+    requires planned { IsPlanOf block.now plan.now }
+    requires sized { length pins.now ≡ length (input_pins block.now) }
+    ensures { result ≡ spec.is_asserted block.now (pins_of block.now pins.now) by }
+{
+    let asserted = if by.low { 0 } else { 1 };
+    reset_pin(block, plan, pins, by) == asserted
+}
+
+/// What a field keeps, under reset or not. One without a reset value keeps its value.
+pub(crate) fn reset_state(field: &Field, asserted: bool, state: FieldState) -> FieldState
+    ensures { result ≡ moves.reset_state field.now asserted state }
+{
+    if asserted {
+        FieldState {
+            value: field.reset.unwrap_or(state.value),
+            last: 0,
+            done: false,
+        }
+    } else {
+        state
+    }
+}
+
+/// An asserted asynchronous reset acts on what the fields keep before anything is read.
+pub(crate) fn hold_fields(block: &Block, plan: &Plan, pins: &[u64], states: &mut [FieldState])
+    requires planned { IsPlanOf block.now plan.now }
+    requires sized { length pins.now ≡ length (input_pins block.now) }
+    requires states { length states.old ≡ length block.now.fields }
+    ensures { (k : ℕ) (f : Field) → slice_get block.now.fields k ≡ Some f
+        → state_at states.new k ≡ moves.reset_state f (spec.is_asserted block.now (pins_of block.now pins.now) f.reset_by && not f.reset_by.sync) (state_at states.old k) }
+{
+    for (number, field) in block.fields.items.iter().enumerate() {
+        let asserted = is_asserted(block, plan, pins, field.reset_by) && !field.reset_by.sync;
+        states[number] = reset_state(field, asserted, states[number]);
+    }
+}
