@@ -3,3 +3,4 @@ pub mod Lines
 pub mod Settling
 pub mod Buses
 pub mod Holding
+pub mod Touching

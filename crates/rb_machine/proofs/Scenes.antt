@@ -29,7 +29,7 @@ use Rattle.rb_machine.specs.Sight.{GateSees, Sees}
 pub read_at : {X : Type 0} (xs ys : List X) (k : ℕ) (x : X) → xs ≡ ys → k < length xs → x ≡ get_or xs k x → slice_get ys k ≡ Some x
 read_at xs ys k x e l is = ap (λ zs. slice_get zs k) (sym e) ∙ slice_get_read xs (length xs) k x refl l is
 
-gate_seen : (b : Block) (n : Now) (x : List ℕ) → n.pins ≡ pins_of b x → length x ≡ length (input_pins b) → (g : Gate) (high low path : List ℕ) (place : ℕ) → IsGatePlace b g high low path place → GateSees n g high low path (get_or x place 0)
+pub gate_seen : (b : Block) (n : Now) (x : List ℕ) → n.pins ≡ pins_of b x → length x ≡ length (input_pins b) → (g : Gate) (high low path : List ℕ) (place : ℕ) → IsGatePlace b g high low path place → GateSees n g high low path (get_or x place 0)
 gate_seen b n x e l gate.Always high low path place h = tt
 gate_seen b n x e l (gate.High from) high low path place h = rw e (h.at x l)
 gate_seen b n x e l (gate.Low from) high low path place h = rw e (h.at x l)

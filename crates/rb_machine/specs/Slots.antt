@@ -11,6 +11,9 @@ use Rattle.rb_model.specs.Machine.{slot_bits, view_gate}
 use Rattle.rb_machine.specs.declared.sight.FieldState.{FieldState}
 use Rattle.rb_machine.specs.declared.scene.Mark.{Mark}
 
+abbrev pub no_slot : Slot
+no_slot = record { view = 0; low = 0; from = 0; bits = 0 }
+
 -- what a slot makes of x, which is of field k
 abbrev pub touched : {X : Type 0} → Block → ℕ → (View → Slot → X → X) → X → Slot → X
 touched b k g x s = option_map_or (λ w. if w.field == k then g w s x else x) (slice_get b.views s.view) x
@@ -32,13 +35,16 @@ width_at b k = of_field b k 0 (λ f. f.width)
 abbrev pub read_state : Block → View → Slot → FieldState → FieldState
 read_state b w s x = record { value = after_read w.on_read (width_at b w.field) x.value; last = x.last; done = x.done }
 
--- what a write of the data d makes of it
-abbrev pub write_state : Block → Now → ItemValues → (d : ℕ) → View → Slot → FieldState → FieldState
-write_state b n v d w s x = record {
-  value = after_write w (width_at b w.field) (view_gate n v w) (n.kept (Done w.field)) x.value (slot_bits s d);
+-- what a write of the data d makes of it, where the field is so wide, the view's gate has a value, and so has the mark of a write
+abbrev pub written_by : (width gate done d : ℕ) → View → Slot → FieldState → FieldState
+written_by width gate done d w s x = record {
+  value = after_write w width gate done x.value (slot_bits s d);
   last = x.last;
-  done = x.done || (w.once && acts w (view_gate n v w) (n.kept (Done w.field)));
+  done = x.done || (w.once && acts w gate done);
 }
+
+abbrev pub write_state : Block → Now → ItemValues → (d : ℕ) → View → Slot → FieldState → FieldState
+write_state b n v d w s x = written_by (width_at b w.field) (view_gate n v w) (n.kept (Done w.field)) d w s x
 
 -- what an access makes of it
 abbrev pub access_state : Block → Now → ItemValues → Access → ℕ → FieldState → FieldState

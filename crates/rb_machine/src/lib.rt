@@ -3,6 +3,7 @@
 
 mod bus;
 mod effects;
+mod moves;
 mod plan;
 mod reset;
 mod scene;

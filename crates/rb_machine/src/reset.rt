@@ -9,6 +9,7 @@ ghost use Rattle.rb_machine.specs.Moves as moves;
 ghost use Rattle.rb_machine.specs.Plan.{IsPlanOf};
 ghost use Rattle.rb_machine.specs.Scene.{state_at};
 
+use crate::effects::{is_storage, keeps_last};
 use crate::plan::Plan;
 use crate::sight::FieldState;
 use crate::table::number_at;
@@ -77,5 +78,24 @@ pub(crate) fn hold_fields(block: &Block, plan: &Plan, pins: &[u64], states: &mut
     for (number, field) in block.fields.items.iter().enumerate() {
         let asserted = is_asserted(block, plan, pins, field.reset_by) && !field.reset_by.sync;
         states[number] = reset_state(field, asserted, states[number]);
+    }
+}
+
+/// What a field keeps of this.
+pub(crate) fn kept_state(field: &Field, state: FieldState) -> FieldState
+    ensures { result ≡ moves.kept_state field.now state }
+{
+    FieldState {
+        value: if is_storage(field.class) {
+            state.value
+        } else {
+            0
+        },
+        last: if keeps_last(field.latch) {
+            state.last
+        } else {
+            0
+        },
+        done: field.once && state.done,
     }
 }

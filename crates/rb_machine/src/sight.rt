@@ -140,6 +140,7 @@ impl<'a> FieldNow<'a> {
     ghost use Rattle.rb_model.specs.Kept.{Val};
     ghost use Rattle.rb_model.specs.Machine as machine;
     ghost use Rattle.rb_machine.specs.Table.{values_of};
+    ghost use Rattle.rb_machine.specs.Moves as moves;
     ghost use Rattle.rb_machine.specs.Scene.{raises_line};
     ghost use Rattle.rb_machine.specs.Sight.{Sees};
 
@@ -280,5 +281,37 @@ impl<'a> FieldNow<'a> {
         let clear = fed(field.clear, self.pin(self.places.clear), self.table);
         let bits = mask_value(field.keep, self.table);
         finished(field, value, after_latch, set, clear, bits)
+    }
+
+    /// What the field has before software: its value, or what hardware makes of it where software comes last.
+    pub fn started(&self) -> FieldState
+        requires { self.now.field.now.width ≤ 64 }
+        ensures { (n : Now) (k : ℕ) → Sees n k self.now → result ≡ moves.started_state n (values_of self.now.table.now) k self.now.field.now self.now.state }
+    {
+        FieldState {
+            value: if self.field.hw_first {
+                self.state.value
+            } else {
+                self.hardware(self.state.value)
+            },
+            last: self.source_value(),
+            done: self.state.done,
+        }
+    }
+
+    /// What is made of what software left, where hardware comes last.
+    pub fn ended(&self, state: FieldState) -> FieldState
+        requires { self.now.field.now.width ≤ 64 }
+        ensures { (n : Now) (k : ℕ) → Sees n k self.now → result ≡ moves.ended_state n (values_of self.now.table.now) k self.now.field.now state }
+    {
+        FieldState {
+            value: if self.field.hw_first {
+                self.hardware(state.value)
+            } else {
+                state.value
+            },
+            last: state.last,
+            done: state.done,
+        }
     }
 }

@@ -1,0 +1,146 @@
+//! What the fields keep after an edge, and what the access is answered.
+ghost use Rattle.std.specs.Prelude.{◌≡◌, ◌<◌, ℕ, Some, length, slice_get};
+ghost use Rattle.rb_model.specs.declared.block.Field.{Field};
+ghost use Rattle.rb_model.specs.Items.{NoAccess};
+ghost use Rattle.rb_model.specs.Machine as spec;
+ghost use Rattle.rb_model.specs.Sound.{IsSound};
+ghost use Rattle.rb_machine.specs.Moves.{next_state, started_state};
+ghost use Rattle.rb_machine.specs.Scene.{AreMarks, IsScene, no_mark, now_in, mark_at, state_at};
+ghost use Rattle.rb_machine.specs.Slots.{access_state};
+ghost use Rattle.rb_machine.specs.Table.{values_of};
+ghost use Rattle.rb_machine.specs.Transfers.{IsThere, access_seen};
+
+use crate::bus::Access;
+use crate::reset::{is_asserted, kept_state, reset_state};
+use crate::scene::{Mark, Scene};
+use crate::sight::FieldState;
+use crate::slots::{mark_read, mark_write, read_states, word_value, write_states};
+use rb_model::Block;
+
+/// Takes all marks away.
+fn clear(marks: &mut [Mark])
+    ensures { (k : ℕ) → mark_at marks.new k ≡ no_mark }
+{
+    for mark in marks.iter_mut() {
+        *mark = Mark {
+            modified: false,
+            accessed: false,
+        };
+    }
+}
+
+/// Marks the fields that an access reaches.
+pub(crate) fn mark_access(block: &Block, access: Access, marks: &mut [Mark])
+    requires sound { IsSound block.now }
+    requires there { IsThere block.now access }
+    requires sized { length marks.old ≡ length block.now.fields }
+    ensures { AreMarks block.now (access_seen access) marks.new }
+{
+    clear(marks);
+    match access {
+        Access::Off => (),
+        Access::Read(number) => mark_read(block, &block.reads.items[number], marks),
+        Access::Write(number, _) => mark_write(block, &block.writes.items[number], marks),
+    }
+}
+
+/// What an access is answered.
+pub(crate) fn answer(block: &Block, table: &[u64], access: Access) -> u64
+    requires sound { IsSound block.now }
+    requires there { IsThere block.now access }
+    ensures { result ≡ spec.read_data block.now (values_of table.now) (access_seen access) }
+{
+    match access {
+        Access::Off => 0,
+        Access::Read(number) => word_value(block, &block.reads.items[number], table),
+        Access::Write(_, _) => 0,
+    }
+}
+
+/// What software makes of what the fields keep.
+fn software(scene: &Scene, table: &[u64], access: Access, states: &mut [FieldState])
+    requires scene { IsScene scene.now }
+    requires there { IsThere scene.now.block.now access }
+    requires sized { length states.old ≡ length scene.now.block.now.fields }
+    ensures { (k : ℕ) → state_at states.new k
+        ≡ access_state scene.now.block.now (now_in scene.now NoAccess) (values_of table.now) (access_seen access) k (state_at states.old k) }
+{
+    let block = scene.block;
+    match access {
+        Access::Off => (),
+        Access::Read(number) => read_states(block, &block.reads.items[number], states),
+        Access::Write(number, bits) => {
+            write_states(scene, table, &block.writes.items[number], bits, states)
+        }
+    }
+}
+
+/// What the field of a number has before software: its value, or what hardware makes of it where software comes last.
+fn started(scene: &Scene, table: &[u64], number: usize) -> FieldState
+    requires scene { IsScene scene.now }
+    ensures { (f : Field) → slice_get scene.now.block.now.fields number ≡ Some f
+        → result ≡ started_state (now_in scene.now NoAccess) (values_of table.now) number f (state_at scene.now.held.now.fields.items number) }
+{
+    match scene.at(table, number) {
+        None => FieldState {
+            value: 0,
+            last: 0,
+            done: false,
+        },
+        Some(at) => at.started(),
+    }
+}
+
+/// What the field of a number keeps after the edge, of what software left.
+fn next(scene: &Scene, table: &[u64], number: usize, state: FieldState) -> FieldState
+    requires scene { IsScene scene.now }
+    ensures { (f : Field) → slice_get scene.now.block.now.fields number ≡ Some f
+        → result ≡ next_state scene.now.block.now (now_in scene.now NoAccess) (values_of table.now) number f state }
+{
+    match scene.at(table, number) {
+        None => state,
+        Some(at) => {
+            let asserted = is_asserted(scene.block, scene.plan, scene.pins, at.field.reset_by);
+            kept_state(at.field, reset_state(at.field, asserted, at.ended(state)))
+        }
+    }
+}
+
+/// What each field has before software.
+fn start(scene: &Scene, table: &[u64], states: &mut [FieldState])
+    requires scene { IsScene scene.now }
+    requires sized { length states.old ≡ length scene.now.block.now.fields }
+    ensures { (k : ℕ) (f : Field) → slice_get scene.now.block.now.fields k ≡ Some f
+        → state_at states.new k ≡ started_state (now_in scene.now NoAccess) (values_of table.now) k f (state_at scene.now.held.now.fields.items k) }
+{
+    for number in 0..states.len() {
+        states[number] = started(scene, table, number);
+    }
+}
+
+/// What each field keeps after the edge, of what software left.
+fn finish(scene: &Scene, table: &[u64], states: &mut [FieldState])
+    requires scene { IsScene scene.now }
+    requires sized { length states.old ≡ length scene.now.block.now.fields }
+    ensures { (k : ℕ) (f : Field) → slice_get scene.now.block.now.fields k ≡ Some f
+        → state_at states.new k ≡ next_state scene.now.block.now (now_in scene.now NoAccess) (values_of table.now) k f (state_at states.old k) }
+{
+    for number in 0..states.len() {
+        states[number] = next(scene, table, number, states[number]);
+    }
+}
+
+/// What each field keeps after the edge.
+pub(crate) fn move_fields(scene: &Scene, table: &[u64], access: Access, states: &mut [FieldState])
+    requires scene { IsScene scene.now }
+    requires there { IsThere scene.now.block.now access }
+    requires sized { length states.old ≡ length scene.now.block.now.fields }
+    ensures { (k : ℕ) (f : Field) → slice_get scene.now.block.now.fields k ≡ Some f → state_at states.new k
+        ≡ next_state scene.now.block.now (now_in scene.now NoAccess) (values_of table.now) k f
+            (access_state scene.now.block.now (now_in scene.now NoAccess) (values_of table.now) (access_seen access) k
+                (started_state (now_in scene.now NoAccess) (values_of table.now) k f (state_at scene.now.held.now.fields.items k))) }
+{
+    start(scene, table, states);
+    software(scene, table, access, states);
+    finish(scene, table, states);
+}
