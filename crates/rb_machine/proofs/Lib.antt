@@ -4,3 +4,5 @@ pub mod Settling
 pub mod Buses
 pub mod Holding
 pub mod Touching
+pub mod Moving
+pub mod Accessing
