@@ -6,3 +6,5 @@ pub mod Holding
 pub mod Touching
 pub mod Moving
 pub mod Accessing
+pub mod Narrow
+pub mod Stepping

@@ -5,3 +5,4 @@ pub mod Scene
 pub mod Slots
 pub mod Moves
 pub mod Transfers
+pub mod Machines

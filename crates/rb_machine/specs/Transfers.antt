@@ -1,8 +1,8 @@
 -- The bus at a vector.
-use Rattle.std.specs.Prelude.{◌≡◌, ◌<◌, ℕ, Bool, if◌then◌else◌, length}
+use Rattle.std.specs.Prelude.{◌≡◌, ◌<◌, ℕ, ◌&&◌, if◌then◌else◌, length}
 use Rattle.v_design.specs.Expr.{bit_of}
 use Rattle.rb_model.specs.declared.block.Block.{Block}
-use Rattle.rb_model.specs.Kept.{Map, Waited}
+use Rattle.rb_model.specs.Kept.{Map, has_wait}
 use Rattle.rb_model.specs.Protocol as protocol
 use Rattle.rb_model.specs.Items as items
 use Rattle.rb_model.specs.Run as run
@@ -10,6 +10,8 @@ use Rattle.rb_machine.specs.declared.bus.Bus.{Bus}
 use Rattle.rb_machine.specs.declared.bus.Access.{Access}
 use Rattle.rb_machine.specs.declared.bus.Access.TheVariants as access
 use Rattle.rb_machine.specs.declared.bus.Transfer.{Transfer}
+use Rattle.rb_machine.specs.declared.bus.BusOuts.{BusOuts}
+use Rattle.rb_machine.specs.declared.scene.Held.{Held}
 
 abbrev pub bus_seen : Bus → protocol.Bus
 bus_seen p = record { resetn = p.resetn; address = p.address; select = p.select; enable = p.enable; write = p.write; data_in = p.data_in }
@@ -32,3 +34,11 @@ pub record IsTransfer (b : Block) (p : protocol.Bus) (m : Map) (t : Transfer) : 
   pub carries : t.carries ≡ run.carries b p m
   pub closes : t.closes ≡ run.closes b p m
   pub unmapped : t.unmapped ≡ run.is_unmapped b p
+
+-- what the bus shows, where the access is answered this
+abbrev pub outs_shown : Block → Transfer → Held → (answer : ℕ) → BusOuts
+outs_shown b t h answer = record {
+  ready = if has_wait b then bit_of t.closes else 1;
+  «data» = if has_wait b then (if t.closes then h.«data» else 0) else answer;
+  error = if has_wait b then (if t.closes then bit_of h.error else 0) else bit_of (t.carries && t.unmapped);
+}

@@ -14,11 +14,13 @@ ghost use Rattle.rb_model.specs.Run.{pins_of};
 ghost use Rattle.rb_model.specs.Sound.{IsSound};
 ghost use Rattle.rb_machine.specs.Plan.{IsPlanOf};
 ghost use Rattle.rb_machine.specs.Scene.{map_of};
+ghost use Rattle.rb_machine.specs.Transfers as transfers;
 ghost use Rattle.rb_machine.specs.Transfers.{IsTransfer, access_seen, bus_seen};
 
 use crate::plan::Plan;
 use crate::reset::hold_fields;
 use crate::scene::Held;
+use crate::sight::FieldState;
 use crate::table::number_at;
 use rb_model::Block;
 
@@ -49,6 +51,14 @@ pub(crate) struct Transfer {
     pub carries: bool,
     pub closes: bool,
     pub unmapped: bool,
+}
+
+/// The numbers of the bus's output pins.
+#[derive(Clone, Copy)]
+pub(crate) struct BusOuts {
+    pub ready: u64,
+    pub data: u64,
+    pub error: u64,
 }
 
 /// The numbers at the bus's input pins.
@@ -157,4 +167,52 @@ pub(crate) fn hold(block: &Block, plan: &Plan, pins: &[u64], bus: &Bus, held: &m
         held.data = 0;
         held.error = false;
     }
+}
+
+/// The numbers of the bus's output pins, where the access is answered this. With a wait state the vector that closes an
+/// access shows what is held, and else none does.
+pub(crate) fn outs_shown(block: &Block, transfer: Transfer, held: &Held, answer: u64) -> BusOuts
+    ensures { result ≡ transfers.outs_shown block.now transfer held.now answer }
+{
+    if block.waits != 1 {
+        return BusOuts {
+            ready: 1,
+            data: answer,
+            error: u64::from(transfer.carries && transfer.unmapped),
+        };
+    }
+    if transfer.closes {
+        BusOuts {
+            ready: 1,
+            data: held.data,
+            error: u64::from(held.error),
+        }
+    } else {
+        BusOuts {
+            ready: 0,
+            data: 0,
+            error: 0,
+        }
+    }
+}
+
+/// Holds what the fields keep after the edge, and with a wait state the access and its answer.
+pub(crate) fn commit(
+    block: &Block,
+    transfer: Transfer,
+    answer: u64,
+    states: &[FieldState],
+    held: &mut Held,
+)
+    requires { length held.old.fields.items ≡ length states.now }
+    ensures fields { held.new.fields.items ≡ states.now }
+    ensures waited { held.new.waited ≡ (has_wait block.now && transfer.carries) }
+    ensures answer { held.new.«data» ≡ (if has_wait block.now then answer else 0) }
+    ensures error { held.new.error ≡ (has_wait block.now && (transfer.carries && transfer.unmapped)) }
+{
+    held.fields.copy_from_slice(states);
+    let waits = block.waits == 1;
+    held.waited = waits && transfer.carries;
+    held.data = if waits { answer } else { 0 };
+    held.error = waits && (transfer.carries && transfer.unmapped);
 }

@@ -3,6 +3,7 @@
 
 mod bus;
 mod effects;
+mod machine;
 mod moves;
 mod plan;
 mod reset;
@@ -10,3 +11,5 @@ mod scene;
 mod sight;
 mod slots;
 mod table;
+
+pub use machine::Machine;

@@ -1,0 +1,32 @@
+-- A register machine, and the map that it holds.
+use Rattle.std.specs.Prelude.{◌≡◌, ℕ, ◌<◌, Some, List, length, slice_get}
+use Rattle.rb_model.specs.declared.kinds.RefItem.{RefItem}
+use Rattle.rb_model.specs.declared.block.Block.{Block}
+use Rattle.rb_model.specs.Items.{Access, Now}
+use Rattle.rb_model.specs.Run.{pins_of}
+use Rattle.rb_machine.specs.declared.scene.Held.{Held}
+use Rattle.rb_model.specs.Kept.{Map}
+use Rattle.rb_model.specs.Ports.{input_pins}
+use Rattle.rb_model.specs.Sound.{IsSound}
+use Rattle.rb_machine.specs.declared.machine.Machine.{Machine}
+use Rattle.rb_machine.specs.Plan.{IsPlanOf}
+use Rattle.rb_machine.specs.Scene.{map_of}
+use Rattle.rb_machine.specs.Table.{item_place}
+
+-- the map that a machine holds
+abbrev pub held_map : Machine → Map
+held_map m = map_of m.held
+
+-- a machine is ready: its block is sound, and it has what was looked up and the room for it
+pub record IsReady (m : Machine) : Type 0 where
+  pub sound : IsSound m.block.now
+  pub planned : IsPlanOf m.block.now m.plan
+  pub held : length m.held.fields.items ≡ length m.block.now.fields
+  pub pins : length m.pins.items ≡ length (input_pins m.block.now)
+  pub marks : length m.marks.items ≡ length m.block.now.fields
+  pub states : length m.states.items ≡ length m.block.now.fields
+  pub room : (k : ℕ) (i : RefItem) → slice_get m.block.now.order k ≡ Some i → item_place i < length m.table.items
+
+-- what an access finds at an edge
+abbrev pub at_edge : Block → List ℕ → Held → Access → Now
+at_edge b x h a = record { access = a; pins = pins_of b x; kept = map_of h }

@@ -1,0 +1,163 @@
+//! A register machine.
+ghost use Rattle.std.specs.Prelude.{◌≡◌, ◌∷◌, ◌+◌, ◌<◌, ◌^◌, ℕ, Some, length, map, slice_get, slice_index};
+ghost use Rattle.rb_model.specs.declared.kinds.RefItem.{RefItem};
+ghost use Rattle.rb_model.specs.Items.{AreItemValues};
+ghost use Rattle.rb_model.specs.Kept.{Kept};
+ghost use Rattle.rb_model.specs.Machine as spec;
+ghost use Rattle.rb_model.specs.Ports.{input_pins};
+ghost use Rattle.rb_model.specs.Protocol.{bus_of};
+ghost use Rattle.rb_model.specs.Run.{bus_held, pins_of};
+ghost use Rattle.rb_model.specs.Sound.{IsSound};
+ghost use Rattle.rb_machine.specs.Plan.{IsPlanOf};
+ghost use Rattle.rb_machine.specs.Scene.{map_of};
+ghost use Rattle.rb_machine.specs.Table.{item_place};
+ghost use Rattle.rb_machine.specs.Transfers.{IsThere, IsTransfer, access_seen};
+ghost use Rattle.rb_machine.specs.Machines.{at_edge};
+ghost use Rattle.rb_machine.specs.Table.{values_of};
+
+use crate::bus::{Access, BusOuts, Transfer, bus_at, commit, hold, outs_shown, transfer_of};
+use crate::moves::{answer, mark_access, move_fields};
+use crate::plan::Plan;
+use crate::scene::{Held, Mark, Scene};
+use crate::sight::FieldState;
+use crate::table::item_value;
+use rb_model::{Block, RefItem};
+
+/// A register machine of a sound block: what it holds from one clock edge to the next, and room for an edge.
+#[derive(Drop)]
+pub struct Machine<'b> {
+    block: &'b Block,
+    plan: Plan,
+    held: Held,
+    pins: Vec<u64>,
+    marks: Vec<Mark>,
+    table: Vec<u64>,
+    states: Vec<FieldState>,
+}
+
+/// Takes the numbers of the pins, which have at most 64 bits.
+fn read_pins(from: &[u128], into: &mut [u64])
+    requires sized { length into.old ≡ length from.now }
+    requires narrow { (k : ℕ) → slice_index from.now k < 2 ^ 64 }
+    ensures { into.new ≡ from.now }
+{
+    for (index, number) in from.iter().enumerate() {
+        into[index] = *number as u64;
+    }
+}
+
+/// Takes the pins, lets asynchronous resets act on what is held, and answers the bus's part in the vector.
+fn observe(
+    block: &Block,
+    plan: &Plan,
+    from: &[u128],
+    pins: &mut [u64],
+    held: &mut Held,
+) -> Transfer
+    requires sound { IsSound block.now }
+    requires planned { IsPlanOf block.now plan.now }
+    requires sized { length from.now ≡ length (input_pins block.now) }
+    requires narrow { (k : ℕ) → slice_index from.now k < 2 ^ 64 }
+    requires room { length pins.old ≡ length (input_pins block.now) }
+    requires fields { length held.old.fields.items ≡ length block.now.fields }
+    ensures pins { pins.new ≡ from.now }
+    ensures held { (k : Kept) → map_of held.new k
+        ≡ bus_held block.now (bus_of (pins_of block.now from.now)) (spec.held block.now (pins_of block.now from.now) (map_of held.old)) k }
+    ensures fields { length held.new.fields.items ≡ length block.now.fields }
+    ensures transfer { IsTransfer block.now (bus_of (pins_of block.now from.now)) (map_of held.new) result }
+{
+    read_pins(from, pins);
+    let bus = bus_at(plan, pins);
+    hold(block, plan, pins, &bus, held);
+    transfer_of(block, plan, &bus, held.waited)
+}
+
+/// Computes the values of the items.
+fn settle_items(
+    block: &Block,
+    plan: &Plan,
+    pins: &[u64],
+    held: &Held,
+    access: Access,
+    marks: &mut [Mark],
+    table: &mut [u64],
+)
+    requires sound { IsSound block.now }
+    requires planned { IsPlanOf block.now plan.now }
+    requires sized { length pins.now ≡ length (input_pins block.now) }
+    requires fields { length held.now.fields.items ≡ length block.now.fields }
+    requires there { IsThere block.now access }
+    requires marks { length marks.old ≡ length block.now.fields }
+    requires room { (k : ℕ) (i : RefItem) → slice_get block.now.order k ≡ Some i → item_place i < length table.old }
+    ensures { AreItemValues block.now (at_edge block.now pins.now held.now (access_seen access)) (values_of table.new) }
+{
+    mark_access(block, access, marks);
+    let scene = Scene {
+        block,
+        plan,
+        pins,
+        held,
+        marks,
+    };
+    scene.settle(table);
+}
+
+/// Shows the bus's outputs, and then the items.
+fn show(bus: BusOuts, outlets: &[RefItem], table: &[u64], outs: &mut [u128])
+    requires { length outs.old ≡ 3 + length outlets.now }
+    ensures { outs.new ≡ bus.ready ∷ bus.«data» ∷ bus.error ∷ map (values_of table.now) outlets.now }
+{
+    outs[0] = u128::from(bus.ready);
+    outs[1] = u128::from(bus.data);
+    outs[2] = u128::from(bus.error);
+    for (index, item) in outlets.iter().enumerate() {
+        outs[index + 3] = u128::from(item_value(table, *item));
+    }
+}
+
+impl<'b> Machine<'b> {
+    ghost use Rattle.std.specs.Prelude.{◌≡◌, length};
+    ghost use Rattle.v_design.specs.Design.{outputs_among};
+    ghost use Rattle.v_design.specs.Fits.{FitsPins};
+    ghost use Rattle.rb_model.specs.Kept.{Fits};
+    ghost use Rattle.rb_model.specs.Ports.{input_pins, ports};
+    ghost use Rattle.rb_model.specs.Run.{ClockEdge};
+    ghost use Rattle.rb_machine.specs.Machines.{IsReady, held_map};
+
+    /// One rising edge of the clock. The pins are the numbers of the block's inputs without PCLK, and `outs` takes those
+    /// of its outputs, each in port order. The machine moves from the map that it held to the map that the edge keeps,
+    /// and its values stay within their widths. It takes no memory, and time in proportion to the size of the block.
+    pub fn step(&mut self, pins: &[u128], outs: &mut [u128])
+        requires ready { IsReady self.old }
+        requires pins { FitsPins (input_pins self.old.block.now) pins.now }
+        requires outs { length outs.old ≡ length (outputs_among (ports self.old.block.now)) }
+        ensures edge { ClockEdge self.old.block.now (held_map self.old) pins.now outs.new (held_map self.new) }
+        ensures fits { Fits self.old.block.now (held_map self.old) → Fits self.old.block.now (held_map self.new) }
+        ensures ready { IsReady self.new }
+        ensures block { self.new.block ≡ self.old.block }
+    {
+        let block = self.block;
+        let transfer = observe(block, &self.plan, pins, &mut self.pins, &mut self.held);
+        settle_items(
+            block,
+            &self.plan,
+            &self.pins,
+            &self.held,
+            transfer.access,
+            &mut self.marks,
+            &mut self.table,
+        );
+        let scene = Scene {
+            block,
+            plan: &self.plan,
+            pins: &self.pins,
+            held: &self.held,
+            marks: &self.marks,
+        };
+        move_fields(&scene, &self.table, transfer.access, &mut self.states);
+        let answered = answer(block, &self.table, transfer.access);
+        let bus_outs = outs_shown(block, transfer, &self.held, answered);
+        show(bus_outs, &self.plan.outlets, &self.table, outs);
+        commit(block, transfer, answered, &self.states, &mut self.held);
+    }
+}
