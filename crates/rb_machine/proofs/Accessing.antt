@@ -1,9 +1,8 @@
 -- What an access does to a field, over all slots of its word.
-use Rattle.std.proofs.Common.{◌≡◌, ℕ, zero, suc, ◌+◌, ◌<◌, ◌==◌, Bool, true, false, ◌&&◌, ◌||◌, if◌then◌else◌, Option, Some, None, List, [], ◌∷◌, length, fold, slice_get, get_or, refl, sym, ap, ◌∙◌, subst}
+use Rattle.std.proofs.Common.{◌≡◌, ℕ, ◌==◌, Bool, true, false, ◌&&◌, ◌||◌, if◌then◌else◌, Option, Some, None, List, [], ◌∷◌, fold, slice_get, refl, sym, ap, ◌∙◌}
 use Rattle.std.specs.List.{list_any}
 use Rattle.std.specs.Option.{option_map_or}
 use Rattle.std.proofs.lemmas.Map.Views.{exact_unsigned_eq}
-use Rattle.v_design.specs.Expr.{bit_of}
 use Rattle.rb_model.specs.declared.block.Block.{Block}
 use Rattle.rb_model.specs.declared.block.Field.{Field}
 use Rattle.rb_model.specs.declared.block.View.{View}
@@ -11,11 +10,11 @@ use Rattle.rb_model.specs.declared.block.Slot.{Slot}
 use Rattle.rb_model.specs.declared.block.Word.{Word}
 use Rattle.rb_model.specs.Effects.{acts, after_read, after_write, has_read_effect}
 use Rattle.rb_model.specs.Kept.{Done, of_field}
-use Rattle.rb_model.specs.Items.{Access, NoAccess, Read, Write, Now, ItemValues, reaches, shows, slots_of}
-use Rattle.rb_model.specs.Machine.{of_view, slot_bits, slot_read, slot_written, software, uses_up, view_gate}
+use Rattle.rb_model.specs.Items.{Access, NoAccess, Read, Write, Now, ItemValues, shows, slots_of}
+use Rattle.rb_model.specs.Machine.{of_view, slot_bits, software, uses_up, view_gate}
 use Rattle.rb_machine.specs.declared.sight.FieldState.{FieldState}
 use Rattle.rb_machine.specs.declared.scene.Mark.{Mark}
-use Rattle.rb_machine.specs.Scene.{AreMarks, mark_at, no_mark, state_at}
+use Rattle.rb_machine.specs.Scene.{AreMarks, mark_at, no_mark}
 use Rattle.rb_machine.specs.Slots.{access_state, read_mark, read_state, touched, touched_by, width_at, write_mark, write_state}
 
 or_assoc : (a b c : Bool) → ((a || b) || c) ≡ (a || (b || c))
@@ -35,6 +34,7 @@ module _ {X : Type 0} (b : Block) (k : ℕ) (g : View → Slot → X → X) wher
       at : (w : View) (c : Bool) → (w.field == k) ≡ c → pick (if c then g w s x else x) ≡ (pick x || (c && test w))
       at w true e = h w s x (exact_unsigned_eq _ _ e)
       at w false e = or_false (pick x)
+
       by : (o : Option View) → pick (option_map_or (λ w. if w.field == k then g w s x else x) o x) ≡ (pick x || option_map_or (λ w. w.field == k && test w) o false)
       by None = or_false (pick x)
       by (Some w) = at w (w.field == k) refl
@@ -54,6 +54,7 @@ module _ {X : Type 0} (b : Block) (k : ℕ) (g : View → Slot → X → X) wher
       at : (w : View) (c : Bool) → (w.field == k) ≡ c → pick (if c then g w s x else x) ≡ (if c then step w s (pick x) else pick x)
       at w true e = h w s x (exact_unsigned_eq _ _ e)
       at w false e = refl
+
       by : (o : Option View) → pick (option_map_or (λ w. if w.field == k then g w s x else x) o x) ≡ option_map_or (λ w. if w.field == k then step w s (pick x) else pick x) o (pick x)
       by None = refl
       by (Some w) = at w (w.field == k) refl
@@ -71,6 +72,7 @@ module _ {X : Type 0} (b : Block) (k : ℕ) (g : View → Slot → X → X) wher
       at : (w : View) (c : Bool) → pick (if c then g w s x else x) ≡ pick x
       at w true = h w s x
       at w false = refl
+
       by : (o : Option View) → pick (option_map_or (λ w. if w.field == k then g w s x else x) o x) ≡ pick x
       by None = refl
       by (Some w) = at w (w.field == k)
@@ -85,16 +87,20 @@ slots_at ws i w e = ap (λ o. option_map_or (λ w. w.slots) o []) e
 -- the marks of a read, and of a write
 pub read_marks : (b : Block) (i : ℕ) (w : Word) (cleared marks : List Mark) → slice_get b.reads i ≡ Some w → ((k : ℕ) → mark_at cleared k ≡ no_mark)
     → ((k : ℕ) → mark_at marks k ≡ touched_by b k read_mark (mark_at cleared k) w.slots) → AreMarks b (Read i) marks
-read_marks b i w cleared marks here none h = record { modified = λ k. ap (λ m. m.modified) (at k) ∙ any_touched b k read_mark (λ m. m.modified) (λ w. has_read_effect w.on_read) (λ w s x e. refl) no_mark (slots_of b.reads i);
-      accessed = λ k. ap (λ m. m.accessed) (at k) ∙ any_touched b k read_mark (λ m. m.accessed) (λ w. w.reads) (λ w s x e. refl) no_mark (slots_of b.reads i); }
+read_marks b i w cleared marks here none h = record {
+  modified = λ k. ap (λ m. m.modified) (at k) ∙ any_touched b k read_mark (λ m. m.modified) (λ w. has_read_effect w.on_read) (λ w s x e. refl) no_mark (slots_of b.reads i);
+  accessed = λ k. ap (λ m. m.accessed) (at k) ∙ any_touched b k read_mark (λ m. m.accessed) (λ w. w.reads) (λ w s x e. refl) no_mark (slots_of b.reads i);
+}
   where
     at : (k : ℕ) → mark_at marks k ≡ touched_by b k read_mark no_mark (slots_of b.reads i)
     at k = h k ∙ (ap (λ m. touched_by b k read_mark m w.slots) (none k) ∙ ap (touched_by b k read_mark no_mark) (sym (slots_at b.reads i w here)))
 
 pub write_marks : (b : Block) (i d : ℕ) (w : Word) (cleared marks : List Mark) → slice_get b.writes i ≡ Some w → ((k : ℕ) → mark_at cleared k ≡ no_mark)
     → ((k : ℕ) → mark_at marks k ≡ touched_by b k write_mark (mark_at cleared k) w.slots) → AreMarks b (Write i d) marks
-write_marks b i d w cleared marks here none h = record { modified = λ k. ap (λ m. m.modified) (at k) ∙ any_touched b k write_mark (λ m. m.modified) (λ w. w.writes) (λ w s x e. refl) no_mark (slots_of b.writes i);
-      accessed = λ k. ap (λ m. m.accessed) (at k) ∙ any_touched b k write_mark (λ m. m.accessed) (λ w. w.writes) (λ w s x e. refl) no_mark (slots_of b.writes i); }
+write_marks b i d w cleared marks here none h = record {
+  modified = λ k. ap (λ m. m.modified) (at k) ∙ any_touched b k write_mark (λ m. m.modified) (λ w. w.writes) (λ w s x e. refl) no_mark (slots_of b.writes i);
+  accessed = λ k. ap (λ m. m.accessed) (at k) ∙ any_touched b k write_mark (λ m. m.accessed) (λ w. w.writes) (λ w s x e. refl) no_mark (slots_of b.writes i);
+}
   where
     at : (k : ℕ) → mark_at marks k ≡ touched_by b k write_mark no_mark (slots_of b.writes i)
     at k = h k ∙ (ap (λ m. touched_by b k write_mark m w.slots) (none k) ∙ ap (touched_by b k write_mark no_mark) (sym (slots_at b.writes i w here)))
@@ -127,9 +133,11 @@ module _ (b : Block) (n : Now) (v : ItemValues) (k : ℕ) (f : Field) (here : sl
           at : (w : View) (c : Bool) → (if c then read_state b w s x else x).done ≡ x.done
           at w true = refl
           at w false = refl
+
           by : (o : Option View) → (option_map_or (λ w. if w.field == k then read_state b w s x else x) o x).done ≡ x.done
           by None = refl
           by (Some w) = at w (w.field == k)
+
       done_read : (x : FieldState) (ss : List Slot) → (touched_by b k (read_state b) x ss).done ≡ (x.done || false)
       done_read x [] = or_false x.done
       done_read x (s ∷ ss) = done_read (touched b k (read_state b) x s) ss ∙ ap (λ c. c || false) (bit_read x s)

@@ -1,9 +1,8 @@
 -- The access that the bus carries.
-use Rattle.std.proofs.Common.{◌≡◌, ℕ, zero, suc, ◌+◌, ◌<◌, ◌≤◌, ◌==◌, Bool, true, false, not, ◌&&◌, nat_lt, if◌then◌else◌, Option, Some, None, Result, Ok, Err, is_none, is_some, List, [], ◌∷◌, length, map, position, get_or, refl, sym, ap, ◌∙◌, subst, arith, inl, inr, ◌⊎◌}
+use Rattle.std.proofs.Common.{◌≡◌, ℕ, zero, suc, ◌+◌, ◌<◌, ◌≤◌, ◌==◌, Bool, true, false, not, ◌&&◌, nat_lt, if◌then◌else◌, Option, Some, None, is_none, is_some, List, [], ◌∷◌, length, map, position, get_or, refl, sym, ap, ◌∙◌, subst, arith, inl, inr, ◌⊎◌}
 use Rattle.std.specs.List.{position_or_len}
 use Rattle.std.specs.List.Sorted.{IsStrictlyIncreasing}
 use Rattle.std.specs.Option.{option_map_or}
-use Rattle.std.specs.Result.{MatchResult}
 use Rattle.std.proofs.lemmas.List.Sums.{position_or_len_is}
 use Rattle.std.proofs.lemmas.List.Quantifiers.{position-Some}
 use Rattle.std.proofs.lemmas.List.{length-map}
@@ -13,7 +12,7 @@ use Rattle.rb_model.specs.declared.block.Word.{Word}
 use Rattle.rb_model.specs.Kept.{Map, Waited, has_wait}
 use Rattle.rb_model.specs.Protocol as protocol
 use Rattle.rb_model.specs.Items as items
-use Rattle.rb_model.specs.Run.{carried, carries, closes, is_access, is_unmapped, word_at}
+use Rattle.rb_model.specs.Run.{carried, carries, is_access, word_at}
 use Rattle.rb_model.specs.Sound.{IsSound}
 use Rattle.rb_machine.specs.declared.bus.Access.{Access}
 use Rattle.rb_machine.specs.declared.bus.Access.TheVariants as access
@@ -41,6 +40,7 @@ never_falls xs h i j l m = by (same_or_below i j l)
   where
     same_or_below : (i j : ℕ) → i ≤ j → (i ≡ j) ⊎ (i < j)
     same_or_below i j l = grind arith
+
     by : (i ≡ j) ⊎ (i < j) → get_or xs i 0 ≤ get_or xs j 0
     by (inl e) = let q : get_or xs i 0 ≡ get_or xs j 0 = ap (λ n. get_or xs n 0) e in omega (arith, q)
     by (inr k) = omega (arith, rises xs h i j k m)
@@ -73,6 +73,7 @@ found_nowhere xs x i low high = position_past (λ a. x == a) xs
   where
     below_or_not : (k i : ℕ) → (k < i) ⊎ (i ≤ k)
     below_or_not k i = grind arith
+
     by : (k : ℕ) → k < length xs → (k < i) ⊎ (i ≤ k) → (x == get_or xs k 0) ≡ false
     by k l (inl b) = differ x (get_or xs k 0) (low k b)
     by k l (inr b) = differ_above x (get_or xs k 0) (high k b l)

@@ -1,11 +1,10 @@
 -- What is held under reset.
-use Rattle.std.proofs.Common.{◌≡◌, ℕ, zero, suc, ◌<◌, ◌≤◌, ◌==◌, Bool, true, false, not, ◌&&◌, if◌then◌else◌, Option, Some, None, unwrap_or, List, [], ◌∷◌, length, slice_get, get_or, refl, sym, ap, ◌∙◌, subst, arith, inl, inr, ◌⊎◌}
+use Rattle.std.proofs.Common.{◌≡◌, ℕ, zero, suc, ◌<◌, ◌≤◌, ◌==◌, Bool, true, false, not, ◌&&◌, if◌then◌else◌, Option, Some, None, unwrap_or, List, [], ◌∷◌, length, slice_get, refl, sym, ap, ◌∙◌, arith, inl, inr, ◌⊎◌}
 use Rattle.std.specs.Option.{option_map_or}
-use Rattle.std.proofs.lemmas.Option.{slice_get_past, slice_get-get_or, slice_get_within}
 use Rattle.v_design.specs.Expr.{Values, bit_of}
 use Rattle.rb_model.specs.declared.block.Block.{Block}
 use Rattle.rb_model.specs.declared.block.Field.{Field}
-use Rattle.rb_model.specs.Kept.{Kept, Val, Last, Done, Waited, Data, Error, Map, of_field}
+use Rattle.rb_model.specs.Kept.{Kept, Val, Last, Done, Waited, Data, Error, of_field}
 use Rattle.rb_model.specs.Protocol as protocol
 use Rattle.rb_model.specs.Machine.{held, is_asserted}
 use Rattle.rb_model.specs.Run.{bus_held}
@@ -40,6 +39,7 @@ module _ (b : Block) (old new : List FieldState) (test : Field → Bool) (sized 
         where
           below_or_past : (k n : ℕ) → (k < n) ⊎ (n ≤ k)
           below_or_past k n = grind arith
+
           past : (k < length b.fields) ⊎ (length b.fields ≤ k) → g (state_at new k) ≡ g (state_at old k)
           past (inl l) = absurd (none_within b.fields k l here)
           past (inr l) = ap g (none_past new k (omega (arith, l, sized, same)) ∙ sym (none_past old k (omega (arith, l, sized))))

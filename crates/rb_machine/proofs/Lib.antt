@@ -8,3 +8,7 @@ pub mod Moving
 pub mod Accessing
 pub mod Narrow
 pub mod Stepping
+pub mod Knowing
+pub mod Shown
+pub mod Listing
+pub mod WorkedSound

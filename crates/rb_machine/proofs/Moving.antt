@@ -1,8 +1,7 @@
 -- What the fields keep, one after the other.
-use Rattle.std.proofs.Common.{◌≡◌, ◌≢◌, ℕ, ◌+◌, ◌<◌, ◌≤◌, Bool, Option, Some, None, List, length, slice_get, get_or, refl, sym, ap, ◌∙◌, subst, arith, get_or-set_other, get_or-set_same, inl, inr, ◌⊎◌}
+use Rattle.std.proofs.Common.{◌≡◌, ◌≢◌, ℕ, ◌+◌, ◌<◌, ◌≤◌, Bool, Some, List, length, slice_get, get_or, refl, sym, ap, ◌∙◌, arith, get_or-set_other, get_or-set_same, inl, inr, ◌⊎◌}
 use Rattle.std.proofs.Math.ListN.{set}
 use Rattle.std.proofs.lemmas.Option.{same_Some, slice_get_within}
-use Rattle.v_design.specs.Expr.{Values}
 use Rattle.rb_model.specs.declared.block.Block.{Block}
 use Rattle.rb_model.specs.declared.block.Field.{Field}
 use Rattle.rb_model.specs.Items.{NoAccess}

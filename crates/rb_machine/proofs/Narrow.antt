@@ -1,10 +1,9 @@
 -- The pins of a sound block have at most 64 bits.
-use Rattle.std.proofs.Common.{◌≡◌, ℕ, zero, suc, ◌+◌, ◌<◌, ◌≤◌, ◌^◌, ◌==◌, Bool, true, false, not, ◌&&◌, if◌then◌else◌, Option, Some, None, List, [], ◌∷◌, ◌++◌, codes, length, map, filter, get_or, slice_get, refl, sym, ap, ◌∙◌, subst, arith}
+use Rattle.std.proofs.Common.{◌≡◌, ℕ, zero, suc, ◌<◌, ◌≤◌, ◌^◌, ◌==◌, Bool, true, false, not, ◌&&◌, if◌then◌else◌, Option, Some, None, List, [], ◌∷◌, ◌++◌, codes, length, filter, get_or, refl, sym, subst, arith}
 use Rattle.std.specs.List.{enumerate_from, flat_map}
 use Rattle.std.proofs.Math.Nat.{pow-le-pow_right}
 use Rattle.rb_base.specs.declared.ports.Pin.{Pin}
 use Rattle.v_design.specs.Fits.{FitsPins}
-use Rattle.rb_model.specs.declared.kinds.Feed.{Feed}
 use Rattle.rb_model.specs.declared.kinds.Gate.{Gate}
 use Rattle.rb_model.specs.declared.kinds.Gate.TheVariants as gate
 use Rattle.rb_model.specs.declared.kinds.Amount.{Amount}
@@ -12,7 +11,6 @@ use Rattle.rb_model.specs.declared.kinds.Amount.TheVariants as amount
 use Rattle.rb_model.specs.declared.kinds.Part.{Part}
 use Rattle.rb_model.specs.declared.kinds.Count.{Count}
 use Rattle.rb_model.specs.declared.block.Block.{Block}
-use Rattle.rb_model.specs.declared.block.Signal.{Signal}
 use Rattle.rb_model.specs.declared.block.Field.{Field}
 use Rattle.rb_model.specs.declared.block.View.{View}
 use Rattle.rb_model.specs.Kept.{when}

@@ -1,6 +1,6 @@
 -- What a field of a sound block finds at an edge.
-use Rattle.std.proofs.Common.{◌≡◌, ℕ, ◌<◌, ◌≤◌, if◌then◌else◌, Option, Some, None, List, length, slice_get, get_or, refl, sym, ap, ◌∙◌, subst}
-use Rattle.std.proofs.lemmas.Option.{slice_get_read, slice_get_past, slice_get_within, get_or_from_slice_get, same_Some}
+use Rattle.std.proofs.Common.{◌≡◌, ℕ, ◌<◌, ◌≤◌, if◌then◌else◌, Some, None, List, length, slice_get, get_or, refl, sym, ap, ◌∙◌, subst}
+use Rattle.std.proofs.lemmas.Option.{slice_get_read, slice_get_past, same_Some}
 use Rattle.rb_model.specs.declared.kinds.Gate.{Gate}
 use Rattle.rb_model.specs.declared.kinds.Gate.TheVariants as gate
 use Rattle.rb_model.specs.declared.block.Block.{Block}
@@ -10,20 +10,17 @@ use Rattle.rb_model.specs.Run.{pins_of}
 use Rattle.std.specs.Option.{option_map_or}
 use Rattle.rb_model.specs.Items.{Access, Now, class_value, down, made, up}
 use Rattle.rb_model.specs.Effects.{overflows, underflows}
-use Rattle.rb_model.specs.Kept.{Map, Val}
+use Rattle.rb_model.specs.Kept.{Val}
 use Rattle.rb_model.specs.declared.kinds.RefItem.TheVariants as item
 use Rattle.rb_machine.specs.Table.{values_of}
 use Rattle.rb_model.proofs.Eachs.{Each-from_zero}
 use Rattle.rb_model.specs.SoundField.{FieldIsSoundIn}
-use Rattle.rb_model.specs.Sound.{IsSound}
 use Rattle.rb_machine.specs.declared.sight.FieldPlaces.{FieldPlaces}
-use Rattle.rb_machine.specs.declared.sight.FieldState.{FieldState}
 use Rattle.rb_machine.specs.declared.sight.FieldNow.{FieldNow}
-use Rattle.rb_machine.specs.declared.scene.Held.{Held}
 use Rattle.rb_machine.specs.declared.scene.Scene.{Scene}
-use Rattle.rb_machine.specs.Plan.{AreFieldPlaces, IsGatePlace, IsPlaceOf, IsPlanOf}
-use Rattle.rb_machine.specs.Scene.{IsAt, IsScene, map_of, no_state, now_in, state_at}
-use Rattle.rb_machine.specs.Sight.{GateSees, Sees}
+use Rattle.rb_machine.specs.Plan.{AreFieldPlaces, IsGatePlace, IsPlaceOf}
+use Rattle.rb_machine.specs.Scene.{IsAt, IsScene, map_of, now_in, state_at}
+use Rattle.rb_machine.specs.Sight.{GateSees}
 
 -- an element that was read stands in a list that is another
 pub read_at : {X : Type 0} (xs ys : List X) (k : ℕ) (x : X) → xs ≡ ys → k < length xs → x ≡ get_or xs k x → slice_get ys k ≡ Some x

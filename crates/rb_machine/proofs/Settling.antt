@@ -1,5 +1,5 @@
 -- The items' values, computed in order.
-use Rattle.std.proofs.Common.{◌≡◌, ◌≢◌, ℕ, ◌+◌, ◌*◌, ◌<◌, ◌≤◌, ◌==◌, Bool, true, false, Some, List, length, slice_get, get_or, refl, sym, ap, ◌∙◌, subst, arith, get_or-set_other, get_or-set_same, inl, inr, ◌⊎◌, nat_eq}
+use Rattle.std.proofs.Common.{◌≡◌, ◌≢◌, ℕ, ◌+◌, ◌<◌, ◌≤◌, Some, List, length, slice_get, get_or, refl, sym, ap, ◌∙◌, arith, get_or-set_other, get_or-set_same, inl, inr, ◌⊎◌}
 use Rattle.std.specs.Prelude.{Contains}
 use Rattle.std.proofs.Math.ListN.{set}
 use Rattle.std.proofs.lemmas.List.Sorted.{Contains-permutation, IsPermutation-sym}
@@ -53,6 +53,7 @@ settled_more b n sound table end i x here room is settled k j low there = by (sa
         is
         ∙ (made_same n (values_of table) (item_value b n) b i (Each-weaker (StandsBefore b.order end) (λ j. values_of table j ≡ item_value b n j) (λ j at. settled at.0 j at.1 at.2) (refs b i) (sound.ordered end i here))
         ∙ sym (are_values b n sound i (ordered_among b sound end i here)))
+
     by : (item_place i ≡ item_place j) ⊎ (item_place i ≢ item_place j) → values_of (set table (item_place i) x) j ≡ item_value b n j
     by (inl same) =
         let e : get_or (set table (item_place i) x) (item_place i) 0 ≡ x = rw get_or-set_same refl in
@@ -83,8 +84,10 @@ all_settled b n sound table end past settled i among = value i among ∙ (are_va
         let held : Contains b.order j = Contains-permutation (items b) b.order j sound.all_items c in
         let low : held.0 < length b.order = held.1 in
         settled held.0 j (omega (arith, low, past)) (slice_get_read b.order (length b.order) held.0 j refl held.1 (sym held.2))
+
     held : Contains b.order i
     held = Contains-permutation (items b) b.order i sound.all_items among
+
     same : made b n (values_of table) i ≡ made b n (item_value b n) i
     same = made_same n (values_of table) (item_value b n) b i (Each-weaker (StandsBefore b.order held.0) (λ j. values_of table j ≡ item_value b n j)
         (λ j at. value j (ordered_among b sound at.0 j at.2)) (refs b i) (sound.ordered held.0 i (slice_get_read b.order (length b.order) held.0 i refl held.1 (sym held.2))))

@@ -1,16 +1,16 @@
 -- What an edge of a block makes, from what was computed.
-use Rattle.std.proofs.Common.{◌≡◌, ℕ, ◌+◌, ◌<◌, ◌≤◌, ◌==◌, Bool, true, false, not, ◌&&◌, ◌||◌, if◌then◌else◌, Option, Some, None, unwrap_or, List, [], ◌∷◌, length, map, slice_get, get_or, refl, sym, ap, ◌∙◌, subst, arith, inl, inr, ◌⊎◌}
+use Rattle.std.proofs.Common.{◌≡◌, ℕ, ◌<◌, ◌≤◌, Bool, true, false, ◌&&◌, ◌||◌, if◌then◌else◌, Option, Some, None, unwrap_or, List, [], ◌∷◌, length, map, slice_get, refl, ap, ◌∙◌, subst, arith, inl, inr, ◌⊎◌}
 use Rattle.std.specs.Option.{option_map_or}
-use Rattle.v_design.specs.Expr.{Values, bit_of}
+use Rattle.v_design.specs.Expr.{bit_of}
 use Rattle.rb_model.specs.declared.kinds.RefItem.{RefItem}
 use Rattle.rb_model.specs.declared.block.Block.{Block}
 use Rattle.rb_model.specs.declared.block.Field.{Field}
-use Rattle.rb_model.specs.Kept.{Kept, Val, Last, Done, Waited, Data, Error, Map, has_wait, is_storage, keeps_last, only_kept, of_field}
+use Rattle.rb_model.specs.Kept.{Kept, Val, Last, Done, Waited, Data, Error, Map, has_wait, is_storage, keeps_last, only_kept}
 use Rattle.rb_model.specs.Ports.{Outlet, outlets}
-use Rattle.rb_model.specs.Protocol.{Bus, bus_of}
+use Rattle.rb_model.specs.Protocol.{bus_of}
 use Rattle.rb_model.specs.Items.{Access, NoAccess, Now, ItemValues, AreItemValues, source_value}
 use Rattle.rb_model.specs.Machine.{changed, hardware, held, is_asserted, read_data, software, uses_up}
-use Rattle.rb_model.specs.Run.{ClockEdge, all_outputs, answer, bus_held, carried, carries, closes, error, is_unmapped, kept_next, now, pins_of}
+use Rattle.rb_model.specs.Run.{ClockEdge, all_outputs, answer, bus_held, carried, carries, closes, error, kept_next, now, pins_of}
 use Rattle.rb_model.proofs.OwnViews.{none_within}
 use Rattle.rb_machine.specs.declared.sight.FieldState.{FieldState}
 use Rattle.rb_machine.specs.declared.scene.Held.{Held}
@@ -86,6 +86,7 @@ module _ (b : Block) (x : List ℕ) (h : Held) (t : Transfer) (v : ItemValues) (
       where
         below_or_past : (k n : ℕ) → (k < n) ⊎ (n ≤ k)
         below_or_past k n = grind arith
+
         by : (k < length b.fields) ⊎ (length b.fields ≤ k) → state_at states k ≡ no_state
         by (inl l) = absurd (none_within b.fields k l here)
         by (inr l) = none_past states k (omega (arith, l, sized))
@@ -159,7 +160,7 @@ pub edge_made : (b : Block) (m : Map) (x x1 x2 table t4 t5 t7 : List ℕ) (state
     → IsTransfer b (bus_of (pins_of b x)) (map_of h) t
     → AreItemValues b (at_edge b x1 h (access_seen t.access)) (values_of table)
     → ((k : ℕ) (f : Field) → slice_get b.fields k ≡ Some f
-        → state_at states k ≡ next_state b (at_edge b x2 h NoAccess) (values_of t4) k f (access_state b (at_edge b x2 h NoAccess) (values_of t4) (access_seen t.access) k (started_state (at_edge b x2 h NoAccess) (values_of t4) k f (state_at h.fields.items k))))
+    → state_at states k ≡ next_state b (at_edge b x2 h NoAccess) (values_of t4) k f (access_state b (at_edge b x2 h NoAccess) (values_of t4) (access_seen t.access) k (started_state (at_edge b x2 h NoAccess) (values_of t4) k f (state_at h.fields.items k))))
     → given ≡ read_data b (values_of t5) (access_seen t.access) → bus ≡ outs_shown b t h given → items ≡ map (λ o. o.item) (outlets b)
     → outs ≡ bus.ready ∷ bus.«data» ∷ bus.error ∷ map (values_of t7) items
     → h'.fields.items ≡ lent → h'.waited ≡ (has_wait b && t.carries) → h'.«data» ≡ (if has_wait b then given else 0) → h'.error ≡ (has_wait b && (t.carries && t.unmapped))
@@ -168,7 +169,7 @@ edge_made b m x x1 x2 table t4 t5 t7 states lent h h' t given bus items outs ex1
     let v = values_of table in
     let a = access_seen t.access in
     let Q : List ℕ → List ℕ → Type 0 = λ y z. (k : ℕ) (f : Field) → slice_get b.fields k ≡ Some f
-        → state_at states k ≡ next_state b (at_edge b y h NoAccess) (values_of z) k f (access_state b (at_edge b y h NoAccess) (values_of z) a k (started_state (at_edge b y h NoAccess) (values_of z) k f (state_at h.fields.items k))) in
+    → state_at states k ≡ next_state b (at_edge b y h NoAccess) (values_of z) k f (access_state b (at_edge b y h NoAccess) (values_of z) a k (started_state (at_edge b y h NoAccess) (values_of z) k f (state_at h.fields.items k))) in
     let moved' : Q x table = subst (λ y. Q y table) ex2 (subst (λ z. Q x2 z) e4 moved) in
     let vals' : AreItemValues b (at_edge b x h a) v = subst (λ y. AreItemValues b (at_edge b y h a) v) ex1 vals in
     let g' : given ≡ read_data b v a = g ∙ ap (λ z. read_data b (values_of z) a) e5 in

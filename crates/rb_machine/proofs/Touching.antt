@@ -1,11 +1,10 @@
 -- What slots in turn make of what there is of each field.
-use Rattle.std.proofs.Common.{◌≡◌, ◌≢◌, ℕ, ◌+◌, ◌-◌, ◌*◌, ◌^◌, bit_or, ◌<◌, ◌≤◌, ◌==◌, Bool, true, false, if◌then◌else◌, Option, Some, None, List, [], ◌∷◌, ◌++◌, length, fold, take, slice_get, get_or, refl, sym, ap, ◌∙◌, subst, arith, get_or-set_other, get_or-set_same, inl, inr, ◌⊎◌}
+use Rattle.std.proofs.Common.{◌≡◌, ◌≢◌, ℕ, ◌+◌, ◌-◌, ◌*◌, ◌^◌, bit_or, ◌<◌, ◌≤◌, ◌==◌, true, false, if◌then◌else◌, Some, List, [], ◌∷◌, ◌++◌, length, fold, take, slice_get, get_or, refl, sym, ap, ◌∙◌, subst, arith, get_or-set_other, get_or-set_same, inl, inr, ◌⊎◌}
 use Rattle.std.proofs.Math.ListN.{set}
 use Rattle.std.specs.Option.{option_map_or}
 use Rattle.std.proofs.lemmas.List.{take_more, take_all}
 use Rattle.std.proofs.lemmas.Option.{same_Some, slice_get-get_or, slice_get_within}
 use Rattle.rb_model.specs.declared.block.Block.{Block}
-use Rattle.rb_model.specs.declared.block.Field.{Field}
 use Rattle.rb_model.specs.declared.block.View.{View}
 use Rattle.rb_model.specs.declared.block.Slot.{Slot}
 use Rattle.rb_model.specs.declared.block.Word.{Word}

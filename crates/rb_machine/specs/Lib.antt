@@ -5,4 +5,6 @@ pub mod Scene
 pub mod Slots
 pub mod Moves
 pub mod Transfers
+pub mod Places
 pub mod Machines
+pub mod Worked

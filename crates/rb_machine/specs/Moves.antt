@@ -1,7 +1,7 @@
 -- What a field keeps, from one edge to the next.
 use Rattle.std.specs.Prelude.{ℕ, Bool, false, ◌&&◌, if◌then◌else◌, unwrap_or}
 use Rattle.rb_model.specs.declared.block.Field.{Field}
-use Rattle.rb_model.specs.Kept.{Val, is_storage, keeps_last}
+use Rattle.rb_model.specs.Kept.{is_storage, keeps_last}
 use Rattle.rb_model.specs.Items.{Now, ItemValues, source_value}
 use Rattle.rb_model.specs.declared.block.Block.{Block}
 use Rattle.rb_model.specs.Machine.{hardware, is_asserted}

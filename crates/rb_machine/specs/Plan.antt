@@ -1,5 +1,6 @@
 -- What is looked up once for a block: the places of its pins, and the items that it shows.
-use Rattle.std.specs.Prelude.{◌≡◌, ℕ, ◌+◌, true, Some, List, [], ◌++◌, codes, length, map, slice_get, slice_index, Contains}
+use Rattle.std.specs.Prelude.{◌≡◌, ℕ, true, Some, List, [], ◌++◌, codes, length, map, slice_get, slice_index, Contains, Vec}
+use Rattle.std.specs.declared.alloc.Global.{Global}
 use Rattle.std.specs.Option.{option_map_or}
 use Rattle.rb_model.specs.declared.kinds.Gate.{Gate}
 use Rattle.rb_model.specs.declared.kinds.Gate.TheVariants as gate
@@ -48,12 +49,16 @@ pub record AreBusPlaces (b : Block) (p : BusPlaces) : Type 0 where
   pub write : IsPlaceOf b (codes "PWRITE") p.write
   pub data_in : IsPlaceOf b (codes "PWDATA") p.data_in
 
--- the fields that may be listed for a register
+-- the fields that are listed for a register
+abbrev pub members_at : List (Vec ℕ Global) → ℕ → List ℕ
+members_at all r = option_map_or (λ v. v.items) (slice_get all r) []
+
 abbrev pub members_of : Plan → ℕ → List ℕ
-members_of p r = option_map_or (λ v. v.items) (slice_get p.members.items r) []
+members_of p r = members_at p.members.items r
 
 -- a plan is of a block
 pub record IsPlanOf (b : Block) (p : Plan) : Type 0 where
+  pub inputs : p.inputs ≡ length (input_pins b)
   pub bus : AreBusPlaces b p.bus
   pub signals : (k : ℕ) (s : Signal) → slice_get b.signals k ≡ Some s → (place : ℕ) × (slice_get p.signals.items k ≡ Some place) × IsPlaceOf b (signal_name s) place
   pub fields : (k : ℕ) (f : Field) → slice_get b.fields k ≡ Some f → (places : FieldPlaces) × (slice_get p.fields.items k ≡ Some places) × AreFieldPlaces b f places

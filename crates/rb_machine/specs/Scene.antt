@@ -3,7 +3,7 @@ use Rattle.std.specs.Prelude.{◌≡◌, ℕ, ◌≤◌, Bool, false, ◌&&◌, 
 use Rattle.v_design.specs.Expr.{bit_of}
 use Rattle.rb_model.specs.declared.block.Field.{Field}
 use Rattle.rb_model.specs.declared.block.Block.{Block}
-use Rattle.rb_model.specs.Kept.{Kept, Map, Val, Last, Done, Waited, Data, Error}
+use Rattle.rb_model.specs.Kept.{Map, Val, Last, Done, Waited, Data, Error}
 use Rattle.rb_model.specs.Ports.{input_pins}
 use Rattle.rb_model.specs.Run.{pins_of}
 use Rattle.rb_model.specs.Sound.{IsSound}

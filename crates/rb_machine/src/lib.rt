@@ -2,9 +2,10 @@
 #![tactic(auto)]
 
 mod bus;
-mod effects;
 mod machine;
 mod moves;
+mod outlets;
+mod places;
 mod plan;
 mod reset;
 mod scene;
@@ -13,3 +14,6 @@ mod slots;
 mod table;
 
 pub use machine::Machine;
+
+#[cfg(test)]
+mod tests;

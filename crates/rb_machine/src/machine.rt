@@ -20,8 +20,10 @@ use crate::moves::{answer, mark_access, move_fields};
 use crate::plan::Plan;
 use crate::scene::{Held, Mark, Scene};
 use crate::sight::FieldState;
-use crate::table::item_value;
+use crate::table::{item_value, table_len};
+use rb_base::NoMemory;
 use rb_model::{Block, RefItem};
+use std::alloc::Global;
 
 /// A register machine of a sound block: what it holds from one clock edge to the next, and room for an edge.
 #[derive(Drop)]
@@ -47,13 +49,7 @@ fn read_pins(from: &[u128], into: &mut [u64])
 }
 
 /// Takes the pins, lets asynchronous resets act on what is held, and answers the bus's part in the vector.
-fn observe(
-    block: &Block,
-    plan: &Plan,
-    from: &[u128],
-    pins: &mut [u64],
-    held: &mut Held,
-) -> Transfer
+fn observe(block: &Block, plan: &Plan, from: &[u128], pins: &mut [u64], held: &mut Held) -> Transfer
     requires sound { IsSound block.now }
     requires planned { IsPlanOf block.now plan.now }
     requires sized { length from.now ≡ length (input_pins block.now) }
@@ -116,13 +112,49 @@ fn show(bus: BusOuts, outlets: &[RefItem], table: &[u64], outs: &mut [u128])
 }
 
 impl<'b> Machine<'b> {
-    ghost use Rattle.std.specs.Prelude.{◌≡◌, length};
+    ghost use Rattle.std.specs.Prelude.{◌≡◌, IfOk, length};
     ghost use Rattle.v_design.specs.Design.{outputs_among};
     ghost use Rattle.v_design.specs.Fits.{FitsPins};
-    ghost use Rattle.rb_model.specs.Kept.{Fits};
+    ghost use Rattle.rb_model.specs.Kept.{Fits, Kept};
+    ghost use Rattle.rb_model.specs.Sound.{IsSound};
     ghost use Rattle.rb_model.specs.Ports.{input_pins, ports};
     ghost use Rattle.rb_model.specs.Run.{ClockEdge};
     ghost use Rattle.rb_machine.specs.Machines.{IsReady, held_map};
+
+    /// A machine of a sound block, which holds 0 for each value. It takes time in proportion to the size of the block.
+    pub fn new(alloc: Global, block: &'b Block) -> Result<Machine<'b>, NoMemory>
+        requires { IsSound block.now }
+        ensures ready { IfOk result IsReady }
+        ensures block { IfOk result (λ m. m.block.now ≡ block.now) }
+        ensures zeros { IfOk result (λ m. (k : Kept) → held_map m k ≡ 0) }
+    {
+        let plan = Plan::new(alloc, block)?;
+        let inputs = plan.inputs;
+        let fields = block.fields.items.len();
+        let state = FieldState {
+            value: 0,
+            last: 0,
+            done: false,
+        };
+        let mark = Mark {
+            modified: false,
+            accessed: false,
+        };
+        Ok(Machine {
+            block,
+            plan,
+            held: Held {
+                fields: vec![in alloc; state; fields]?,
+                waited: false,
+                data: 0,
+                error: false,
+            },
+            pins: vec![in alloc; 0; inputs]?,
+            marks: vec![in alloc; mark; fields]?,
+            table: vec![in alloc; 0; table_len(&block.order.items)]?,
+            states: vec![in alloc; state; fields]?,
+        })
+    }
 
     /// One rising edge of the clock. The pins are the numbers of the block's inputs without PCLK, and `outs` takes those
     /// of its outputs, each in port order. The machine moves from the map that it held to the map that the edge keeps,

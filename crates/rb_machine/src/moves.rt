@@ -137,8 +137,8 @@ pub(crate) fn move_fields(scene: &Scene, table: &[u64], access: Access, states: 
     requires sized { length states.old ≡ length scene.now.block.now.fields }
     ensures { (k : ℕ) (f : Field) → slice_get scene.now.block.now.fields k ≡ Some f → state_at states.new k
         ≡ next_state scene.now.block.now (now_in scene.now NoAccess) (values_of table.now) k f
-            (access_state scene.now.block.now (now_in scene.now NoAccess) (values_of table.now) (access_seen access) k
-                (started_state (now_in scene.now NoAccess) (values_of table.now) k f (state_at scene.now.held.now.fields.items k))) }
+        (access_state scene.now.block.now (now_in scene.now NoAccess) (values_of table.now) (access_seen access) k
+        (started_state (now_in scene.now NoAccess) (values_of table.now) k f (state_at scene.now.held.now.fields.items k))) }
 {
     start(scene, table, states);
     software(scene, table, access, states);

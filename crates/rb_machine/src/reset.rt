@@ -9,10 +9,10 @@ ghost use Rattle.rb_machine.specs.Moves as moves;
 ghost use Rattle.rb_machine.specs.Plan.{IsPlanOf};
 ghost use Rattle.rb_machine.specs.Scene.{state_at};
 
-use crate::effects::{is_storage, keeps_last};
 use crate::plan::Plan;
 use crate::sight::FieldState;
 use crate::table::number_at;
+use rb_effects::{is_storage, keeps_last};
 use rb_model::{Block, Field, ResetBy};
 
 /// The number at the pin of the signal of a number, or 0 where there is none.

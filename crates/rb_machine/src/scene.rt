@@ -1,11 +1,11 @@
 //! What a block finds at an edge, and the values of its items.
 ghost use Rattle.std.specs.Prelude.{◌≡◌};
 
-use crate::effects::ones;
 use crate::plan::Plan;
 use crate::reset::signal_pin;
 use crate::sight::{FieldNow, FieldState};
 use crate::table::{item_place, item_value};
+use rb_effects::ones;
 use rb_model::{Block, RefItem};
 
 /// What is held from one edge to the next: of each field, and of a bus with a wait state that the vector before carried

@@ -6,10 +6,10 @@ ghost use Rattle.rb_model.specs.Items.{Now};
 ghost use Rattle.rb_machine.specs.Table.{values_of};
 ghost use Rattle.rb_machine.specs.Sight.{GateSees};
 
-use crate::effects::{
+use crate::table::{item_value, number_at};
+use rb_effects::{
     counted, counting, finished, is_interrupt, is_on, latched, loaded, overflows, underflows,
 };
-use crate::table::{item_value, number_at};
 use rb_model::{Amount, Class, Feed, Field, Gate, Level, Mask, Part, RefItem};
 
 /// What a field keeps from one edge to the next.
@@ -276,7 +276,13 @@ impl<'a> FieldNow<'a> {
         let gate = gated(field.gate, self.pin(self.places.gate), self.table);
         let after_load = loaded(field, value, source, gate);
         let after_count = self.counts(after_load);
-        let after_latch = latched(field.latch, field.width, after_count, source, self.state.last);
+        let after_latch = latched(
+            field.latch,
+            field.width,
+            after_count,
+            source,
+            self.state.last,
+        );
         let set = fed(field.set, self.pin(self.places.set), self.table);
         let clear = fed(field.clear, self.pin(self.places.clear), self.table);
         let bits = mask_value(field.keep, self.table);

@@ -12,10 +12,10 @@ ghost use Rattle.rb_machine.specs.Slots.{read_state, touched_by, width_at, write
 ghost use Rattle.rb_model.specs.declared.block.Slot.{Slot};
 ghost use Rattle.rb_machine.specs.Table.{values_of};
 
-use crate::effects::{acts, after_read, after_write, has_read_effect};
 use crate::scene::{Mark, Scene};
 use crate::sight::{FieldState, gated};
 use crate::table::{item_value, number_at};
+use rb_effects::{acts, after_read, after_write, has_read_effect};
 use rb_model::{Block, RefItem, Slot, View, Word};
 
 /// The view of a number.

@@ -1,4 +1,4 @@
-use Rattle.std.proofs.Common.{◌≡◌, ◌∙◌, ℕ, false, ap, sym, subst, refl, length}
+use Rattle.std.proofs.Common.{◌≡◌, ◌∙◌, false, ap, refl, length}
 use Rattle.std.specs.Vec.{with_items}
 use Rattle.std.proofs.lemmas.List.{with_items_is}
 use Rattle.rb_model.specs.Run.{pins_of}

@@ -1,4 +1,4 @@
-use Rattle.std.proofs.Common.{◌≡◌, ap, ◌∙◌, sym, subst}
+use Rattle.std.proofs.Common.{ap, ◌∙◌, sym, subst}
 use Rattle.std.specs.List.Sorted.{IsStrictlyIncreasing}
 use Rattle.rb_model.specs.Run.{is_access}
 use Rattle.std.proofs.Common.{not, ◌&&◌}

@@ -1,5 +1,4 @@
-use Rattle.std.specs.Result.{MatchResult}
-use Rattle.std.proofs.Common.{◌≡◌, ℕ, Result, Ok, Err, subst}
+use Rattle.std.proofs.Common.{Ok, Err}
 use Rattle.std.proofs.lemmas.List.Sorted.{searched}
 use Rattle.rb_machine.proofs.Buses.{found_at, found_nowhere, never_falls}
 use Rattle.rb_machine.proofs.bus.word_at.Goals as goal

@@ -1,6 +1,5 @@
-use Rattle.std.proofs.Common.{◌≡◌, ap, ◌∙◌, refl, sym, subst, length}
+use Rattle.std.proofs.Common.{ap, ◌∙◌, refl, subst, length}
 use Rattle.rb_model.specs.Protocol.{bus_of}
-use Rattle.rb_model.specs.Ports.{input_pins}
 use Rattle.rb_model.specs.Run.{pins_of}
 use Rattle.rb_machine.specs.Scene.{map_of}
 use Rattle.rb_machine.specs.Transfers.{IsTransfer}

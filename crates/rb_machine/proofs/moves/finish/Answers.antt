@@ -1,5 +1,4 @@
-use Rattle.std.proofs.Common.{arith, ◌∙◌, ap, ℕ, ◌≤◌}
-use Rattle.rb_model.specs.declared.block.Field.{Field}
+use Rattle.std.proofs.Common.{arith, ◌∙◌, ap, ◌≤◌}
 use Rattle.rb_model.specs.Items.{NoAccess}
 use Rattle.rb_machine.specs.Moves.{next_state}
 use Rattle.rb_machine.specs.Scene.{now_in, state_at}

@@ -1,4 +1,4 @@
-use Rattle.std.proofs.Common.{◌≡◌, ◌<◌, ◌∙◌, ap, List, get_or, length, refl, subst}
+use Rattle.std.proofs.Common.{◌∙◌, ap, List, get_or, length, refl, subst}
 use Rattle.std.proofs.lemmas.Option.{slice_get_read}
 use Rattle.rb_model.specs.declared.block.Word.{Word}
 use Rattle.rb_machine.specs.Transfers.{IsThere}

@@ -1,7 +1,6 @@
 use Rattle.std.proofs.Common.{◌≡◌, ◌∙◌, ap, refl, arith, get_or}
 use Rattle.rb_machine.specs.Scene.{no_state}
 use Rattle.rb_machine.specs.Slots.{no_slot, read_state}
-use Rattle.rb_machine.specs.declared.sight.FieldState.{FieldState}
 use Rattle.rb_machine.proofs.Touching.{read_through, slot_fits, touched_all, touched_more}
 use Rattle.rb_machine.proofs.slots.read_states.Goals as goal
 

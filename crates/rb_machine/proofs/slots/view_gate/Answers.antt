@@ -1,7 +1,6 @@
-use Rattle.std.proofs.Common.{◌≡◌, ◌<◌, ◌∙◌, ℕ, Some, ap, arith, get_or, length, refl, slice_get, subst, sym}
+use Rattle.std.proofs.Common.{◌≡◌, ◌<◌, ◌∙◌, arith, length, refl}
 use Rattle.std.proofs.lemmas.Option.{get_or_from_slice_get, slice_get_within}
 use Rattle.rb_model.specs.Items.{NoAccess}
-use Rattle.rb_machine.specs.Plan.{IsGatePlace}
 use Rattle.rb_machine.specs.Scene.{now_in}
 use Rattle.rb_machine.proofs.Scenes.{gate_seen}
 use Rattle.rb_machine.proofs.slots.view_gate.Goals as goal

@@ -1,4 +1,4 @@
-use Rattle.std.proofs.Common.{◌≡◌, ◌∙◌, List, ap, get_or, length, refl}
+use Rattle.std.proofs.Common.{◌∙◌, List, ap, get_or, length, refl}
 use Rattle.std.proofs.lemmas.Option.{slice_get_read}
 use Rattle.rb_model.specs.declared.block.Field.{Field}
 use Rattle.rb_model.specs.SoundField.{FieldIsSoundIn}

@@ -1,12 +1,8 @@
-use Rattle.std.proofs.Common.{◌≡◌, ◌∷◌, ◌+◌, ◌∙◌, ℕ, List, ap, sym, subst, refl, length, map, arith}
-use Rattle.std.specs.Vec.{with_items}
+use Rattle.std.proofs.Common.{◌≡◌, ◌∙◌, ap, length, arith}
 use Rattle.std.proofs.lemmas.List.{length-map, with_items_is}
-use Rattle.rb_machine.specs.Table.{values_of}
-use Rattle.v_design.specs.Design.{outputs_among}
-use Rattle.rb_model.specs.Kept.{Fits}
-use Rattle.rb_model.specs.Ports.{input_pins, outlets, ports}
+use Rattle.rb_model.specs.Ports.{input_pins, outlets}
 use Rattle.rb_model.proofs.EdgeWidths.{after_fits}
-use Rattle.rb_machine.specs.Machines.{IsReady, held_map}
+use Rattle.rb_machine.specs.Machines.{held_map}
 use Rattle.rb_model.proofs.InputPins.{outlet_pin, output_pins_are}
 use Rattle.rb_machine.proofs.Stepping.{edge_made}
 use Rattle.rb_machine.proofs.Narrow.{fits_length, narrow_pins}

@@ -1,6 +1,6 @@
-use Rattle.std.proofs.Common.{rules, ◌≡◌, ◌<◌, ℕ, false, None, Some, MatchOption, length, slice_get, refl, sym, ap, ◌∙◌}
+use Rattle.std.proofs.Common.{◌≡◌, refl, ap, ◌∙◌}
 use Rattle.std.proofs.lemmas.Option.{get_or_from_slice_get}
-use Rattle.rb_machine.specs.Scene.{IsAt, no_state}
+use Rattle.rb_machine.specs.Scene.{no_state}
 use Rattle.rb_machine.proofs.Scenes.{has_places, is_at, read_at}
 use Rattle.rb_machine.proofs.scene.Scene.at.Goals as goal
 

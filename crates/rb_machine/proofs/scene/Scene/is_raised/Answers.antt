@@ -1,5 +1,4 @@
 use Rattle.std.proofs.Common.{sym, ◌∙◌, below_more}
-use Rattle.rb_model.specs.Items.{ItemValues}
 use Rattle.rb_machine.specs.Table.{values_of}
 use Rattle.rb_machine.specs.Scene.{raises_line}
 use Rattle.rb_machine.proofs.Lines.{any_found, none_raised}

@@ -1,6 +1,5 @@
-use Rattle.std.proofs.Common.{rules, ◌≡◌, ◌<◌, ◌≤◌, ◌∙◌, ap, length, arith}
+use Rattle.std.proofs.Common.{◌≡◌, ◌≤◌, ◌∙◌, ap, length, arith}
 use Rattle.rb_machine.specs.Scene.{now_in}
-use Rattle.rb_machine.proofs.Scenes.{read_at}
 use Rattle.rb_machine.proofs.Settling.{settled_next, all_settled}
 use Rattle.rb_machine.proofs.scene.Scene.settle.Goals as goal
 

@@ -9,7 +9,7 @@ use rb_base::Edge;
 use rb_model::{Class, Field, Gate, Latch, Mask, OnRead, OnWrite, View};
 
 /// The greatest number of so many bits.
-pub(crate) fn ones(width: u8) -> u64
+pub fn ones(width: u8) -> u64
     requires { width ≤ 64 }
     ensures { result ≡ bits.ones width }
 {
@@ -69,7 +69,7 @@ fn written(on_write: OnWrite, width: u8, value: u64, bits: u64) -> u64
 }
 
 /// What a read makes of a value (9.6, onread).
-pub(crate) fn after_read(on_read: OnRead, width: u8, value: u64) -> u64
+pub fn after_read(on_read: OnRead, width: u8, value: u64) -> u64
     requires { width ≤ 64 }
     ensures { result ≡ spec.after_read on_read width value }
 {
@@ -81,7 +81,7 @@ pub(crate) fn after_read(on_read: OnRead, width: u8, value: u64) -> u64
 }
 
 /// Whether a read changes a value.
-pub(crate) fn has_read_effect(on_read: OnRead) -> bool
+pub fn has_read_effect(on_read: OnRead) -> bool
     ensures { result ≡ spec.has_read_effect on_read }
 {
     match on_read {
@@ -92,14 +92,14 @@ pub(crate) fn has_read_effect(on_read: OnRead) -> bool
 }
 
 /// Whether a write through a view acts, whose gate has this value, where `done` says that the field was written before.
-pub(crate) fn acts(view: &View, gate: u64, done: bool) -> bool
+pub fn acts(view: &View, gate: u64, done: bool) -> bool
     ensures { result ≡ spec.acts view.now gate (if done then 1 else 0) }
 {
     view.writes && is_open(view.gate, gate) && !(view.once && done)
 }
 
 /// What a write makes of a value, where it acts or doesn't.
-pub(crate) fn after_write(view: &View, width: u8, acts: bool, value: u64, bits: u64) -> u64
+pub fn after_write(view: &View, width: u8, acts: bool, value: u64, bits: u64) -> u64
     requires { width ≤ 64 }
     ensures { result ≡ (if acts then spec.written view.now.on_write width value bits else value) }
 {
@@ -134,7 +134,7 @@ fn loads(field: &Field) -> bool
 }
 
 /// The first step of hardware: the load of a number, where the gate has this value.
-pub(crate) fn loaded(field: &Field, value: u64, source: u64, gate: u64) -> u64
+pub fn loaded(field: &Field, value: u64, source: u64, gate: u64) -> u64
     ensures { result ≡ spec.loaded field.now value source gate }
 {
     if field.pulse {
@@ -153,8 +153,7 @@ fn is_over(value: u64, up: u64, down: u64, high: Option<u64>) -> bool
     match high {
         None => false,
         Some(high) => {
-            0 < up
-                && u128::from(high) + u128::from(down) < u128::from(value) + u128::from(up)
+            0 < up && u128::from(high) + u128::from(down) < u128::from(value) + u128::from(up)
         }
     }
 }
@@ -166,8 +165,7 @@ fn is_under(value: u64, up: u64, down: u64, low: Option<u64>) -> bool
     match low {
         None => false,
         Some(low) => {
-            0 < down
-                && u128::from(value) + u128::from(up) < u128::from(low) + u128::from(down)
+            0 < down && u128::from(value) + u128::from(up) < u128::from(low) + u128::from(down)
         }
     }
 }
@@ -183,7 +181,7 @@ fn wrapped(width: u8, value: u64, up: u64, down: u64) -> u64
 }
 
 /// The second step of hardware: the count, with the levels at which it saturates.
-pub(crate) fn counted(
+pub fn counted(
     width: u8,
     value: u64,
     up: u64,
@@ -204,7 +202,7 @@ pub(crate) fn counted(
 }
 
 /// Whether a count leaves its width upwards.
-pub(crate) fn overflows(width: u8, value: u64, up: u64, down: u64) -> u64
+pub fn overflows(width: u8, value: u64, up: u64, down: u64) -> u64
     requires { width ≤ 64 }
     ensures { result ≡ spec.overflows width value up down }
 {
@@ -213,7 +211,7 @@ pub(crate) fn overflows(width: u8, value: u64, up: u64, down: u64) -> u64
 }
 
 /// Whether a count goes below 0.
-pub(crate) fn underflows(value: u64, up: u64, down: u64) -> u64
+pub fn underflows(value: u64, up: u64, down: u64) -> u64
     ensures { result ≡ spec.underflows value up down }
 {
     u64::from(u128::from(value) + u128::from(up) < u128::from(down))
@@ -234,7 +232,7 @@ fn events(edge: Edge, width: u8, input: u64, last: u64) -> u64
 }
 
 /// The third step of hardware: the latch of an interrupt's events.
-pub(crate) fn latched(latch: Latch, width: u8, value: u64, input: u64, last: u64) -> u64
+pub fn latched(latch: Latch, width: u8, value: u64, input: u64, last: u64) -> u64
     requires { width ≤ 64 }
     ensures { result ≡ spec.latched latch width value input last }
 {
@@ -279,14 +277,7 @@ fn masked(mask: Mask, width: u8, old: u64, value: u64, bits: u64) -> u64
 }
 
 /// The last steps of hardware: hwset, hwclr, and hwenable or hwmask.
-pub(crate) fn finished(
-    field: &Field,
-    old: u64,
-    value: u64,
-    set: u64,
-    clear: u64,
-    bits: u64,
-) -> u64
+pub fn finished(field: &Field, old: u64, value: u64, set: u64, clear: u64, bits: u64) -> u64
     requires { field.now.width ≤ 64 }
     ensures { result ≡ spec.finished field.now old value set clear bits }
 {
@@ -295,7 +286,7 @@ pub(crate) fn finished(
 }
 
 /// The bits of an interrupt that count.
-pub(crate) fn counting(mask: Mask, width: u8, value: u64, bits: u64) -> u64
+pub fn counting(mask: Mask, width: u8, value: u64, bits: u64) -> u64
     requires { width ≤ 64 }
     ensures { result ≡ spec.counting mask width value bits }
 {
@@ -307,7 +298,7 @@ pub(crate) fn counting(mask: Mask, width: u8, value: u64, bits: u64) -> u64
 }
 
 /// Whether a field is an interrupt.
-pub(crate) fn is_interrupt(latch: Latch) -> bool
+pub fn is_interrupt(latch: Latch) -> bool
     ensures { result ≡ items_spec.is_interrupt latch }
 {
     match latch {
@@ -319,7 +310,7 @@ pub(crate) fn is_interrupt(latch: Latch) -> bool
 }
 
 /// Whether there is a mask.
-pub(crate) fn is_on(mask: Mask) -> bool
+pub fn is_on(mask: Mask) -> bool
     ensures { result ≡ items_spec.is_on mask }
 {
     match mask {
@@ -330,7 +321,7 @@ pub(crate) fn is_on(mask: Mask) -> bool
 }
 
 /// Whether a field of a class keeps its value.
-pub(crate) fn is_storage(class: Class) -> bool
+pub fn is_storage(class: Class) -> bool
     ensures { result ≡ kept_spec.is_storage class }
 {
     match class {
@@ -354,7 +345,7 @@ fn has_edge(edge: Edge) -> bool
 }
 
 /// Whether an interrupt keeps its last input.
-pub(crate) fn keeps_last(latch: Latch) -> bool
+pub fn keeps_last(latch: Latch) -> bool
     ensures { result ≡ kept_spec.keeps_last latch }
 {
     match latch {

@@ -1,0 +1,133 @@
+-- The blocks of the worked runs are sound.
+use Rattle.std.proofs.Common.{◌≡◌, inr, ℕ, zero, suc, ◌≤◌, Bool, false, not, Some, [], ◌∷◌, unwrap_or, refl, ap, subst, arith}
+use Rattle.std.proofs.lemmas.List.Sorted.{IsPermutation-refl}
+use Rattle.rb_model.specs.declared.kinds.RefItem.{RefItem}
+use Rattle.rb_model.specs.declared.kinds.RefItem.TheVariants as item
+use Rattle.rb_model.specs.References.{IsOrdered, StandsBefore, Each, refs}
+use Rattle.rb_model.specs.Sound.{IsSound, WordIsSound}
+use Rattle.std.specs.List.Sorted.{IsStrictlyIncreasing}
+use Rattle.rb_base.specs.declared.edge.Edge.{Edge}
+use Rattle.rb_model.specs.SoundField.{is_nonsticky}
+use Rattle.rb_machine.specs.Worked.{event_block, event_word, one_block, one_word}
+
+module _ (w : ℕ) where
+  at : (k : ℕ) (j i : RefItem) → Each (StandsBefore (one_block w).order k) (refs (one_block w) j) → Some j ≡ Some i → Each (StandsBefore (one_block w).order k) (refs (one_block w) i)
+  at k j i h e = let P : RefItem → Type 0 = λ i. Each (StandsBefore (one_block w).order k) (refs (one_block w) i) in let same : j ≡ i = ap (λ o. unwrap_or o j) e in subst P same h
+
+  ordered : IsOrdered (one_block w) (one_block w).order
+  ordered zero i h = at 0 (item.Field 0) i tt h
+  ordered (suc zero) i h = at 1 (item.Anded 0) i ((0, omega arith, refl), tt) h
+  ordered (suc (suc zero)) i h = at 2 (item.Ored 0) i ((0, omega arith, refl), tt) h
+  ordered (suc (suc (suc zero))) i h = at 3 (item.Xored 0) i ((0, omega arith, refl), tt) h
+  ordered (suc (suc (suc (suc zero)))) i h = at 4 (item.SwMod 0) i tt h
+  ordered (suc (suc (suc (suc (suc zero))))) i h = at 5 (item.SwAcc 0) i tt h
+  ordered (suc (suc (suc (suc (suc (suc k)))))) i h = cc
+
+  word_sound : WordIsSound (one_block w) one_word
+  word_sound = record {
+    wide = inr (inr refl);
+    in_register = omega arith;
+    slots = (record { view = _; field = _; of_view = refl; of_field = refl; some_bit = omega arith; in_word = omega arith; in_field = omega arith; whole = λ h. (refl, refl) }, tt);
+    together = λ i j d lt below. absurd (omega arith);
+  }
+
+  pub one_sound : w ≤ 1 → IsSound (one_block w)
+  one_sound few = record {
+    named = refl;
+    signals = tt;
+    fields = (
+      record {
+        alone = record { wide = (omega arith, omega arith); reset = omega arith; count = tt; one_kind = refl; written_by = λ h. h; pulse_alone = λ h. refl; gate_fed = refl; source_fed = λ h. h; latch_edge = refl; bus_reset = refl; shown_in_order = λ k below. absurd (omega arith); shown_counts = refl };
+        refers = record { source = tt; masks = tt; bits = tt; pulses = tt; amounts = tt; levels = tt };
+        in_register = (_, refl, refl);
+        reset_signal = tt;
+        one_view = refl;
+        class = refl;
+        once = refl;
+      },
+      tt,
+    );
+    views = (record { of = (_, refl, λ h. refl); gate_fed = refl; gate_bit = tt; read_in_one_slot = λ h. omega arith; written_in_one_slot = λ h. omega arith }, tt);
+    regs = (record { intr = refl; halt = refl }, tt);
+    reads = (word_sound, tt);
+    writes = (word_sound, tt);
+    some_word = (omega arith, omega arith);
+    by_address = λ k below. absurd (omega arith);
+    same_addresses = refl;
+    signal_paths = refl;
+    field_paths = refl;
+    view_paths = refl;
+    reg_paths = refl;
+    waits = few;
+    all_items = IsPermutation-refl _;
+    ordered = ordered;
+  }
+
+module _ (edge : Edge) (hw : Bool) where
+  event_at : (k : ℕ) (j i : RefItem) → Each (StandsBefore (event_block edge hw).order k) (refs (event_block edge hw) j) → Some j ≡ Some i → Each (StandsBefore (event_block edge hw).order k) (refs (event_block edge hw) i)
+  event_at k j i h e = let P : RefItem → Type 0 = λ i. Each (StandsBefore (event_block edge hw).order k) (refs (event_block edge hw) i) in let same : j ≡ i = ap (λ o. unwrap_or o j) e in subst P same h
+
+  event_ordered : IsOrdered (event_block edge hw) (event_block edge hw).order
+  event_ordered zero i h = event_at 0 (item.Field 0) i tt h
+  event_ordered (suc zero) i h = event_at 1 (item.Anded 0) i ((0, omega arith, refl), tt) h
+  event_ordered (suc (suc zero)) i h = event_at 2 (item.Ored 0) i ((0, omega arith, refl), tt) h
+  event_ordered (suc (suc (suc zero))) i h = event_at 3 (item.Xored 0) i ((0, omega arith, refl), tt) h
+  event_ordered (suc (suc (suc (suc zero)))) i h = event_at 4 (item.SwMod 0) i tt h
+  event_ordered (suc (suc (suc (suc (suc zero))))) i h = event_at 5 (item.SwAcc 0) i tt h
+  event_ordered (suc (suc (suc (suc (suc (suc zero)))))) i h = event_at 6 (item.Intr 0) i ((0, omega arith, refl), tt) h
+  event_ordered (suc (suc (suc (suc (suc (suc (suc k))))))) i h = cc
+
+  first_sound : WordIsSound (event_block edge hw) (event_word 0 0)
+  first_sound = record {
+    wide = inr (inr refl);
+    in_register = omega arith;
+    slots = (record { view = _; field = _; of_view = refl; of_field = refl; some_bit = omega arith; in_word = omega arith; in_field = omega arith; whole = λ h. (refl, refl) }, tt);
+    together = λ i j d lt below. absurd (omega arith);
+  }
+
+  second_sound : WordIsSound (event_block edge hw) (event_word 4 1)
+  second_sound = record {
+    wide = inr (inr refl);
+    in_register = omega arith;
+    slots = (record { view = _; field = _; of_view = refl; of_field = refl; some_bit = omega arith; in_word = omega arith; in_field = omega arith; whole = λ h. (refl, refl) }, tt);
+    together = λ i j d lt below. absurd (omega arith);
+  }
+
+  rising : IsStrictlyIncreasing (0 ∷ 4 ∷ [])
+  rising zero below = omega arith
+  rising (suc k) below = absurd (omega (arith, below))
+
+  pub event_sound : is_nonsticky edge ≡ false → IsSound (event_block edge hw)
+  event_sound sticky = record {
+    named = refl;
+    signals = tt;
+    fields = (
+      record {
+        alone = record { wide = (omega arith, omega arith); reset = omega arith; count = tt; one_kind = refl; written_by = λ h. refl; pulse_alone = λ h. cc h; gate_fed = refl; source_fed = λ h. refl; latch_edge = ap not sticky; bus_reset = refl; shown_in_order = λ k below. absurd (omega arith); shown_counts = refl };
+        refers = record { source = tt; masks = tt; bits = tt; pulses = tt; amounts = tt; levels = tt };
+        in_register = (_, refl, refl);
+        reset_signal = tt;
+        one_view = refl;
+        class = refl;
+        once = refl;
+      },
+      tt,
+    );
+    views = (
+      record { of = (_, refl, λ h. refl); gate_fed = refl; gate_bit = tt; read_in_one_slot = λ h. omega arith; written_in_one_slot = λ h. omega arith },
+      (record { of = (_, refl, λ h. cc h); gate_fed = refl; gate_bit = tt; read_in_one_slot = λ h. omega arith; written_in_one_slot = λ h. omega arith }, tt),
+    );
+    regs = (record { intr = refl; halt = refl }, (record { intr = refl; halt = refl }, tt));
+    reads = (first_sound, (second_sound, tt));
+    writes = (first_sound, (second_sound, tt));
+    some_word = (omega arith, omega arith);
+    by_address = rising;
+    same_addresses = refl;
+    signal_paths = refl;
+    field_paths = refl;
+    view_paths = refl;
+    reg_paths = refl;
+    waits = omega arith;
+    all_items = IsPermutation-refl _;
+    ordered = event_ordered;
+  }

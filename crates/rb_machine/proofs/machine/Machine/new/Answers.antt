@@ -1,0 +1,23 @@
+use Rattle.std.proofs.Common.{◌≡◌, ℕ, zero, suc, false, ap, ◌∙◌, get_or, refl}
+use lib.ListN.{replicate}
+use Rattle.rb_model.specs.Kept.{Kept, Val, Last, Done, Waited, Data, Error}
+use Rattle.v_design.specs.Expr.{bit_of}
+use Rattle.rb_machine.specs.declared.scene.Held.{Held}
+use Rattle.rb_machine.specs.Scene.{map_of, no_state, state_at}
+use Rattle.rb_machine.proofs.machine.Machine.new.Goals as goal
+
+get_or-replicate : {X : Type 0} (n : ℕ) (x : X) (k : ℕ) → get_or (replicate n x) k x ≡ x
+get_or-replicate zero x k = refl
+get_or-replicate (suc n) x zero = refl
+get_or-replicate (suc n) x (suc k) = get_or-replicate n x k
+
+zeros : (h : Held) (n : ℕ) → h.fields.items ≡ replicate n no_state → h.waited ≡ false → h.«data» ≡ 0 → h.error ≡ false → (k : Kept) → map_of h k ≡ 0
+zeros h n f w d e (Val k) = ap (λ ss. (state_at ss k).value) f ∙ ap (λ s. s.value) (get_or-replicate n no_state k)
+zeros h n f w d e (Last k) = ap (λ ss. (state_at ss k).last) f ∙ ap (λ s. s.last) (get_or-replicate n no_state k)
+zeros h n f w d e (Done k) = ap (λ ss. bit_of (state_at ss k).done) f ∙ ap (λ s. bit_of s.done) (get_or-replicate n no_state k)
+zeros h n f w d e Waited = ap bit_of w
+zeros h n f w d e Data = d
+zeros h n f w d e Error = ap bit_of e
+
+pub returns-clause-zeros : goal.returns-clause-zeros
+returns-clause-zeros c = zeros (record { fields = c.in_ok-vec.field-0; waited = false; «data» = 0; error = false }) c.len-fields.result (c.in_ok-vec.ensures.items_if_clones_equal (λ y e. e)) refl refl refl

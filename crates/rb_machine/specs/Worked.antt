@@ -1,0 +1,109 @@
+-- The blocks of the worked runs that tests make.
+use Rattle.rb_base.specs.declared.edge.Edge.{Edge}
+use Rattle.rb_model.specs.declared.kinds.OnWrite.{OnWrite}
+use Rattle.std.specs.Prelude.{ℕ, Bool, true, false, Some, None, List, [], ◌∷◌, codes}
+use Rattle.rb_model.specs.declared.kinds.RefItem.TheVariants as item
+use Rattle.rb_model.specs.declared.kinds.Class.TheVariants.{Storage}
+use Rattle.rb_model.specs.declared.kinds.Feed.TheVariants as feed
+use Rattle.rb_model.specs.declared.kinds.Gate.TheVariants as gate
+use Rattle.rb_model.specs.declared.kinds.Latch.TheVariants as latch
+use Rattle.rb_model.specs.declared.kinds.Mask.TheVariants as mask
+use Rattle.rb_model.specs.declared.kinds.OnRead.TheVariants as on_read
+use Rattle.rb_model.specs.declared.kinds.OnWrite.TheVariants as on_write
+use Rattle.rb_model.specs.declared.block.Block.{Block}
+use Rattle.rb_model.specs.declared.block.Field.{Field}
+use Rattle.rb_model.specs.declared.block.View.{View}
+use Rattle.rb_model.specs.declared.block.Word.{Word}
+
+-- a field of 32 bits that software reads and writes and hardware reads, reset to 5
+abbrev pub one_field : Field
+one_field = record {
+  path = codes "a$f";
+  reg = 0;
+  width = 32;
+  reset = Some 5;
+  reset_by = record { signal = None; low = true; sync = false };
+  class = Storage;
+  hw_writes = false;
+  hw_reads = true;
+  hw_first = false;
+  source = feed.Off;
+  gate = gate.Always;
+  count = None;
+  latch = latch.Off;
+  set = feed.Off;
+  clear = feed.Off;
+  keep = mask.Off;
+  pulse = false;
+  once = false;
+  enable = mask.Off;
+  halt = mask.Off;
+  shown = [];
+}
+
+abbrev pub one_view : View
+one_view = record { path = codes "a$f"; field = 0; alias = false; reads = true; writes = true; once = false; on_write = on_write.Off; on_read = on_read.Off; gate = gate.Always }
+
+abbrev pub one_word : Word
+one_word = record { address = 0; width = 32; reg = 0; number = 0; slots = record { view = 0; low = 0; from = 0; bits = 32 } ∷ [] }
+
+-- one register of that field
+abbrev pub one_block : ℕ → Block
+one_block waits = record {
+  name = codes "t";
+  signals = [];
+  fields = one_field ∷ [];
+  views = one_view ∷ [];
+  reads = one_word ∷ [];
+  writes = one_word ∷ [];
+  regs = record { path = codes "a"; alias = false; intr = false; halt = false } ∷ [];
+  order = item.Field 0 ∷ item.Anded 0 ∷ item.Ored 0 ∷ item.Xored 0 ∷ item.SwMod 0 ∷ item.SwAcc 0 ∷ [];
+  waits = waits;
+}
+
+-- an interrupt field of 4 bits that a write of 1 clears, with a pin as its input
+abbrev pub event_field : Edge → Bool → Field
+event_field e hw = record {
+  path = codes "a$e";
+  reg = 0;
+  width = 4;
+  reset = Some 0;
+  reset_by = record { signal = None; low = true; sync = false };
+  class = Storage;
+  hw_writes = true;
+  hw_reads = true;
+  hw_first = hw;
+  source = feed.Pin;
+  gate = gate.Always;
+  count = None;
+  latch = latch.Bits e;
+  set = feed.Off;
+  clear = feed.Off;
+  keep = mask.Off;
+  pulse = false;
+  once = false;
+  enable = mask.Off;
+  halt = mask.Off;
+  shown = [];
+}
+
+-- a view of it, in its register or in the alias
+abbrev pub event_view : (path : List ℕ) → Bool → OnWrite → View
+event_view path alias write = record { path = path; field = 0; alias = alias; reads = true; writes = true; once = false; on_write = write; on_read = on_read.Off; gate = gate.Always }
+
+abbrev pub event_word : (address reg : ℕ) → Word
+event_word address reg = record { address = address; width = 32; reg = reg; number = 0; slots = record { view = reg; low = 0; from = 0; bits = 4 } ∷ [] }
+
+-- its register, and an alias through which a write of 1 sets
+abbrev pub event_block : Edge → Bool → Block
+event_block e hw = record {
+  name = codes "t";
+  signals = [];
+  fields = event_field e hw ∷ [];
+  views = event_view (codes "a$e") false on_write.WoClr ∷ event_view (codes "s$e") true on_write.WoSet ∷ [];
+  reads = event_word 0 0 ∷ event_word 4 1 ∷ [];
+  writes = event_word 0 0 ∷ event_word 4 1 ∷ [];
+  regs = record { path = codes "a"; alias = false; intr = true; halt = false } ∷ record { path = codes "s"; alias = true; intr = false; halt = false } ∷ [];
+  order = item.Field 0 ∷ item.Anded 0 ∷ item.Ored 0 ∷ item.Xored 0 ∷ item.SwMod 0 ∷ item.SwAcc 0 ∷ item.Intr 0 ∷ [];
+  waits = 0;
+}
