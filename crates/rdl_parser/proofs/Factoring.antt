@@ -1,9 +1,9 @@
 -- A parser's steps where one token doesn't decide: two forms that go on alike are read together. And its steps over forms that
 -- are no rule of their own.
-use Rattle.std.proofs.Common.{◌≡◌, ℕ, zero, suc, true, false, not, List, [], ◌∷◌, ◌++◌, refl, sym, subst, append_assoc, arith, inl, inr}
+use Rattle.std.proofs.Common.{◌≡◌, ℕ, zero, suc, true, false, not, List, [], ◌∷◌, ◌++◌, sym, subst, append_assoc, arith, inl, inr}
 use Rattle.std.proofs.lemmas.Bool.{and_parts, not-true}
 use Rattle.rb_grammar.specs.Forms.{Form, Tok, Non, ◌or◌, Opt, Many, ◌then◌, Grammar}
-use Rattle.rb_grammar.specs.Readings.{Goal, Upto, behind_next, Reads, first, second, both, Avoids, Same, Stops}
+use Rattle.rb_grammar.specs.Readings.{Upto, behind_next, Reads, first, second, both, Avoids, Same, Stops}
 use Rattle.rb_grammar.specs.Firsts.{Table, IsTableOf}
 use Rattle.rb_grammar.proofs.Following.{◌⟫◌, read_or, read_both, same, same_both, same_first, same_second, stops_here}
 use Rattle.rb_grammar.proofs.Barring.{Sight, Here, Without, can, Holds, barred}

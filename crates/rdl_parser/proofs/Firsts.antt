@@ -3,7 +3,6 @@ use Rattle.std.proofs.Common.{◌≡◌, Bool, true, false, not, List, [], ◌�
 use Rattle.rb_base.specs.declared.keyword.Keyword.TheVariants as words
 use Rattle.rb_grammar.specs.Firsts.{Table, tells, IsTableOf}
 use Rattle.rb_grammar.proofs.Barring.{by_terminal}
-use Rattle.rdl_tree.specs.declared.token.Mark.{Mark}
 use Rattle.rdl_tree.specs.declared.token.Mark.TheVariants as marks
 use Rattle.rdl_tree.specs.declared.token.Terminal.{Terminal}
 use Rattle.rdl_tree.specs.declared.token.Terminal.TheVariants as terminals

@@ -4,15 +4,14 @@ use Rattle.std.specs.Borrow.{Bor}
 use Rattle.rb_base.specs.declared.keyword.Keyword.{Keyword}
 use Rattle.rb_base.specs.declared.keyword.Keyword.TheVariants as words
 use Rattle.rb_base.specs.declared.place.Place.{Place}
-use Rattle.rb_grammar.specs.Forms.{Form, Non, Opt, Many, ◌or◌, ◌then◌}
+use Rattle.rb_grammar.specs.Forms.{Non, Opt, Many}
 use Rattle.rb_grammar.specs.Readings.{at, Takes, Misses, Same}
 use Rattle.rb_grammar.proofs.Following.{◌⟫◌}
 use Rattle.rb_grammar.proofs.Barring.{Here, Without, AreOff}
 use Rattle.rb_grammar.proofs.Steps.{entering, opening, taking, missing}
 use Rattle.rdl_tree.specs.declared.expr.Name.{Name}
 use Rattle.rdl_tree.specs.declared.expr.Path.{Path}
-use Rattle.rdl_tree.specs.declared.item.Def.{Def, out-Def, roll-Def, out-roll-Def}
-use Rattle.rdl_tree.specs.declared.item.Inst.{Inst}
+use Rattle.rdl_tree.specs.declared.item.Def.{roll-Def, out-roll-Def}
 use Rattle.rdl_tree.specs.declared.item.Insts.{Insts}
 use Rattle.rdl_tree.specs.declared.item.Item.{Item}
 use Rattle.rdl_tree.specs.declared.item.Item.TheVariants as items

@@ -3,17 +3,13 @@ use Rattle.std.proofs.Common.{◌≡◌, ◌≢◌, ℕ, Result, Ok, Err, IfErr,
 use Rattle.rb_base.specs.declared.fault.Fault.{Fault}
 use Rattle.rb_base.specs.declared.place.Place.{Place}
 use Rattle.rb_base.specs.declared.rule.Rule.{Rule}
-use Rattle.rb_grammar.specs.Spelling as spelling
-use Rattle.rb_grammar.specs.Spelling.{Spells, Faults}
 use Rattle.rb_grammar.proofs.OneSpelling.{spells_once, faults_once, not_both}
 use Rattle.rdl_tree.specs.declared.token.Token.{Token}
 use Rattle.rdl_lexer.specs.Lexemes.{seen, systemrdl}
 use Rattle.rdl_lexer.specs.Faults.{rule_of, FailsLexically}
 use Rattle.rdl_parser.specs.declared.error.ParseError.{ParseError}
 use Rattle.rdl_parser.specs.declared.error.ParseError.TheVariants.{Lex, Syntax, TooDeep, NoMemory}
-use Rattle.rdl_parser.specs.Judging.{IsGood}
 use Rattle.rdl_parser.specs.Verdicts.{SpellsTokens, place_of, end_of, IsAccepted, IsWrong, IsTooDeep, HasError}
-use Rattle.rdl_parser.specs.Verdicts as verdicts
 use Rattle.rdl_parser.proofs.Judged.{one_wrong, one_too_deep, good_not_wrong, good_not_too_deep, wrong_not_too_deep}
 use Rattle.rdl_parser.proofs.Alike.{Alike, alike, place_alike, rule_alike, good_alike, wrong_alike, deep_alike, rests}
 

@@ -1,9 +1,9 @@
 -- Operators: what they are in the grammar, and that operands are joined as tightly as they bind.
-use Rattle.std.proofs.Common.{◌≡◌, ℕ, ◌+◌, ◌≤◌, true, false, Some, List, [], ◌∷◌, refl, ap, sym, ◌∙◌, subst, arith, inl, inr, lit≤}
+use Rattle.std.proofs.Common.{◌≡◌, ℕ, ◌+◌, ◌≤◌, true, Some, List, [], ◌∷◌, refl, sym, subst, arith, inl, inr, lit≤}
 use Rattle.std.proofs.lemmas.Bool.{both_ways, cases_lt}
 use Rattle.std.specs.Borrow.{Bor}
 use Rattle.rb_base.specs.declared.place.Place.{Place}
-use Rattle.rb_grammar.specs.Forms.{Form, Non, ◌then◌}
+use Rattle.rb_grammar.specs.Forms.{Non}
 use Rattle.rb_grammar.specs.Readings.{at, Takes, Same}
 use Rattle.rb_grammar.proofs.Following.{◌⟫◌}
 use Rattle.rb_grammar.proofs.Barring.{Here, Without, AreOff}

@@ -21,7 +21,7 @@ use Rattle.rdl_tree.specs.declared.token.Terminal.TheVariants as terminals
 use Rattle.rdl_tree.specs.declared.token.Token.{Token}
 use Rattle.rdl_tree.specs.Grammar.{Rule, grammar, name, mark, behind}
 use Rattle.rdl_tree.specs.Grammar as rules
-use Rattle.rdl_tree.specs.Tree.{IsMark, IsName, DerivesExpr, DerivesBinary, DerivesPrefix, DerivesPrimary, DerivesPath, DerivesSteps, DerivesStep, DerivesIndices, DerivesProp, StartsAt, DerivesLocal, DerivesSet, pick, not, steps, next_step, step, assigned}
+use Rattle.rdl_tree.specs.Tree.{IsMark, IsName, DerivesExpr, DerivesBinary, DerivesPrefix, DerivesPrimary, DerivesPath, DerivesSteps, DerivesIndices, DerivesProp, StartsAt, DerivesLocal, DerivesSet, pick, not, steps, next_step, step, assigned}
 use Rattle.rdl_parser.specs.Following.{after_indices, after_primary, after_expr, after_behind, item_of, behind_name, shape, dims_or_range, Sets}
 use Rattle.rdl_parser.proofs.Firsts.{right}
 use Rattle.rdl_parser.proofs.Factoring.{splitting, packing, either, either_stops}

@@ -1,6 +1,6 @@
 -- A source from its front: where its items stop being a source, nothing follows.
-use Rattle.std.proofs.Common.{◌≡◌, ◌<◌, ◌≤◌, List, [], ◌∷◌, ◌++◌, length, refl, ap, sym, ◌∙◌, subst, arith, inl, inr, append-nil, append_assoc}
-use Rattle.rb_grammar.specs.Forms.{Form, Non, Many, Begins, Fits, StopsAt, at_token, at_end}
+use Rattle.std.proofs.Common.{◌≡◌, ◌<◌, ◌≤◌, List, [], ◌∷◌, ◌++◌, length, refl, sym, ◌∙◌, subst, arith, inl, inr, append-nil, append_assoc}
+use Rattle.rb_grammar.specs.Forms.{Form, Non, Many, Begins, StopsAt, at_token, at_end}
 use Rattle.rb_grammar.specs.Readings.{Goal, Whole, Upto, behind_next, IsAhead, IsReached, Reads, whole, reached, rule, turn, Same, Stops}
 use Rattle.rb_grammar.proofs.Following.{at_goal, read_rule, read_many}
 use Rattle.rb_grammar.proofs.Bridge.{reads_fit, reads_begin, begun, begins_one}

@@ -2,7 +2,7 @@
 use Rattle.std.proofs.Common.{◌≡◌, true, Some, List, [], ◌∷◌, refl, ap}
 use Rattle.rb_base.specs.declared.keyword.Keyword.{Keyword}
 use Rattle.rb_base.specs.declared.keyword.Keyword.TheVariants as words
-use Rattle.rb_grammar.specs.Forms.{Form, Tok, Non, Opt}
+use Rattle.rb_grammar.specs.Forms.{Tok, Non, Opt}
 use Rattle.rb_grammar.specs.Readings.{at, Same}
 use Rattle.rb_grammar.proofs.Following.{◌⟫◌}
 use Rattle.rb_grammar.proofs.Barring.{Here, AreOff}

@@ -1,4 +1,4 @@
-use Rattle.std.proofs.Common.{◌≡◌, ℕ, Option, Some, IfSome, List, [], ◌∷◌, ◌++◌, length, map, refl, ap, ◌∙◌, subst, append-nil}
+use Rattle.std.proofs.Common.{◌≡◌, ℕ, Option, Some, IfSome, List, [], ◌∷◌, ◌++◌, map, refl, ap, ◌∙◌, subst, append-nil}
 use Rattle.rb_grammar.specs.Spelling.{At, StartsWith, FailsAt, SpellsFrom, here, later}
 use Rattle.rb_grammar.proofs.Lexing.{starts_shorter}
 use Rattle.rdl_tree.specs.declared.token.Token.{Token}

@@ -1,4 +1,4 @@
-use Rattle.std.proofs.Common.{[], ◌∷◌, refl, ap, sym, ◌∙◌, arith, subst, Err, append-nil, append_assoc}
+use Rattle.std.proofs.Common.{[], ◌∷◌, refl, ap, arith, Err, append-nil, append_assoc}
 use Rattle.rb_grammar.proofs.Following.{◌⟫◌, ◌⟫|◌}
 use Rattle.rb_grammar.proofs.Steps.{entering, taking, missing, calling, calling_stops, halting, passed}
 use Rattle.rdl_tree.specs.Tree as tree

@@ -1,13 +1,8 @@
-use Rattle.std.proofs.Common.{◌≡◌, List, [], ◌∷◌, ◌++◌, refl, ap, sym, ◌∙◌, subst, Some, Err, append-nil, append_assoc}
-use Rattle.rb_grammar.specs.Forms.{◌then◌}
+use Rattle.std.proofs.Common.{[], ◌∷◌, refl, ap, Err, append-nil, append_assoc}
 use Rattle.rb_grammar.proofs.Following.{◌⟫◌, ◌⟫|◌}
-use Rattle.rb_grammar.proofs.Barring.{Here, Without}
-use Rattle.rb_grammar.proofs.Steps.{entering, staying, opening, taking, missing, calling, calling_stops, halting, passed}
-use Rattle.rdl_tree.specs.declared.token.Mark.TheVariants as marks
-use Rattle.rdl_tree.specs.declared.token.Terminal.TheVariants as terminals
+use Rattle.rb_grammar.proofs.Steps.{taking, missing, calling, calling_stops, halting, passed}
 use Rattle.rdl_tree.specs.Tree as tree
 use Rattle.rdl_parser.proofs.Firsts.{right}
-use Rattle.rdl_parser.proofs.Factoring.{reading, reading_stops, refusing}
 use Rattle.rdl_parser.proofs.Phrases.{index_step}
 use Rattle.rdl_parser.proofs.parser.Parser.dims.Goals as goal
 

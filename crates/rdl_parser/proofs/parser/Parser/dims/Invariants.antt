@@ -1,4 +1,4 @@
-use Rattle.std.proofs.Common.{◌≡◌, List, [], ◌∷◌, ◌++◌, length}
+use Rattle.std.proofs.Common.{List, [], ◌∷◌, ◌++◌, length}
 use Rattle.rb_grammar.specs.Forms.{Non, Many}
 use Rattle.rb_grammar.specs.Readings.{Same}
 use Rattle.rdl_tree.specs.declared.expr.Expr.{Expr}

@@ -1,5 +1,5 @@
 use Rattle.std.proofs.Common.{List, [], ◌∷◌, ◌++◌, length}
-use Rattle.rb_grammar.specs.Forms.{Non, Opt, Many, ◌then◌}
+use Rattle.rb_grammar.specs.Forms.{Non, Many, ◌then◌}
 use Rattle.rb_grammar.specs.Readings.{Same}
 use Rattle.rdl_tree.specs.declared.item.Inst.{Inst}
 use Rattle.rdl_tree.specs.declared.token.Mark.TheVariants as marks
