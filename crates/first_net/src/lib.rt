@@ -7,6 +7,8 @@ mod decode;
 mod gates;
 mod laws;
 mod logic;
+#[cfg(test)]
+mod tests;
 mod text;
 
 pub use assembly::netlist;
