@@ -3,7 +3,6 @@ use Rattle.std.proofs.Common.{◌≡◌, ◌↔◌, ℕ, List, ◌++◌, ap, sym
 use Rattle.std.specs.Prelude.{Contains}
 use Rattle.rb_base.specs.declared.ports.Pin.{Pin}
 use Rattle.rb_base.specs.declared.ports.Port.{Port}
-use Rattle.v_design.specs.Design.{module_of, registers}
 use Rattle.rtl_net.specs.Net.{Net}
 use Rattle.v_printer.specs.TextOf.{IsTextOf}
 use Rattle.v_printer.specs.Header as printed

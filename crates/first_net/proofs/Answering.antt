@@ -1,5 +1,5 @@
 -- What the logic answers is what the block's machine does.
-use Rattle.std.proofs.Common.{zero, suc, inl, inr, ◌⊎◌, ◌≡◌, ℕ, ◌-◌, ◌*◌, ◌/◌, ◌%◌, ◌^◌, ◌<◌, ◌==◌, Bool, true, false, ◌&&◌, if◌then◌else◌, List, [], ◌∷◌, ◌++◌, codes, refl, ap, sym, ◌∙◌, subst, arith, bit_and, bit_or}
+use Rattle.std.proofs.Common.{zero, suc, inl, inr, ◌⊎◌, ◌≡◌, ℕ, ◌-◌, ◌*◌, ◌/◌, ◌%◌, ◌^◌, ◌<◌, ◌==◌, Bool, true, false, ◌&&◌, if◌then◌else◌, List, [], ◌∷◌, refl, ap, sym, ◌∙◌, arith, bit_and, bit_or}
 use Rattle.std.specs.Int.Bits.{or_zero_l}
 use Rattle.rb_model.specs.declared.kinds.RefItem.TheVariants as item
 use Rattle.rb_model.specs.declared.block.Block.{Block}

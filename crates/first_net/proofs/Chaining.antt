@@ -1,10 +1,8 @@
 -- A bus's nodes and hits in a later netlist.
-use Rattle.std.proofs.Common.{ℕ}
 use Rattle.rtl_net.specs.Net.{Net, Extends, Grows}
 use Rattle.rtl_net.proofs.Nets.{Extends-grows, IsNode-extends}
 use Rattle.first_net.specs.declared.bus.Bus.{Bus}
-use Rattle.first_net.specs.declared.decode.Hits.{Hits}
-use Rattle.first_net.specs.Nodes.{HasBus, HasHits}
+use Rattle.first_net.specs.Nodes.{HasBus}
 
 pub bus-extends : (a b : Net) (bus : Bus) → Extends a b → HasBus a bus → HasBus b bus
 bus-extends a b bus x h = record {

@@ -1,5 +1,5 @@
 -- A netlist of one register is that of its block.
-use Rattle.std.proofs.Common.{◌≡◌, ◌↔◌, ℕ, ◌<◌, ◌++◌, IsTrue, List, codes, map, length, refl, ap, sym, subst, arith}
+use Rattle.std.proofs.Common.{◌≡◌, ◌↔◌, ◌<◌, ◌++◌, IsTrue, List, codes, map, length, refl, ap, sym, subst, arith}
 use Rattle.std.specs.Prelude.{Contains, is_some}
 use Rattle.std.specs.List.{list_all}
 use Rattle.rb_base.specs.declared.ports.Pin.{Pin}

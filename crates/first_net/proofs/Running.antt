@@ -17,7 +17,7 @@ use Rattle.rb_model.specs.Run.{MachineRun, ClockEdge, pins_of}
 use Rattle.rb_model.specs.Agreement.{Holds, buses}
 use Rattle.first_form.specs.Form.{Form}
 use Rattle.first_form.specs.Described.{path_of}
-use Rattle.first_net.specs.Nodes.{IsFirst, value, next_value, read_value, reads, writes}
+use Rattle.first_net.specs.Nodes.{IsFirst, reads, writes}
 use Rattle.first_net.proofs.Answering.{vector, block, Answers, shown, answered}
 
 row_eq : {x x' y y' z z' u u' : ℕ} → x ≡ x' → y ≡ y' → z ≡ z' → u ≡ u' → x ∷ y ∷ z ∷ u ∷ [] ≡ x' ∷ y' ∷ z' ∷ u' ∷ []

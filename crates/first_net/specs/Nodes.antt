@@ -1,5 +1,5 @@
 -- The nodes of the netlist, and what each of them is worth.
-use Rattle.std.specs.Prelude.{◌≡◌, ℕ, ◌-◌, ◌==◌, true, if◌then◌else◌, Some, List, [], ◌∷◌, ◌++◌, codes, bit_and}
+use Rattle.std.specs.Prelude.{◌≡◌, ℕ, ◌-◌, ◌==◌, if◌then◌else◌, Some, List, [], ◌∷◌, ◌++◌, codes, bit_and}
 use Rattle.rtl_net.specs.Value.{At, bit_of}
 use Rattle.rtl_net.specs.Net.{Net, Settles, HasClock, IsInput, IsNode, registers_of, undriven}
 use Rattle.rtl_net.specs.declared.node.Id.{Id}

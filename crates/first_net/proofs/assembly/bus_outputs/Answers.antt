@@ -1,9 +1,8 @@
-use Rattle.std.proofs.Common.{◌≡◌, ◌∙◌, ℕ, ◌++◌, ◌∷◌, [], List, codes, refl, ap}
+use Rattle.std.proofs.Common.{◌∙◌, ◌++◌, ◌∷◌, [], codes}
 use Rattle.rtl_net.specs.Value.{At}
-use Rattle.rtl_net.specs.Net.{Stands, Extends, Grows, IsNode, HasClock}
 use Rattle.rtl_net.specs.declared.node.Seat.{Seat}
 use Rattle.rtl_net.proofs.Nets.{Extends-grows, Extends-trans, Grows-trans, IsNode-extends, IsNode-grows, Stands-grows, Stands-extends, Stands-has}
-use Rattle.first_net.specs.Nodes.{value, reads, misses, bus_seats, output_seat}
+use Rattle.first_net.specs.Nodes.{value, reads, bus_seats, output_seat}
 use Rattle.first_net.proofs.Valuing.{output_seats}
 use Rattle.first_net.proofs.assembly.bus_outputs.Goals as goal
 

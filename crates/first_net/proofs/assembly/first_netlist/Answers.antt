@@ -1,5 +1,4 @@
-use Rattle.std.proofs.Common.{◌≡◌, ◌∙◌, ℕ, IsTrue, ◌++◌, ◌∷◌, [], List, codes, refl, ap, sym, subst}
-use Rattle.rb_base.specs.declared.ports.Pin.{Pin}
+use Rattle.std.proofs.Common.{◌≡◌, ◌∙◌, ℕ, IsTrue, ◌++◌, ◌∷◌, [], List, codes, ap, sym, subst}
 use Rattle.rtl_net.specs.Names.{is_net_name}
 use Rattle.rtl_net.specs.Net.{registers_of, undriven}
 use Rattle.rtl_net.specs.Ports.{seated}

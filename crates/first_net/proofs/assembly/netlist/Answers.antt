@@ -1,4 +1,4 @@
-use Rattle.std.proofs.Common.{◌≡◌, ◌∙◌, ℕ, IsTrue, ◌++◌, List, codes, sym, subst}
+use Rattle.std.proofs.Common.{◌∙◌, ℕ, IsTrue, List, sym, subst}
 use Rattle.rtl_net.specs.Names.{is_identifier}
 use Rattle.rtl_net.specs.Net.{Net}
 use Rattle.first_form.specs.Described.{path_of}

@@ -1,6 +1,5 @@
 use Rattle.rtl_net.specs.Net.{Extends}
 use Rattle.rtl_net.proofs.Nets.{Extends-trans, IsNode-extends}
-use Rattle.first_net.specs.Nodes.{HasBus}
 use Rattle.first_net.proofs.bus.bus_inputs.Goals as goal
 
 pub returns-clause-bus : goal.returns-clause-bus

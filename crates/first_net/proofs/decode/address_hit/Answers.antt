@@ -1,6 +1,6 @@
 use Rattle.rtl_net.specs.Value.{At}
-use Rattle.rtl_net.proofs.Nets.{Grows-trans, IsNode-grows, Stands-grows}
-use Rattle.std.proofs.Common.{ℕ, codes}
+use Rattle.rtl_net.proofs.Nets.{IsNode-grows}
+use Rattle.std.proofs.Common.{codes}
 use Rattle.first_net.proofs.decode.address_hit.Goals as goal
 
 pub returns-clause-node : goal.returns-clause-node

@@ -1,8 +1,7 @@
 use Rattle.std.proofs.Common.{codes}
 use Rattle.rtl_net.specs.Value.{At}
-use Rattle.rtl_net.proofs.Nets.{Grows-trans, IsNode-grows, Stands-grows}
+use Rattle.rtl_net.proofs.Nets.{Grows-trans, IsNode-grows}
 use Rattle.first_net.specs.Nodes.{access}
-use Rattle.first_net.proofs.Chaining.{bus-grows}
 use Rattle.first_net.proofs.decode.decode.Goals as goal
 
 pub hits_of-requires-clause-accessed : goal.hits_of-requires-clause-accessed

@@ -1,8 +1,7 @@
-use Rattle.std.proofs.Common.{ℕ, ◌-◌, codes, bit_and}
+use Rattle.std.proofs.Common.{◌-◌, codes, bit_and}
 use Rattle.rtl_net.specs.Value.{At}
-use Rattle.rtl_net.specs.Net.{Net, Grows, IsNode}
 use Rattle.rtl_net.proofs.Nets.{Grows-trans, IsNode-grows, Stands-grows}
-use Rattle.first_net.specs.Nodes.{access, hit, reads, writes, misses, HasHits}
+use Rattle.first_net.specs.Nodes.{access, hit}
 use Rattle.first_net.proofs.decode.hits_of.Goals as goal
 
 pub and-requires-2-clause-a : goal.and-requires-2-clause-a

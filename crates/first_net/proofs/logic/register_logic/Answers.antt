@@ -1,10 +1,8 @@
-use Rattle.std.proofs.Common.{◌≡◌, ◌∙◌, ℕ, ◌+◌, ◌++◌, ◌∷◌, [], List, codes, true, refl, ap, subst, arith}
-use Rattle.rb_base.specs.declared.ports.Pin.{Pin}
+use Rattle.std.proofs.Common.{◌≡◌, ℕ, codes, true, refl, subst, arith}
 use Rattle.rtl_net.specs.Value.{At}
-use Rattle.rtl_net.specs.Net.{Extends, Grows, IsNode, Stands, registers_of}
 use Rattle.rtl_net.specs.declared.node.NetReset.TheVariants.{Async}
 use Rattle.rtl_net.proofs.Nets.{Extends-grows, Extends-trans, IsNode-extends, IsNode-grows, Stands-grows}
-use Rattle.first_net.specs.Nodes.{HasBus, HasLogic, value, writes, next_value}
+use Rattle.first_net.specs.Nodes.{HasLogic, value, writes}
 use Rattle.first_net.proofs.Chaining.{bus-extends, bus-grows}
 use Rattle.first_net.proofs.Valuing.{value_node, next_is}
 use Rattle.first_net.proofs.logic.register_logic.Goals as goal
