@@ -89,7 +89,8 @@ fn first_netlist(alloc: Global, name: &[u8], form: &Form<'_>) -> Result<Netlist,
     Ok(net)
 }
 
-/// The netlist of what a source says: the pins of the bus, the register `val$PATH`, and the output `out$PATH`.
+/// The netlist of what a source says: the pins of the bus (IHI 0024B, 4.1), the register `val$PATH`, and the output
+/// `out$PATH`. [`NoMemory`] comes where memory is refused.
 pub fn netlist(alloc: Global, form: &Form<'_>) -> Result<Netlist, NoMemory>
     requires { IsSaid (shown form.now) }
     ensures { IfOk result (λ net. IsNetlistOf net (block_of (shown form.now))) }

@@ -7,7 +7,7 @@ ghost use Rattle.rtl_net.specs.Net.{Stands, Grows, IsNode};
 use rb_base::NoMemory;
 use rtl_net::{Id, NetExpr, Netlist};
 
-/// A constant of 1 or 32 bits.
+/// A constant of this width in bits.
 pub(crate) fn constant(net: &mut Netlist, width: u8, value: u32) -> Result<Id, NoMemory>
     requires some { 0 < width }
     requires wide { width < 128 }

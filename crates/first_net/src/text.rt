@@ -12,7 +12,8 @@ use rb_base::NoMemory;
 use std::alloc::Global;
 use v_printer::text;
 
-/// A module that agrees with the block of what a source says.
+/// A module that agrees with the block of what a source says (IEEE 1364-2005, clause 12.1). [`NoMemory`] comes where
+/// memory is refused.
 pub fn module_text(alloc: Global, form: &Form<'_>) -> Result<Vec<u8>, NoMemory>
     requires { IsSaid (shown form.now) }
     ensures { IfOk result (λ text. Agrees text.items (block_of (shown form.now))) }
