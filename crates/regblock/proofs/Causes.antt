@@ -4,7 +4,7 @@ use Rattle.rb_edge.specs.Count.{Rose}
 use Rattle.rb_edge.specs.Shelf.{Files, IsLonger}
 use Rattle.regblock.specs.declared.status.Status.{Status}
 use Rattle.regblock.specs.declared.status.Status.TheVariants.{Usage, ReadFault, WriteFault, TooLong}
-use Rattle.regblock.specs.Words.{Command, compile, Asks, AsksNothing}
+use Rattle.regblock.specs.Words.{Command, compile, sim, Asks, AsksNothing}
 use Rattle.regblock.specs.Outcome.{StopsAt, Texts, Judges, Outcome, files_of}
 use Rattle.regblock.specs.Ends.{Passage, Ends}
 
@@ -14,8 +14,12 @@ stops_weaker contents P Q (file ∷ more) weaker stops = ⊎_elim (λ here. inl 
 
 no_usage : (command : Command) (sources : List (List ℕ)) (texts : Texts) → Judges command sources Usage texts → ⊥
 no_usage (compile file) [] texts judged = judged
-no_usage (compile file) (source ∷ []) texts judged = judged
-no_usage (compile file) (source ∷ next ∷ more) texts judged = judged
+no_usage (compile file) (a ∷ []) texts judged = judged
+no_usage (compile file) (a ∷ b ∷ more) texts judged = judged
+no_usage (sim file table) [] texts judged = judged
+no_usage (sim file table) (a ∷ []) texts judged = judged
+no_usage (sim file table) (a ∷ b ∷ []) texts judged = judged
+no_usage (sim file table) (a ∷ b ∷ c ∷ more) texts judged = judged
 
 module _ (words : List (List ℕ)) (contents : Option Files) (failed : List ℕ → Type 0) (err out : Passage) (result : Status) (ends : Ends (Outcome words contents failed) err out result) where
   abbrev At : Status → Type 0

@@ -10,7 +10,7 @@ use Rattle.regblock.specs.declared.status.Status.TheVariants.{Done, Refused}
 use Rattle.regblock.specs.Words.{Command, compile, Asks}
 use Rattle.regblock.specs.Outcome.{AreRead, Texts, Judges, Answers, Outcome, files_of}
 use Rattle.regblock.specs.Ends.{Passage, TookAll, Ends}
-use Rattle.regblock.specs.Headline.{IsCompiled, IsToldFailure}
+use Rattle.regblock.specs.Headline.{IsRight, IsToldFailure}
 use Rattle.regblock.proofs.CompleteRuns.{one_command}
 
 abbrev AllAreSound : Type 0
@@ -21,7 +21,7 @@ sound_block sounds source block d = subst IsSound (sym d.is) (sounds source d.fo
 
 module _ (contents : Option Files) (failed : List ℕ → Type 0) (err out : Passage) (file : List ℕ) (texts : Texts) where
   compiled : AllAreSound → (sources : List (List ℕ)) → AreRead contents (files_of (compile file)) sources → Judges (compile file) sources Done texts
-      → TookAll err texts.err → TookAll out texts.out → IsCompiled contents file err out
+      → TookAll err texts.err → TookAll out texts.out → IsRight contents file err out
   compiled sounds [] read judged e o = absurd judged
   compiled sounds (source ∷ a ∷ more) read judged e o = absurd judged
   compiled sounds (source ∷ []) read judged e o =
@@ -31,6 +31,7 @@ module _ (contents : Option Files) (failed : List ℕ → Type 0) (err out : Pas
         block = judged.block;
         text = texts.out;
         held = read.0.held;
+        clean = judged.clean;
         describes = judged.describes;
         sound = sound_block sounds source judged.block judged.describes;
         agrees = judged.agrees;
@@ -45,7 +46,7 @@ module _ (contents : Option Files) (failed : List ℕ → Type 0) (err out : Pas
   told (source ∷ []) read judged e o =
       let P : List ℕ → Type 0 = λ t. TookAll err t in
       let Q : List ℕ → Type 0 = λ t. TookAll out t in
-      record { source = source; held = read.0.held; refused = judged.0; told = subst P judged.1.0 e; quiet = subst Q judged.1.1 o }
+      record { source = source; place = judged.place; rule = judged.rule; held = read.0.held; fails = judged.fails; told = subst P judged.told.0 e; quiet = subst Q judged.told.1 o }
 
 module _ (words : List (List ℕ)) (contents : Option Files) (failed : List ℕ → Type 0) (err out : Passage) (result : Status) (ends : Ends (Outcome words contents failed) err out result) where
   abbrev At : Status → Type 0
@@ -56,7 +57,7 @@ module _ (words : List (List ℕ)) (contents : Option Files) (failed : List ℕ 
   answers_of status texts file asks command asked answers =
       let P : Command → Type 0 = λ c. Answers contents failed c status texts in subst P (one_command words command (compile file) asked asks) answers
 
-  pub done : AllAreSound → (file : List ℕ) → Asks words (compile file) → result ≡ Done → IsCompiled contents file err out
+  pub done : AllAreSound → (file : List ℕ) → Asks words (compile file) → result ≡ Done → IsRight contents file err out
   done sounds file asks is =
       let at = subst At is ends in
       ⊎_elim (λ asked. let a = answers_of Done at.0 file asks asked.0 asked.1 asked.2 in compiled contents failed err out file at.0 sounds a.0 a.1 a.2 at.2 at.3)

@@ -1,74 +1,120 @@
 -- The rows of the outcome, at a status that is known by an equation.
-use Rattle.std.proofs.Common.{◌≡◌, ◌⊎◌, ⊎_elim, inl, ℕ, ◌≤◌, List, [], ◌∷◌, length, Option, refl, sym, subst}
+use Rattle.std.proofs.Common.{◌≡◌, ◌⊎◌, ⊎_elim, inl, inr, ℕ, ◌≤◌, List, [], ◌∷◌, length, Option, refl, sym, subst}
+use Rattle.rb_base.specs.declared.place.Place.{Place}
+use Rattle.rb_base.specs.declared.rule.Rule.{Rule}
 use Rattle.rb_edge.specs.Shelf.{Files, Holds, IsLonger}
-use Rattle.regblock.specs.declared.status.Status.{Status}
-use Rattle.regblock.specs.declared.status.Status.TheVariants.{Done, Refused, ReadFault, WriteFault, NoMemory, TooLong}
 use Rattle.rb_model.specs.Agreement.{Agrees}
-use Rattle.first_form.specs.Form.{Form, IsForm, IsRefused}
+use Rattle.first_form.specs.Form.{Form, IsForm}
 use Rattle.first_form.specs.Described.{block_of}
-use Rattle.regblock.specs.Text.{cannot_read, too_long, not_in_version}
-use Rattle.regblock.specs.Words.{Command, compile}
-use Rattle.regblock.specs.Outcome.{IsRead, Texts, IsNotice, Judges, Answers, Outcome, source_limit}
+use Rattle.rdl_parser.specs.Verdicts as parser
+use Rattle.sim_run.specs.Simulated.{IsSimulated, IsProblem}
+use Rattle.v_syntax.specs.Failing.{Fails}
+use Rattle.v_syntax.specs.declared.error.VError.{VError}
+use Rattle.regblock.specs.declared.status.Status.{Status}
+use Rattle.regblock.specs.declared.status.Status.TheVariants.{Done, Refused, ReadFault, WriteFault, NoMemory, TooLong, BadVerilog, BadStimulus}
+use Rattle.regblock.specs.Text.{cannot_read, too_long, rule_line, verilog_line, stimulus_line}
+use Rattle.regblock.specs.Verdict.{FailsFirst}
+use Rattle.regblock.specs.Words.{Command, compile, sim}
+use Rattle.regblock.specs.Outcome.{IsRead, AreRead, StopsAt, Texts, IsNotice, Judges, Answers, Outcome, files_of, source_limit, verilog_limit}
 use Rattle.regblock.specs.Ends.{Passage, TookAll, IsCutShort, Ends}
 
 -- a verdict on the one file of `compile`
-pub Judges-refused : (file source : List ℕ) (status : Status) (texts : Texts)
-    → status ≡ Refused → IsRefused source → IsNotice texts (not_in_version file) → Judges (compile file) (source ∷ []) status texts
-Judges-refused file source status texts is refused notice =
+pub Judges-refused : (file source : List ℕ) (place : Place) (rule : Rule) (status : Status) (texts : Texts)
+    → status ≡ Refused → FailsFirst source place rule → IsNotice texts (rule_line file source place rule) → Judges (compile file) (source ∷ []) status texts
+Judges-refused file source place rule status texts is fails notice =
     let P : Status → Type 0 = λ s. Judges (compile file) (source ∷ []) s texts in
-    subst P (sym is) (refused, notice)
+    subst P (sym is) (record { place = place; rule = rule; fails = fails; told = notice })
 
 -- a module of what the one file of `compile` says
 pub Judges-done : (file source : List ℕ) (f : Form) (status : Status) (texts : Texts)
-    → status ≡ Done → IsForm source f → Agrees texts.out (block_of f) → texts.err ≡ [] → Judges (compile file) (source ∷ []) status texts
-Judges-done file source f status texts is says agrees quiet =
+    → status ≡ Done → parser.IsAccepted source → IsForm source f → Agrees texts.out (block_of f) → texts.err ≡ [] → Judges (compile file) (source ∷ []) status texts
+Judges-done file source f status texts is parsed says agrees quiet =
     let P : Status → Type 0 = λ s. Judges (compile file) (source ∷ []) s texts in
-    subst P (sym is) (record { block = block_of f; describes = record { form = f; is_form = says; is = refl }; agrees = agrees; quiet = quiet })
+    subst P (sym is) (record { clean = record { parsed = parsed; compiled = (f, says) }; block = block_of f; describes = record { form = f; is_form = says; is = refl }; agrees = agrees; quiet = quiet })
 
-answers_judged : (contents : Option Files) (failed : List ℕ → Type 0) (file source : List ℕ) (status : Status) (texts : Texts)
-    → IsRead contents file source_limit source → Judges (compile file) (source ∷ []) status texts → Answers contents failed (compile file) status texts
-answers_judged contents failed file source ReadFault texts read judged = absurd judged
-answers_judged contents failed file source TooLong texts read judged = absurd judged
-answers_judged contents failed file source _ texts read judged = (source ∷ [], (read, tt), judged)
+-- what the two files of `sim` give
+pub Judges-run : (file table verilog stimulus : List ℕ) (status : Status) (texts : Texts)
+    → status ≡ Done → IsSimulated verilog stimulus texts.out → texts.err ≡ [] → Judges (sim file table) (verilog ∷ stimulus ∷ []) status texts
+Judges-run file table verilog stimulus status texts is run quiet =
+    let P : Status → Type 0 = λ s. Judges (sim file table) (verilog ∷ stimulus ∷ []) s texts in
+    subst P (sym is) (record { run = run; quiet = quiet })
 
-pub Answers-judged : (contents : Option Files) (failed : List ℕ → Type 0) (file source : List ℕ) (status : Status) (texts : Texts)
-    → Holds contents file source → length source ≤ source_limit → Judges (compile file) (source ∷ []) status texts → Answers contents failed (compile file) status texts
-Answers-judged contents failed file source status texts held within judged = answers_judged contents failed file source status texts (record { held = held; within = within }) judged
+pub Judges-bad_verilog : (file table verilog stimulus : List ℕ) (error : VError) (status : Status) (texts : Texts)
+    → status ≡ BadVerilog → Fails verilog error → IsNotice texts (verilog_line file verilog error) → Judges (sim file table) (verilog ∷ stimulus ∷ []) status texts
+Judges-bad_verilog file table verilog stimulus error status texts is fails notice =
+    let P : Status → Type 0 = λ s. Judges (sim file table) (verilog ∷ stimulus ∷ []) s texts in
+    subst P (sym is) (record { error = error; fails = fails; told = notice })
 
-pub Answers-failed : (contents : Option Files) (failed : List ℕ → Type 0) (file : List ℕ) (status : Status) (texts : Texts)
-    → status ≡ ReadFault → failed file → IsNotice texts (cannot_read file) → Answers contents failed (compile file) status texts
-Answers-failed contents failed file status texts is rose notice =
-    let P : Status → Type 0 = λ s. Answers contents failed (compile file) s texts in
-    subst P (sym is) (inl (rose, notice))
+pub Judges-bad_stimulus : (file table verilog stimulus problem : List ℕ) (status : Status) (texts : Texts)
+    → status ≡ BadStimulus → IsProblem verilog stimulus problem → IsNotice texts (stimulus_line table problem) → Judges (sim file table) (verilog ∷ stimulus ∷ []) status texts
+Judges-bad_stimulus file table verilog stimulus problem status texts is fails notice =
+    let P : Status → Type 0 = λ s. Judges (sim file table) (verilog ∷ stimulus ∷ []) s texts in
+    subst P (sym is) (record { problem = problem; fails = fails; told = notice })
 
-pub Answers-too_long : (contents : Option Files) (failed : List ℕ → Type 0) (file : List ℕ) (status : Status) (texts : Texts)
-    → status ≡ TooLong → IsLonger contents file source_limit → IsNotice texts (too_long file source_limit) → Answers contents failed (compile file) status texts
-Answers-too_long contents failed file status texts is longer notice =
-    let P : Status → Type 0 = λ s. Answers contents failed (compile file) s texts in
-    subst P (sym is) (inl (longer, notice))
+-- no file is read in vain: these statuses come before the files are judged
+not_judged : (command : Command) (sources : List (List ℕ)) (texts : Texts) (status : Status) → (status ≡ ReadFault) ⊎ (status ≡ TooLong) → Judges command sources status texts → ⊥
+not_judged command sources texts status h judged = ⊎_elim (λ e. read_fault command sources (subst (λ s. Judges command sources s texts) e judged)) (λ e. too_long_one command sources (subst (λ s. Judges command sources s texts) e judged)) h
+  where
+    read_fault : (command : Command) (sources : List (List ℕ)) → Judges command sources ReadFault texts → ⊥
+    read_fault (compile file) [] j = j
+    read_fault (compile file) (a ∷ []) j = j
+    read_fault (compile file) (a ∷ b ∷ more) j = j
+    read_fault (sim file table) [] j = j
+    read_fault (sim file table) (a ∷ []) j = j
+    read_fault (sim file table) (a ∷ b ∷ []) j = j
+    read_fault (sim file table) (a ∷ b ∷ c ∷ more) j = j
+
+    too_long_one : (command : Command) (sources : List (List ℕ)) → Judges command sources TooLong texts → ⊥
+    too_long_one (compile file) [] j = j
+    too_long_one (compile file) (a ∷ []) j = j
+    too_long_one (compile file) (a ∷ b ∷ more) j = j
+    too_long_one (sim file table) [] j = j
+    too_long_one (sim file table) (a ∷ []) j = j
+    too_long_one (sim file table) (a ∷ b ∷ []) j = j
+    too_long_one (sim file table) (a ∷ b ∷ c ∷ more) j = j
+
+-- all files of a command are read and judged
+pub Answers-judged : (contents : Option Files) (failed : List ℕ → Type 0) (command : Command) (sources : List (List ℕ)) (status : Status) (texts : Texts)
+    → AreRead contents (files_of command) sources → Judges command sources status texts → Answers contents failed command status texts
+Answers-judged contents failed command sources ReadFault texts read judged = absurd (not_judged command sources texts ReadFault (inl refl) judged)
+Answers-judged contents failed command sources TooLong texts read judged = absurd (not_judged command sources texts TooLong (inr refl) judged)
+Answers-judged contents failed command sources _ texts read judged = (sources, read, judged)
+
+-- a file of a command can't be read, or is too long
+pub Answers-failed : (contents : Option Files) (failed : List ℕ → Type 0) (command : Command) (status : Status) (texts : Texts)
+    → status ≡ ReadFault → StopsAt contents (λ file limit. failed file × IsNotice texts (cannot_read file)) (files_of command) → Answers contents failed command status texts
+Answers-failed contents failed command status texts is stops =
+    let P : Status → Type 0 = λ s. Answers contents failed command s texts in subst P (sym is) stops
+
+pub Answers-too_long : (contents : Option Files) (failed : List ℕ → Type 0) (command : Command) (status : Status) (texts : Texts)
+    → status ≡ TooLong → StopsAt contents (λ file limit. IsLonger contents file limit × IsNotice texts (too_long file limit)) (files_of command) → Answers contents failed command status texts
+Answers-too_long contents failed command status texts is stops =
+    let P : Status → Type 0 = λ s. Answers contents failed command s texts in subst P (sym is) stops
 
 -- want of memory and a failed write are no outcome
-no_memory_judged : (file : List ℕ) (sources : List (List ℕ)) (texts : Texts) → Judges (compile file) sources NoMemory texts → ⊥
-no_memory_judged file [] texts judged = judged
-no_memory_judged file (source ∷ []) texts judged = judged
-no_memory_judged file (source ∷ next ∷ more) texts judged = judged
+no_memory_judged : (command : Command) (sources : List (List ℕ)) (texts : Texts) → Judges command sources NoMemory texts → ⊥
+no_memory_judged (compile file) [] texts j = j
+no_memory_judged (compile file) (a ∷ []) texts j = j
+no_memory_judged (compile file) (a ∷ b ∷ more) texts j = j
+no_memory_judged (sim file table) [] texts j = j
+no_memory_judged (sim file table) (a ∷ []) texts j = j
+no_memory_judged (sim file table) (a ∷ b ∷ []) texts j = j
+no_memory_judged (sim file table) (a ∷ b ∷ c ∷ more) texts j = j
 
-write_fault_judged : (file : List ℕ) (sources : List (List ℕ)) (texts : Texts) → Judges (compile file) sources WriteFault texts → ⊥
-write_fault_judged file [] texts judged = judged
-write_fault_judged file (source ∷ []) texts judged = judged
-write_fault_judged file (source ∷ next ∷ more) texts judged = judged
-
-no_memory_row : (contents : Option Files) (failed : List ℕ → Type 0) (command : Command) (texts : Texts) → Answers contents failed command NoMemory texts → ⊥
-no_memory_row contents failed (compile file) texts row = no_memory_judged file row.0 texts row.2
-
-write_fault_row : (contents : Option Files) (failed : List ℕ → Type 0) (command : Command) (texts : Texts) → Answers contents failed command WriteFault texts → ⊥
-write_fault_row contents failed (compile file) texts row = write_fault_judged file row.0 texts row.2
+write_fault_judged : (command : Command) (sources : List (List ℕ)) (texts : Texts) → Judges command sources WriteFault texts → ⊥
+write_fault_judged (compile file) [] texts j = j
+write_fault_judged (compile file) (a ∷ []) texts j = j
+write_fault_judged (compile file) (a ∷ b ∷ more) texts j = j
+write_fault_judged (sim file table) [] texts j = j
+write_fault_judged (sim file table) (a ∷ []) texts j = j
+write_fault_judged (sim file table) (a ∷ b ∷ []) texts j = j
+write_fault_judged (sim file table) (a ∷ b ∷ c ∷ more) texts j = j
 
 no_memory_outcome : (words : List (List ℕ)) (contents : Option Files) (failed : List ℕ → Type 0) (texts : Texts) → Outcome words contents failed NoMemory texts → ⊥
-no_memory_outcome words contents failed texts is = ⊎_elim (λ asked. no_memory_row contents failed asked.0 texts asked.2) (λ none. let e = none.1 in cc) is
+no_memory_outcome words contents failed texts is = ⊎_elim (λ asked. no_memory_judged asked.0 asked.2.0 texts asked.2.2) (λ none. let e = none.1 in cc) is
 
 write_fault_outcome : (words : List (List ℕ)) (contents : Option Files) (failed : List ℕ → Type 0) (texts : Texts) → Outcome words contents failed WriteFault texts → ⊥
-write_fault_outcome words contents failed texts is = ⊎_elim (λ asked. write_fault_row contents failed asked.0 texts asked.2) (λ none. let e = none.1 in cc) is
+write_fault_outcome words contents failed texts is = ⊎_elim (λ asked. write_fault_judged asked.0 asked.2.0 texts asked.2.2) (λ none. let e = none.1 in cc) is
 
 ends_whole : (words : List (List ℕ)) (contents : Option Files) (failed : List ℕ → Type 0) (err out : Passage) (status : Status) (texts : Texts)
     → Outcome words contents failed status texts → TookAll err texts.err → TookAll out texts.out → Ends (Outcome words contents failed) err out status

@@ -2,10 +2,11 @@
 use Rattle.std.specs.Prelude.{◌≡◌, ◌⊎◌, ℕ, ◌≤◌, List, [], ◌∷◌, length, Option, None, Some, ⊤}
 use Rattle.rb_edge.specs.Count.{Rose}
 use Rattle.rb_edge.specs.Shelf.{Files}
-use Rattle.first_form.specs.Form.{IsAccepted}
+use Rattle.sim_run.specs.Simulated.{IsFitTable}
+use Rattle.regblock.specs.Verdict.{IsClean}
 use Rattle.regblock.specs.declared.status.Status.{Status}
 use Rattle.regblock.specs.declared.status.Status.TheVariants.{Done, NoMemory}
-use Rattle.regblock.specs.Words.{Command, compile, Asks}
+use Rattle.regblock.specs.Words.{Command, compile, sim, Asks}
 use Rattle.regblock.specs.Outcome.{files_of}
 use Rattle.regblock.specs.Ends.{Passage}
 
@@ -14,9 +15,10 @@ abbrev pub AreAtHand : Files → (List ℕ → Type 0) → List (List ℕ × ℕ
 AreAtHand files failed [] = ⊤
 AreAtHand files failed (file ∷ more) = ((bytes : List ℕ) × (files file.0 ≡ Some bytes) × (length bytes ≤ file.1)) × ¬ failed file.0 × AreAtHand files failed more
 
--- no rule is broken
-abbrev pub IsClean : Command → Files → Type 0
-IsClean (compile file) files = (source : List ℕ) → files file ≡ Some source → IsAccepted source
+-- the command's files are what it asks for: a source that breaks no rule, or a module and a table for it
+abbrev pub AreFit : Command → Files → Type 0
+AreFit (compile file) files = (source : List ℕ) → files file ≡ Some source → IsClean source
+AreFit (sim file table) files = (verilog stimulus : List ℕ) → files file ≡ Some verilog → files table ≡ Some stimulus → IsFitTable verilog stimulus
 
 -- no write to the sink failed
 abbrev pub IsUnharmed : Passage → Type 0
@@ -26,7 +28,7 @@ IsUnharmed sink = ¬ Rose sink.before sink.after
 pub record CanBeDone (words : List (List ℕ)) (files : Files) (failed : List ℕ → Type 0) (err out : Passage) (command : Command) : Type 0 where
   pub asked : Asks words command
   pub at_hand : AreAtHand files failed (files_of command)
-  pub clean : IsClean command files
+  pub fit : AreFit command files
   pub err_unharmed : IsUnharmed err
   pub out_unharmed : IsUnharmed out
 

@@ -1,9 +1,12 @@
 pub mod Words
 pub mod Text
 pub mod Status
+pub mod Verdict
 pub mod Outcome
 pub mod Ends
 pub mod Complete
 pub mod Headline
+pub mod Simulations
 pub mod Command
 pub mod Answer
+pub mod Loaded

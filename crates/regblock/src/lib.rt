@@ -2,6 +2,11 @@
 #![tactic(auto)]
 
 mod answer;
+mod commands;
+mod compiling;
+mod loading;
+mod places;
+mod simulating;
 mod status;
 #[cfg(test)]
 mod tests;

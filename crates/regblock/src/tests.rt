@@ -5,6 +5,9 @@ use std::test::Fail;
 
 const ONE: &str = "addrmap one { reg { field { sw=rw; hw=r; } f[32] = 32'h5; } a @0x0; };\n";
 
+const COMMENTED: &str =
+    "// one register\naddrmap one { reg { field { sw=rw; \\hw=r; } f[8'd32] = 5; } a @0x0; /* at 0 */ };\n";
+
 // The header is fixed, and so are the registers.
 const HEAD: &str =
     "module one_regs (\n  input PCLK,\n  input PRESETn,\n  input [31:0] PADDR,\n  input PSEL,\n  input PENABLE,\n  input PWRITE,\n  input [31:0] PWDATA,\n  output PREADY,\n  output [31:0] PRDATA,\n  output PSLVERR,\n  output [31:0] out$a$f\n);\n  reg [31:0] val$a$f;\n";
@@ -73,6 +76,92 @@ fn refusals_are_one_line_on_err(rt: HostRuntime) -> Result<(), Fail> {
         let words = words(alloc, *asked)?;
         let status = run(alloc, &words, &mut shelf, &mut out, &mut err);
         assert_eq!(rt; status, *wanted);
+        assert_eq!(rt; err.bytes(), line.as_bytes());
+        assert!(rt; out.bytes().is_empty());
+    }
+    Ok(())
+}
+
+#[test]
+fn refusals_name_their_places(rt: HostRuntime) -> Result<(), Fail> {
+    let alloc = rt.alloc();
+    let table: [(&str, &str); 4] = [
+        ("addrmap a", "p.rdl:1:10: S1 syntax\n"),
+        ("addrmap a { ~", "p.rdl:1:13: O7 bitwise not\n"),
+        ("addrmap a {\n <%", "p.rdl:2:2: L5 Perl code\n"),
+        ("addrmap a { };", "p.rdl:1:1: N1 not in this version\n"),
+    ];
+    for (source, line) in table {
+        let mut shelf = MemShelf::new(alloc, &[])?;
+        shelf.put("p.rdl", source.as_bytes())?;
+        let mut out = MemSink::new(alloc, 1000, 1000, &[])?;
+        let mut err = MemSink::new(alloc, 7, 1000, &[])?;
+        let words = words(alloc, &["compile", "p.rdl"])?;
+        let status = run(alloc, &words, &mut shelf, &mut out, &mut err);
+        assert_eq!(rt; status, Status::Refused);
+        assert_eq!(rt; err.bytes(), line.as_bytes());
+    }
+    Ok(())
+}
+
+// Software writes 165 at address 0 and reads it back, and then reads address 4, where nothing is.
+const BUS: &str =
+    "PRESETn,PADDR,PSEL,PENABLE,PWRITE,PWDATA\n0,0,0,0,0,0\n1,0,1,0,1,165\n1,0,1,1,1,165\n1,0,1,0,0,0\n1,0,1,1,0,0\n1,4,1,0,0,0\n1,4,1,1,0,0\n1,0,0,0,0,0\n";
+
+const SEEN: &str =
+    "PREADY,PRDATA,PSLVERR,out$a$f\n0x1,0x0,0x0,0x5\n0x1,0x0,0x0,0x5\n0x1,0x0,0x0,0x5\n0x1,0x0,0x0,0xa5\n0x1,0xa5,0x0,0xa5\n0x1,0x0,0x0,0xa5\n0x1,0x0,0x1,0xa5\n0x1,0x0,0x0,0xa5\n";
+
+#[test]
+fn what_is_compiled_runs(rt: HostRuntime) -> Result<(), Fail> {
+    let alloc = rt.alloc();
+    let mut shelf = shelf(alloc, &[])?;
+    shelf.put("commented.rdl", COMMENTED.as_bytes())?;
+    shelf.put("bus.csv", BUS.as_bytes())?;
+    let mut module = MemSink::new(alloc, 1000, 10_000, &[])?;
+    let mut err = MemSink::new(alloc, 1000, 1000, &[])?;
+    let compile = words(alloc, &["compile", "commented.rdl"])?;
+    let status = run(alloc, &compile, &mut shelf, &mut module, &mut err);
+    assert_eq!(rt; status, Status::Done);
+    shelf.put("one.v", module.bytes())?;
+    let mut out = MemSink::new(alloc, 1000, 1000, &[])?;
+    let sim = words(alloc, &["sim", "one.v", "bus.csv"])?;
+    let status = run(alloc, &sim, &mut shelf, &mut out, &mut err);
+    assert_eq!(rt; status, Status::Done);
+    assert_eq!(rt; out.bytes(), SEEN.as_bytes());
+    assert!(rt; err.bytes().is_empty());
+    Ok(())
+}
+
+#[test]
+fn what_cannot_be_simulated_is_one_line_on_err(rt: HostRuntime) -> Result<(), Fail> {
+    let alloc = rt.alloc();
+    let circle = "module m (input PCLK, output x); wire a; assign a = x; assign x = a; endmodule";
+    let half = "module m (input PCLK, input a, output x); assign x = a; endmodule";
+    let table: [(&str, &str, Status, &str); 4] = [
+        (circle, "", Status::BadVerilog, "m.v:1:42: loop\n"),
+        ("module", "", Status::BadVerilog, "m.v:1:7: syntax\n"),
+        (
+            half,
+            "b\n0\n",
+            Status::BadStimulus,
+            "t.csv: column 0: unknown pin\n",
+        ),
+        (
+            half,
+            "a\n1\n2\n",
+            Status::BadStimulus,
+            "t.csv: row 1 column 0: too wide\n",
+        ),
+    ];
+    for (module, pins, wanted, line) in table {
+        let mut shelf = MemShelf::new(alloc, &[])?;
+        shelf.put("m.v", module.as_bytes())?;
+        shelf.put("t.csv", pins.as_bytes())?;
+        let mut out = MemSink::new(alloc, 1000, 1000, &[])?;
+        let mut err = MemSink::new(alloc, 7, 1000, &[])?;
+        let words = words(alloc, &["sim", "m.v", "t.csv"])?;
+        let status = run(alloc, &words, &mut shelf, &mut out, &mut err);
+        assert_eq!(rt; status, wanted);
         assert_eq!(rt; err.bytes(), line.as_bytes());
         assert!(rt; out.bytes().is_empty());
     }

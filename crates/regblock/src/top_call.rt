@@ -3,14 +3,15 @@
 ghost use Rattle.std.specs.Prelude.{◌≡◌, ◌⊎◌, List, ℕ};
 ghost use Rattle.rb_edge.specs.Count.{Rose};
 ghost use Rattle.rb_edge.specs.Shelf.{IsLonger};
-ghost use Rattle.regblock.specs.Words.{texts, Command, compile, Asks, AsksNothing};
+ghost use Rattle.regblock.specs.Words.{texts, Command, compile, sim, Asks, AsksNothing};
 ghost use Rattle.regblock.specs.Outcome.{FailedRead, Outcome, StopsAt, files_of};
 ghost use Rattle.regblock.specs.Ends.{Ends, passage};
 ghost use Rattle.regblock.specs.Complete.{IsComplete};
-ghost use Rattle.regblock.specs.Headline.{IsCompiled, IsToldFailure};
+ghost use Rattle.regblock.specs.Headline.{IsRight, IsToldFailure};
+ghost use Rattle.regblock.specs.Simulations.{IsRun, IsToldVerilog, IsToldStimulus};
 
 use crate::Status;
-use crate::answer::answer_words;
+use crate::commands::answer_words;
 use rb_edge::{Shelf, Sink};
 use std::alloc::Global;
 
@@ -26,9 +27,17 @@ pub fn run<S: Shelf, O: Sink, E: Sink>(
 ) -> Status
     // A module that was written is right, and a refusal names the first failure.
     ensures done { (file : List ℕ) → Asks (texts words.now) (compile file) → result ≡ Status.Done
-        → IsCompiled (S.contents shelf.old) file (passage E.told E.faults err.old err.new) (passage O.told O.faults out.old out.new) }
+        → IsRight (S.contents shelf.old) file (passage E.told E.faults err.old err.new) (passage O.told O.faults out.old out.new) }
     ensures refused { (file : List ℕ) → Asks (texts words.now) (compile file) → result ≡ Status.Refused
         → IsToldFailure (S.contents shelf.old) file (passage E.told E.faults err.old err.new) (passage O.told O.faults out.old out.new) }
+
+    // A run that was written is that of the module that the first file is, from zeros, over the table that the second is.
+    ensures simulated { (file table : List ℕ) → Asks (texts words.now) (sim file table) → result ≡ Status.Done
+        → IsRun (S.contents shelf.old) file table (passage E.told E.faults err.old err.new) (passage O.told O.faults out.old out.new) }
+    ensures bad_verilog { (file table : List ℕ) → Asks (texts words.now) (sim file table) → result ≡ Status.BadVerilog
+        → IsToldVerilog (S.contents shelf.old) file (passage E.told E.faults err.old err.new) (passage O.told O.faults out.old out.new) }
+    ensures bad_stimulus { (file table : List ℕ) → Asks (texts words.now) (sim file table) → result ≡ Status.BadStimulus
+        → IsToldStimulus (S.contents shelf.old) file table (passage E.told E.faults err.old err.new) (passage O.told O.faults out.old out.new) }
 
     // What is written and how it ends belong to the words and the files.
     ensures ends { Ends (Outcome (texts words.now) (S.contents shelf.old) (FailedRead S.faults shelf.old shelf.new))

@@ -2,6 +2,8 @@ use Rattle.regblock.proofs.Rows.{Ends-written}
 use Rattle.regblock.proofs.CompleteRuns.{complete}
 use Rattle.regblock.proofs.Causes.{usage_cause, read_fault_cause, too_long_cause, write_fault_cause}
 use Rattle.regblock.proofs.Headlines.{done, refused}
+use Rattle.v_reader.proofs.Verdicts.{no_module}
+use Rattle.regblock.proofs.Simulations.{simulated, bad_verilog, bad_stimulus}
 use Rattle.first_form.proofs.FirstSound.{sound}
 use Rattle.first_form.proofs.Named.{named}
 use Rattle.regblock.proofs.top_call.run.Goals as goal
@@ -16,7 +18,7 @@ pub returns-in-Ok-clause-refused : goal.returns-in-Ok-clause-refused
 returns-in-Ok-clause-refused g c = refused _ _ _ _ _ _ (returns-in-Ok-clause-ends g c)
 
 pub returns-in-Ok-clause-complete : goal.returns-in-Ok-clause-complete
-returns-in-Ok-clause-complete g c = complete _ _ _ _ _ _ (returns-in-Ok-clause-ends g c)
+returns-in-Ok-clause-complete g c = complete no_module _ _ _ _ _ _ (returns-in-Ok-clause-ends g c)
 
 pub returns-in-Ok-clause-usage : goal.returns-in-Ok-clause-usage
 returns-in-Ok-clause-usage g c = usage_cause _ _ _ _ _ _ (returns-in-Ok-clause-ends g c)
@@ -29,3 +31,12 @@ returns-in-Ok-clause-too_long g c = too_long_cause _ _ _ _ _ _ (returns-in-Ok-cl
 
 pub returns-in-Ok-clause-write_fault : goal.returns-in-Ok-clause-write_fault
 returns-in-Ok-clause-write_fault g c = write_fault_cause _ _ _ _ _ _ (returns-in-Ok-clause-ends g c)
+
+pub returns-in-Ok-clause-simulated : goal.returns-in-Ok-clause-simulated
+returns-in-Ok-clause-simulated g c = simulated _ _ _ _ _ _ (returns-in-Ok-clause-ends g c)
+
+pub returns-in-Ok-clause-bad_verilog : goal.returns-in-Ok-clause-bad_verilog
+returns-in-Ok-clause-bad_verilog g c = bad_verilog _ _ _ _ _ _ (returns-in-Ok-clause-ends g c)
+
+pub returns-in-Ok-clause-bad_stimulus : goal.returns-in-Ok-clause-bad_stimulus
+returns-in-Ok-clause-bad_stimulus g c = bad_stimulus _ _ _ _ _ _ (returns-in-Ok-clause-ends g c)

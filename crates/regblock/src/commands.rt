@@ -1,0 +1,31 @@
+//! What the words ask for, answered.
+
+ghost use Rattle.std.specs.Prelude.{IfOk};
+ghost use Rattle.regblock.specs.Words.{texts};
+ghost use Rattle.regblock.specs.Outcome.{FailedRead, Outcome};
+ghost use Rattle.regblock.specs.Answer.{texts_of};
+
+use crate::answer::{Answer, usage_answer};
+use crate::compiling::compile_file;
+use crate::simulating::simulate_files;
+use crate::words::{Command, command_of};
+use rb_base::NoMemory;
+use rb_edge::Shelf;
+use std::alloc::Global;
+
+/// What the words ask for. It reads the files and writes nothing.
+pub(crate) fn answer_words<S: Shelf>(
+    alloc: Global,
+    words: &[String],
+    shelf: &mut S,
+) -> Result<Answer, NoMemory>
+    ensures { IfOk result (λ answer. Outcome (texts words.now) (S.contents shelf.old) (FailedRead S.faults shelf.old shelf.new) answer.status (texts_of answer)) }
+{
+    match command_of(words) {
+        Some(Command::Compile { source }) => Ok(compile_file(alloc, shelf, source)?),
+        Some(Command::Sim { verilog, stimulus }) => {
+            Ok(simulate_files(alloc, shelf, verilog, stimulus)?)
+        }
+        None => usage_answer(alloc),
+    }
+}
