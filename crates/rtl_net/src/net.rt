@@ -187,6 +187,7 @@ impl Netlist {
         requires new { IsNew self.old name.now }
         requires wide { IsWidth width }
         ensures older { Extends self.old self.new }
+        ensures name { self.new.name ≡ self.old.name }
         ensures nodes { self.new.nodes ≡ self.old.nodes }
         ensures seats { OnOk result (self.new.seats ≡ self.old.seats ++ record { name = name.now; width = width; taken = None } ∷ []) }
         ensures err { OnErr result (self.new ≡ self.old) }
@@ -202,6 +203,7 @@ impl Netlist {
         requires wide { IsWidth width }
         requires clock { OnTrue (bytes_eq name.now clock) (width ≡ 1) }
         ensures older { Extends self.old self.new }
+        ensures name { self.new.name ≡ self.old.name }
         ensures awaits { Keeps self.old self.new }
         ensures registers { registers_of self.new.nodes ≡ registers_of self.old.nodes }
         ensures undriven { undriven self.new.nodes ≡ undriven self.old.nodes }
@@ -223,6 +225,7 @@ impl Netlist {
         requires clock { HasClock self.old }
         requires reset { CanReset self.old width reset }
         ensures older { Extends self.old self.new }
+        ensures name { self.new.name ≡ self.old.name }
         ensures awaits { Keeps self.old self.new }
         ensures seats { self.new.seats ≡ self.old.seats }
         ensures registers { OnOk result (registers_of self.new.nodes ≡ registers_of self.old.nodes ++ record { name = name.now; width = width } ∷ []) }
@@ -246,6 +249,7 @@ impl Netlist {
     pub fn drive(&mut self, reg: Id, next: Id)
         requires { CanDrive self.old reg next }
         ensures older { Extends self.old self.new }
+        ensures name { self.new.name ≡ self.old.name }
         ensures others { (id : IdOf) (name : List ℕ) (w : ℕ) (reset : ResetOf) → id.0 ≢ reg.0 → Awaits self.old id name w reset → Awaits self.new id name w reset }
         ensures seats { self.new.seats ≡ self.old.seats }
         ensures registers { registers_of self.new.nodes ≡ registers_of self.old.nodes }
@@ -262,6 +266,7 @@ impl Netlist {
         requires stands { Has self.old from }
         requires free { IsFree self.old name.now (width_in self.old from) }
         ensures older { Extends self.old self.new }
+        ensures name { self.new.name ≡ self.old.name }
         ensures nodes { self.new.nodes ≡ self.old.nodes }
         ensures seats { OnOk result (self.new.seats ≡ seated self.old.seats name.now (width_in self.old from) (Taken.Output from)) }
         ensures shown { OnOk result ((v : At) → Settles self.new v → v.outs name.now ≡ v.node from.0) }
@@ -277,6 +282,7 @@ impl Netlist {
     pub fn wire(&mut self, expr: NetExpr) -> Result<Id, NoMemory>
         requires { CanWire self.old expr }
         ensures older { Grows self.old self.new }
+        ensures name { self.new.name ≡ self.old.name }
         ensures node { IfOk result (λ id. IsNode self.new id (expr_width (widths self.old) expr) (λ v. expr_value (widths self.old) v.node expr)) }
         ensures wire { IfOk result (λ id. IsWire self.new id expr) }
         ensures shared { (id : IdOf) → IsWire self.old id expr → (result ≡ Ok id) × (self.new ≡ self.old) }
@@ -294,6 +300,7 @@ impl Netlist {
     pub fn fold(&mut self, expr: NetExpr) -> Result<Id, NoMemory>
         requires { CanWire self.old expr }
         ensures older { Grows self.old self.new }
+        ensures name { self.new.name ≡ self.old.name }
         ensures node { IfOk result (λ id. IsNode self.new id (expr_width (widths self.old) expr) (λ v. expr_value (widths self.old) v.node expr)) }
         ensures constant { IsTrue (is_constant self.old.nodes expr) → IfOk result (λ id. IsWire self.new id
             (NetExpr.Const (expr_width (widths self.old) expr) (expr_value (widths self.old) (constant_values self.old.nodes) expr))) }

@@ -116,6 +116,7 @@ impl Netlist {
     fn join(&mut self, name: &[u8], width: u8) -> Result<Id, NoMemory>
         requires { CanInput self.old name.now width }
         ensures older { Extends self.old self.new }
+        ensures name { self.new.name ≡ self.old.name }
         ensures awaits { Keeps self.old self.new }
         ensures joins { IfOk result (λ id. Joins self.old self.new name.now width id) }
     {
@@ -133,6 +134,7 @@ impl Netlist {
         requires can { CanCopy self.old ids.now given node.now }
         requires below { NamesBelow (length ids.now) node.now }
         ensures older { Extends self.old self.new }
+        ensures name { self.new.name ≡ self.old.name }
         ensures awaits { Keeps self.old self.new }
         ensures copied { IfOk result (λ id. IsCopied self.old self.new ids.now given node.now id) }
     {
@@ -165,6 +167,7 @@ impl Netlist {
         requires given { AllByRecursion (CanGive self.old from.now) given.now }
         requires names { CanGraft self.old from.now given.now }
         ensures older { Extends self.old self.new }
+        ensures name { self.new.name ≡ self.old.name }
         ensures awaits { Keeps self.old self.new }
         ensures copies { IfOk result (λ ids. CopiesFirst self.old self.new from.now given.now ids.items (length from.now.nodes)) }
         ensures rest { OnOk result (CanCopyRest self.new from.now given.now (length from.now.nodes)) }
@@ -182,7 +185,8 @@ impl Netlist {
     fn drive_copies(&mut self, from: &Netlist, ids: &[Id])
         requires copies { HasCopies self.old from.now ids.now }
         requires awaits { AwaitsFrom self.old from.now ids.now 0 }
-        ensures { DrivesFirst self.old self.new from.now ids.now (length from.now.nodes) }
+        ensures drives { DrivesFirst self.old self.new from.now ids.now (length from.now.nodes) }
+        ensures name { self.new.name ≡ self.old.name }
     {
         for (at, node) in from.nodes().iter().enumerate() {
             if let Some(next) = next_of(node) {
@@ -197,6 +201,7 @@ impl Netlist {
         requires copies { HasCopies self.old from.now ids.now }
         requires free { FreeFrom self.old from.now 0 }
         ensures older { Extends self.old self.new }
+        ensures name { self.new.name ≡ self.old.name }
         ensures nodes { self.new.nodes ≡ self.old.nodes }
         ensures shows { OnOk result (ShowsFirst self.old self.new from.now ids.now (length from.now.seats)) }
     {
@@ -217,6 +222,7 @@ impl Netlist {
         requires given { AllByRecursion (CanGive self.old from.now) given.now }
         requires rest { CanGraft self.old from.now given.now }
         ensures older { Extends self.old self.new }
+        ensures name { self.new.name ≡ self.old.name }
         ensures awaits { Keeps self.old self.new }
         ensures count { IfOk result (λ ids. length ids.items ≡ length from.now.nodes) }
         ensures stands { IfOk result (λ ids. (id : IdOf) → Has from.now id → Stands self.new (at ids.items id.0) (width_in from.now id)) }
