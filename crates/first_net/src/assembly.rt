@@ -8,7 +8,6 @@ ghost use Rattle.first_form.specs.Parts.{shown};
 ghost use Rattle.first_net.specs.Netlist.{IsNetlistOf};
 ghost use Rattle.first_net.specs.Nodes.{HasPins, HasBusPorts, HasOneRegister, HasLogic, ShowsBus, IsFirst};
 ghost use Rattle.rtl_net.specs.Names.{is_identifier};
-ghost use Rattle.rtl_net.specs.Made.{IsMade};
 
 use crate::gates::{constant, pick};
 use crate::logic::{Logic, register_logic};
@@ -23,6 +22,7 @@ fn bus_outputs(net: &mut Netlist, logic: &Logic) -> Result<(), NoMemory>
     requires pins { HasPins net.old }
     requires register { (path : List ℕ) × HasOneRegister net.old path }
     ensures older { OnOk result (Extends net.old net.new) }
+    ensures name { net.new.name ≡ net.old.name }
     ensures registers { OnOk result (registers_of net.new.nodes ≡ registers_of net.old.nodes) }
     ensures undriven { OnOk result (undriven net.new.nodes ≡ undriven net.old.nodes) }
     ensures ports { OnOk result (HasBusPorts net.new) }
@@ -57,28 +57,12 @@ fn module_name(alloc: Global, form: &Form<'_>) -> Result<Vec<u8>, AllocError>
     Ok(name)
 }
 
-/// The netlist, which has this name.
-///
-/// No call changes a netlist's name, but their clauses leave that open, and so it is read here.
-fn with_name(net: Netlist, name: &[u8]) -> Result<Netlist, NoMemory>
-    ensures same { IfOk result (λ found. found ≡ net) }
-    ensures made { IfOk result (λ found. IsMade found) }
-    ensures name { IfOk result (λ found. found.name ≡ name.now) }
-{
-    // The proof cites what holds of each netlist, which it knows where the nodes are read.
-    let _nodes = net.nodes();
-    if net.name() == name {
-        Ok(net)
-    } else {
-        Err(NoMemory)
-    }
-}
-
-/// The netlist of the bus's pins, the register `val$PATH` and the output `out$PATH`.
+/// The netlist of this name, of the bus's pins, the register `val$PATH` and the output `out$PATH`.
 fn first_netlist(alloc: Global, name: &[u8], form: &Form<'_>) -> Result<Netlist, NoMemory>
     requires named { IsTrue (is_identifier name.now) }
     requires said { IsSaid (shown form.now) }
-    ensures { IfOk result (λ net. IsFirst net (path_of (shown form.now)) form.now.reset form.now.address) }
+    ensures name { IfOk result (λ net. net.name ≡ name.now) }
+    ensures first { IfOk result (λ net. IsFirst net (path_of (shown form.now)) form.now.reset form.now.address) }
 {
     let value_name = path_name(alloc, b"val$", form)?;
     let out_name = path_name(alloc, b"out$", form)?;
@@ -96,7 +80,8 @@ pub fn netlist(alloc: Global, form: &Form<'_>) -> Result<Netlist, NoMemory>
     ensures { IfOk result (λ net. IsNetlistOf net (block_of (shown form.now))) }
 {
     let module = module_name(alloc, form)?;
-    let built = first_netlist(alloc, &module, form)?;
-    let net = with_name(built, &module)?;
+    let net = first_netlist(alloc, &module, form)?;
+    // The proof cites what holds of each netlist, which it knows where the nodes are read.
+    let _nodes = net.nodes();
     Ok(net)
 }

@@ -23,6 +23,7 @@ pub(crate) struct Bus {
 pub(crate) fn bus_inputs(net: &mut Netlist) -> Result<Bus, NoMemory>
     requires seats { net.old.seats ≡ [] }
     requires registers { registers_of net.old.nodes ≡ [] }
+    ensures name { net.new.name ≡ net.old.name }
     ensures bus { IfOk result (λ bus. HasBus net.new bus) }
     ensures seats { IfOk result (λ bus. net.new.seats ≡ bus_seats bus) }
     ensures registers { OnOk result (registers_of net.new.nodes ≡ []) }

@@ -1,6 +1,6 @@
 //! What an access hits.
 
-ghost use Rattle.std.specs.Prelude.{ℕ, IfOk, OnOk};
+ghost use Rattle.std.specs.Prelude.{◌≡◌, ℕ, IfOk, OnOk};
 ghost use Rattle.rtl_net.specs.Net.{Grows, IsNode};
 ghost use Rattle.first_net.specs.Nodes.{HasBus, HasHits, access, hit};
 
@@ -21,6 +21,7 @@ pub(crate) struct Hits {
 fn address_hit(net: &mut Netlist, bus: &Bus, address: u32) -> Result<Id, NoMemory>
     requires { HasBus net.old bus.now }
     ensures older { OnOk result (Grows net.old net.new) }
+    ensures name { net.new.name ≡ net.old.name }
     ensures node { IfOk result (λ id. IsNode net.new id 1 (hit address)) }
 {
     let wanted = constant(net, 32, address)?;
@@ -40,6 +41,7 @@ fn hits_of(
     requires accessed { IsNode net.old accessed 1 access }
     requires there { IsNode net.old there 1 (hit address) }
     ensures older { OnOk result (Grows net.old net.new) }
+    ensures name { net.new.name ≡ net.old.name }
     ensures hits { IfOk result (λ hits. HasHits net.new hits address) }
 {
     let met = and(net, accessed, there)?;
@@ -55,6 +57,7 @@ fn hits_of(
 pub(crate) fn decode(net: &mut Netlist, bus: &Bus, address: u32) -> Result<Hits, NoMemory>
     requires { HasBus net.old bus.now }
     ensures older { OnOk result (Grows net.old net.new) }
+    ensures name { net.new.name ≡ net.old.name }
     ensures hits { IfOk result (λ hits. HasHits net.new hits address) }
 {
     let accessed = and(net, bus.select, bus.enable)?;

@@ -31,6 +31,7 @@ pub(crate) fn register_logic(
     requires seats { net.old.seats ≡ [] }
     requires registers { registers_of net.old.nodes ≡ [] }
     requires undriven { undriven net.old.nodes ≡ 0 }
+    ensures name { net.new.name ≡ net.old.name }
     ensures pins { OnOk result (HasPins net.new) }
     ensures register { OnOk result (registers_of net.new.nodes ≡ record { name = name.now; width = 32 } ∷ []) }
     ensures undriven { OnOk result (undriven net.new.nodes ≡ 0) }

@@ -23,8 +23,8 @@ output-requires-clause-named c =
     let f = shown c.args.form.now in
     subst (λ (t : List ℕ). IsTrue (is_net_name t)) (sym (c.deref-2.ensures.value ∙ c.in_ok-out_name.ensures)) (output_named f (named c.requires.said.0 f c.requires.said.1))
 
-pub returns : goal.returns
-returns c =
+pub returns-clause-first : goal.returns-clause-first
+returns-clause-first c =
     let f = shown c.args.form.now in
     let name : List ℕ = codes "val$" ++ path_of f in
     let out : List ℕ = codes "out$" ++ path_of f in

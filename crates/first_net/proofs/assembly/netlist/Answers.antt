@@ -1,10 +1,8 @@
 use Rattle.std.proofs.Common.{◌∙◌, ℕ, IsTrue, List, sym, subst}
 use Rattle.rtl_net.specs.Names.{is_identifier}
-use Rattle.rtl_net.specs.Net.{Net}
 use Rattle.first_form.specs.Described.{path_of}
 use Rattle.first_form.specs.Parts.{shown}
 use Rattle.first_form.proofs.Named.{named}
-use Rattle.first_net.specs.Nodes.{IsFirst}
 use Rattle.first_net.proofs.Naming.{module_named}
 use Rattle.first_net.proofs.FirstNet.{is_netlist}
 use Rattle.first_net.proofs.assembly.netlist.Goals as goal
@@ -17,5 +15,4 @@ first_netlist-requires-clause-named c =
 pub returns : goal.returns
 returns c =
     let f = shown c.args.form.now in
-    is_netlist f _ c.in_ok-net.ensures.made (c.in_ok-net.ensures.name ∙ c.deref-2.ensures.value ∙ c.in_ok-module.ensures)
-    (subst (λ (n : Net). IsFirst n (path_of f) f.reset f.address) (sym c.in_ok-net.ensures.same) c.in_ok-built.ensures)
+    is_netlist f _ c.nodes-nodes.ensures.made (c.in_ok-net.ensures.name ∙ c.deref.ensures.value ∙ c.in_ok-module.ensures) c.in_ok-net.ensures.first
