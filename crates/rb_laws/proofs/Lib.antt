@@ -1,1 +1,3 @@
+pub mod Others
 pub mod Resets
+pub mod Resting

@@ -3,4 +3,4 @@
 
 mod laws;
 
-pub use laws::reset_wins;
+pub use laws::{other_words_stay, quiet_fields_stay, reset_wins};
