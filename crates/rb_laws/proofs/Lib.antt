@@ -1,3 +1,5 @@
+pub mod Lengths
 pub mod Others
 pub mod Resets
 pub mod Resting
+pub mod Wholes

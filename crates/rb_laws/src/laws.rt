@@ -1,14 +1,18 @@
 //! What the machine of a block does, in a chip engineer's words.
 
-ghost use Rattle.std.specs.Prelude.{◌≡◌, ℕ, true, false, Some, List, slice_get};
+ghost use Rattle.std.specs.Prelude.{◌≡◌, ◌↔◌, ℕ, ◌+◌, ◌-◌, ◌^◌, ◌%◌, ◌<◌, ◌≤◌, true, false, Option, Some, None, List, length, map, slice_get};
 ghost use Rattle.rb_model.specs.declared.block.Block.{Block};
 ghost use Rattle.rb_model.specs.declared.block.Field.{Field};
 ghost use Rattle.rb_model.specs.Kept.{Val, Last, Done, Map, is_storage};
+ghost use Rattle.rb_model.specs.Effects.{counted, overflows, underflows};
 ghost use Rattle.rb_model.specs.Items.{Access, NoAccess, Now, ItemValues};
 ghost use Rattle.rb_model.specs.Machine.{is_asserted, software, uses_up};
-ghost use Rattle.rb_model.specs.Run.{ClockEdge, now, pins_of};
+ghost use Rattle.rb_model.specs.Protocol.{KeepsProtocol, bus_of};
+ghost use Rattle.rb_model.specs.Run.{ClockEdge, MachineRun, now, pins_of};
+ghost use Rattle.rb_model.specs.Sound.{IsSound};
 ghost use Rattle.rb_laws.specs.Words.{is_accessed};
 ghost use Rattle.rb_laws.specs.Quiet.{IsQuiet};
+ghost use Rattle.rb_laws.specs.Counting.{Counts, PassesHigh, PassesLow};
 
 /// A field whose reset is asserted at an edge holds its reset value after it, and neither an input nor a write is
 /// remembered of it, whatever software and hardware do.
@@ -42,4 +46,34 @@ pub fn quiet_fields_stay()
     ensures mark { (b : Block) (m : Map) (x outs : List ℕ) (after : Map) → ClockEdge b m x outs after
         → (now b (pins_of b x) m).access ≡ NoAccess → (k : ℕ) (f : Field) → slice_get b.fields k ≡ Some f
         → is_asserted b (pins_of b x) f.reset_by ≡ false → f.once ≡ true → after (Done k) ≡ m (Done k) }
+{}
+
+/// A counter counts over whole numbers: it saturates, overflows, underflows and wraps exactly where v + up - down says so.
+pub fn counting_is_whole()
+    ensures overflow { (w v up down : ℕ) → (overflows w v up down ≡ 1) ↔ (2 ^ w + down ≤ v + up) }
+    ensures underflow { (w v up down : ℕ) → (underflows v up down ≡ 1) ↔ (v + up < down) }
+    ensures high { (w v up down high : ℕ) (low : Option ℕ) → PassesHigh v up down (Some high)
+        → counted w v up down (Some high) low ≡ high }
+    ensures low { (w v up down : ℕ) (high : Option ℕ) (low : ℕ) → ¬ PassesHigh v up down high
+        → PassesLow v up down (Some low) → counted w v up down high (Some low) ≡ low }
+    ensures below { (w v up down : ℕ) (high low : Option ℕ) → ¬ PassesHigh v up down high
+        → ¬ PassesLow v up down low → counted w v up down high low < 2 ^ w }
+    ensures wraps { (w v up down : ℕ) (high low : Option ℕ) → ¬ PassesHigh v up down high
+        → ¬ PassesLow v up down low → down < 2 ^ w → (counted w v up down high low + down) % 2 ^ w ≡ (v + up) % 2 ^ w }
+    ensures exact { (w v up down : ℕ) (high low : Option ℕ) → ¬ PassesHigh v up down high
+        → ¬ PassesLow v up down low → down ≤ v + up → v + up < 2 ^ w + down
+        → counted w v up down high low + down ≡ v + up }
+    ensures table { Counts 64 (2 ^ 64 - 1) 1 1 None None (2 ^ 64 - 1) 0 0
+        × Counts 4 14 3 0 None None 1 1 0
+        × Counts 4 14 3 0 (Some 15) None 15 1 0
+        × Counts 4 1 0 3 None None 14 0 1
+        × Counts 4 1 0 3 None (Some 0) 0 0 1
+        × Counts 4 14 3 3 (Some 10) None 10 0 0 }
+{}
+
+/// From any kept values, over vectors that keep the bus protocol, the machine runs and answers each vector.
+pub fn protocol_runs()
+    ensures { (b : Block) → IsSound b → (m : Map) (vectors : List (List ℕ))
+        → KeepsProtocol b.waits (map (λ x. bus_of (pins_of b x)) vectors)
+        → (outputs : List (List ℕ)) × MachineRun b m vectors outputs × (length outputs ≡ length vectors) }
 {}

@@ -3,4 +3,4 @@
 
 mod laws;
 
-pub use laws::{other_words_stay, quiet_fields_stay, reset_wins};
+pub use laws::{counting_is_whole, other_words_stay, protocol_runs, quiet_fields_stay, reset_wins};
