@@ -1,5 +1,6 @@
 pub mod Lengths
 pub mod Others
+pub mod Readies
 pub mod Resets
 pub mod Resting
 pub mod Wholes

@@ -1,14 +1,16 @@
--- What an edge without an access makes of a field that hardware leaves alone.
+-- What an edge makes of a field that its access doesn't reach.
 use Rattle.std.proofs.Common.{◌≡◌, ℕ, Bool, true, false, not, ◌&&◌, if◌then◌else◌, Some, is_some, unwrap_or, List, ◌++◌, codes, slice_get, refl, ap, ◌∙◌}
 use Rattle.std.specs.Option.{option_map, option_map_or}
 use Rattle.rb_model.specs.declared.block.Block.{Block}
 use Rattle.rb_model.specs.declared.block.Field.{Field}
 use Rattle.rb_model.specs.Effects.{counted, finished, is_gated, is_latching, is_open, latched, loaded, loads, masked, set_or_cleared}
-use Rattle.rb_model.specs.Items.{NoAccess, Now, ItemValues, down, fed, gated, level_value, mask_value, source_value, up}
+use Rattle.rb_model.specs.Items.{Now, ItemValues, down, fed, gated, level_value, mask_value, source_value, up}
 use Rattle.rb_model.specs.Kept.{Val, Last, Done, Map, is_storage}
-use Rattle.rb_model.specs.Machine.{changed, counts, hardware, is_asserted, moved, software, uses_up}
+use Rattle.rb_model.specs.Machine.{changed, counts, hardware, is_asserted, moved, software}
 use Rattle.rb_model.specs.Run.{ClockEdge, kept_next, now, pins_of}
 use Rattle.rb_laws.specs.Quiet.{IsQuiet}
+use Rattle.rb_laws.specs.Words.{is_accessed}
+use Rattle.rb_laws.proofs.Others.{value_stays, mark_stays}
 use Rattle.rb_laws.proofs.Resets.{at_field, is_after, stored}
 
 same_both : (c : Bool) (x : ℕ) → (if c then x else x) ≡ x
@@ -48,14 +50,15 @@ module _ (f : Field) (quiet : IsQuiet f) where
       ∙ (ap end (unlatched x from last)
       ∙ unfinished n v x x (mask_value v f.keep)))
 
-  pub changed_rests : (b : Block) (n : Now) (v : ItemValues) (k x : ℕ) → n.access ≡ NoAccess → changed b n v k f x ≡ x
-  changed_rests b n v k x none =
-      ap (λ a. if f.hw_first then hardware n v k f (software b n v a k f x) else software b n v a k f (hardware n v k f x)) none
-      ∙ (same_both f.hw_first (hardware n v k f x)
-      ∙ hardware_rests n v k x)
+-- hardware alone changes a field that the access doesn't reach
+hardware_alone : (b : Block) (n : Now) (v : ItemValues) (k : ℕ) (f : Field) (x : ℕ) → is_accessed b n.access k ≡ false → changed b n v k f x ≡ hardware n v k f x
+hardware_alone b n v k f x apart =
+    ap (λ y. if f.hw_first then hardware n v k f y else software b n v n.access k f (hardware n v k f x)) (value_stays b n v n.access k f apart x)
+    ∙ (ap (λ y. if f.hw_first then hardware n v k f x else y) (value_stays b n v n.access k f apart (hardware n v k f x))
+    ∙ same_both f.hw_first (hardware n v k f x))
 
-module _ (b : Block) (m : Map) (x outs : List ℕ) (after : Map) (edge : ClockEdge b m x outs after) (none : (now b (pins_of b x) m).access ≡ NoAccess)
-    (k : ℕ) (f : Field) (here : slice_get b.fields k ≡ Some f) (asserted : is_asserted b (pins_of b x) f.reset_by ≡ false) where
+module _ (b : Block) (m : Map) (x outs : List ℕ) (after : Map) (edge : ClockEdge b m x outs after)
+    (k : ℕ) (f : Field) (here : slice_get b.fields k ≡ Some f) (asserted : is_asserted b (pins_of b x) f.reset_by ≡ false) (apart : is_accessed b (now b (pins_of b x) m).access k ≡ false) where
   abbrev n : Now
   n = now b (pins_of b x) m
 
@@ -84,14 +87,17 @@ module _ (b : Block) (m : Map) (x outs : List ℕ) (after : Map) (edge : ClockEd
       let y = moved b n edge.items (Done k) in
       at_field b k f here y (λ g. if is_asserted b n.pins g.reset_by then 0 else y)
       ∙ (ap (λ c. if c then 0 else y) asserted
-      ∙ ap (λ a. if uses_up b n edge.items a k then 1 else n.kept (Done k)) none)
+      ∙ ap (λ c. if c then 1 else n.kept (Done k)) (mark_stays b n edge.items n.access k apart))
 
-  pub value_rests : IsQuiet f → is_storage f.class ≡ true → after (Val k) ≡ m (Val k)
-  value_rests quiet e =
+  pub hardware_moves : is_storage f.class ≡ true → after (Val k) ≡ hardware n edge.items k f (m (Val k))
+  hardware_moves e =
       stored b m x outs after edge k f here e
       ∙ (value_next
-      ∙ (changed_rests f quiet b n edge.items k (n.kept (Val k)) none
-      ∙ value_held))
+      ∙ (hardware_alone b n edge.items k f (n.kept (Val k)) apart
+      ∙ ap (hardware n edge.items k f) value_held))
+
+  pub value_rests : is_storage f.class ≡ true → IsQuiet f → after (Val k) ≡ m (Val k)
+  value_rests e quiet = hardware_moves e ∙ hardware_rests f quiet n edge.items k (m (Val k))
 
   pub mark_rests : f.once ≡ true → after (Done k) ≡ m (Done k)
   mark_rests once =

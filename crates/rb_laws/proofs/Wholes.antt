@@ -1,7 +1,8 @@
 -- Counting agrees with whole numbers.
-use Rattle.std.proofs.Common.{◌≡◌, ℕ, ◌+◌, ◌-◌, ◌^◌, ◌%◌, ◌<◌, ◌≤◌, ◌↔◌, Bool, true, false, ◌&&◌, nat_le, nat_lt, if◌then◌else◌, Option, Some, None, unwrap_or, refl, ap, ◌∙◌, mod-lt, arith}
+use Rattle.std.proofs.Common.{◌≡◌, ℕ, suc, ◌+◌, ◌-◌, ◌^◌, ◌%◌, ◌<◌, ◌≤◌, ◌↔◌, Bool, true, false, ◌&&◌, nat_le, nat_lt, if◌then◌else◌, Option, Some, None, unwrap_or, refl, ap, ◌∙◌, mod-lt, inl, inr, arith}
 use Rattle.std.proofs.Math.Nat.{add-mod_right, mod-add-mod, mod-eq_of_lt}
 use Rattle.std.proofs.Math.Pow.{pow_pos}
+use Rattle.std.proofs.lemmas.Bool.Decides.{leb_tells}
 use Rattle.std.proofs.lemmas.Bool.{ltb-true, lt-ltb, leb-true, le-leb}
 use Rattle.v_design.specs.Expr.{bit_of}
 use Rattle.rb_model.specs.Effects.{counted, is_over, is_under, overflows, underflows}
@@ -18,6 +19,33 @@ overflow_where w v up down =
 pub underflow_where : (w v up down : ℕ) → (underflows v up down ≡ 1) ↔ (v + up < down)
 underflow_where w v up down =
     (λ e. ltb-true (v + up) down (bit_true (nat_lt (v + up) down) e), λ l. ap bit_of (lt-ltb (v + up) down l))
+
+bit_false : (c : Bool) → bit_of c ≡ 0 → c ≡ false
+bit_false true e = absurd (omega (arith, e))
+bit_false false e = refl
+
+-- a test that fails
+le-fails : (a b : ℕ) → (nat_le a b ≡ false) ↔ (b < a)
+le-fails a b = elim (leb_tells a b) [
+  | inl h ↦ (λ e. absurd (let p : nat_le a b ≡ true = h.0 in cc), λ l. absurd (omega (arith, l, h.1)))
+  | inr h ↦ (λ e. h.1, λ l. h.0)
+]
+
+lt-fails : (a b : ℕ) → (nat_lt a b ≡ false) ↔ (b ≤ a)
+lt-fails a b = elim (leb_tells (suc a) b) [
+  | inl h ↦ (λ e. absurd (let p : nat_lt a b ≡ true = h.0 in cc), λ l. absurd (omega (arith, l, h.1)))
+  | inr h ↦ (λ e. omega (arith, h.1), λ l. h.0)
+]
+
+pub no_overflow_where : (w v up down : ℕ) → (overflows w v up down ≡ 0) ↔ (v + up < 2 ^ w + down)
+no_overflow_where w v up down =
+    let t : (nat_le (2 ^ w + down) (v + up) ≡ false) ↔ (v + up < 2 ^ w + down) = le-fails (2 ^ w + down) (v + up) in
+    (λ e. t.0 (bit_false (nat_le (2 ^ w + down) (v + up)) e), λ l. ap bit_of (t.1 l))
+
+pub no_underflow_where : (w v up down : ℕ) → (underflows v up down ≡ 0) ↔ (down ≤ v + up)
+no_underflow_where w v up down =
+    let t : (nat_lt (v + up) down ≡ false) ↔ (down ≤ v + up) = lt-fails (v + up) down in
+    (λ e. t.0 (bit_false (nat_lt (v + up) down) e), λ l. ap bit_of (t.1 l))
 
 both : (c d : Bool) → c ≡ true → d ≡ true → (c && d) ≡ true
 both c d p q = ap (λ e. e && d) p ∙ q

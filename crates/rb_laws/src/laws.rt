@@ -1,21 +1,24 @@
 //! What the machine of a block does, in a chip engineer's words.
 
 ghost use Rattle.std.specs.Prelude.{◌≡◌, ◌↔◌, ℕ, ◌+◌, ◌-◌, ◌^◌, ◌%◌, ◌<◌, ◌≤◌, true, false, Option, Some, None, List, length, map, slice_get};
+ghost use Rattle.v_design.specs.Fits.{FitsPins};
 ghost use Rattle.rb_model.specs.declared.block.Block.{Block};
 ghost use Rattle.rb_model.specs.declared.block.Field.{Field};
 ghost use Rattle.rb_model.specs.Kept.{Val, Last, Done, Map, is_storage};
 ghost use Rattle.rb_model.specs.Effects.{counted, overflows, underflows};
-ghost use Rattle.rb_model.specs.Items.{Access, NoAccess, Now, ItemValues};
-ghost use Rattle.rb_model.specs.Machine.{is_asserted, software, uses_up};
+ghost use Rattle.rb_model.specs.Items.{Access, Now, ItemValues};
+ghost use Rattle.rb_model.specs.Machine.{hardware, is_asserted, software, uses_up};
 ghost use Rattle.rb_model.specs.Protocol.{KeepsProtocol, bus_of};
+ghost use Rattle.rb_model.specs.Ports.{input_pins};
+ghost use Rattle.rb_model.specs.References.{Each};
 ghost use Rattle.rb_model.specs.Run.{ClockEdge, MachineRun, now, pins_of};
 ghost use Rattle.rb_model.specs.Sound.{IsSound};
+ghost use Rattle.rb_laws.specs.Ready.{AreReady};
 ghost use Rattle.rb_laws.specs.Words.{is_accessed};
 ghost use Rattle.rb_laws.specs.Quiet.{IsQuiet};
 ghost use Rattle.rb_laws.specs.Counting.{Counts, PassesHigh, PassesLow};
 
-/// A field whose reset is asserted at an edge holds its reset value after it, and neither an input nor a write is
-/// remembered of it, whatever software and hardware do.
+/// A field whose reset is asserted takes its reset value at the edge, and forgets its last input and that it was written.
 pub fn reset_wins()
     ensures value { (b : Block) (m : Map) (x outs : List ℕ) (after : Map) → ClockEdge b m x outs after
         → (k : ℕ) (f : Field) → slice_get b.fields k ≡ Some f → is_asserted b (pins_of b x) f.reset_by ≡ true
@@ -28,30 +31,35 @@ pub fn reset_wins()
         → after (Done k) ≡ 0 }
 {}
 
-/// An access changes no field of which no bits stand in the word accessed, and isn't marked as a write of it.
+/// An access leaves alone each field that has no bits in the word accessed: only hardware and reset change it.
 pub fn other_words_stay()
     ensures value { (b : Block) (n : Now) (v : ItemValues) (access : Access) (k : ℕ) (f : Field)
         → is_accessed b access k ≡ false → (y : ℕ) → software b n v access k f y ≡ y }
     ensures mark { (b : Block) (n : Now) (v : ItemValues) (access : Access) (k : ℕ)
         → is_accessed b access k ≡ false → uses_up b n v access k ≡ false }
+    ensures edge { (b : Block) (m : Map) (x outs : List ℕ) (after : Map) (edge : ClockEdge b m x outs after)
+        → (k : ℕ) (f : Field) → slice_get b.fields k ≡ Some f → is_asserted b (pins_of b x) f.reset_by ≡ false
+        → is_accessed b (now b (pins_of b x) m).access k ≡ false → is_storage f.class ≡ true
+        → after (Val k) ≡ hardware (now b (pins_of b x) m) edge.items k f (m (Val k)) }
 {}
 
-/// At an edge without an access a field that hardware leaves alone, and whose reset isn't asserted, keeps its value,
-/// and any field whose reset isn't asserted the mark that it was written.
+/// A field that no access, hardware or reset touches at an edge keeps its value, and the mark that it was written.
 pub fn quiet_fields_stay()
     ensures value { (b : Block) (m : Map) (x outs : List ℕ) (after : Map) → ClockEdge b m x outs after
-        → (now b (pins_of b x) m).access ≡ NoAccess → (k : ℕ) (f : Field) → slice_get b.fields k ≡ Some f
-        → is_asserted b (pins_of b x) f.reset_by ≡ false → IsQuiet f → is_storage f.class ≡ true
+        → (k : ℕ) (f : Field) → slice_get b.fields k ≡ Some f → is_asserted b (pins_of b x) f.reset_by ≡ false
+        → is_accessed b (now b (pins_of b x) m).access k ≡ false → is_storage f.class ≡ true → IsQuiet f
         → after (Val k) ≡ m (Val k) }
     ensures mark { (b : Block) (m : Map) (x outs : List ℕ) (after : Map) → ClockEdge b m x outs after
-        → (now b (pins_of b x) m).access ≡ NoAccess → (k : ℕ) (f : Field) → slice_get b.fields k ≡ Some f
-        → is_asserted b (pins_of b x) f.reset_by ≡ false → f.once ≡ true → after (Done k) ≡ m (Done k) }
+        → (k : ℕ) (f : Field) → slice_get b.fields k ≡ Some f → is_asserted b (pins_of b x) f.reset_by ≡ false
+        → is_accessed b (now b (pins_of b x) m).access k ≡ false → f.once ≡ true → after (Done k) ≡ m (Done k) }
 {}
 
 /// A counter counts over whole numbers: it saturates, overflows, underflows and wraps exactly where v + up - down says so.
 pub fn counting_is_whole()
     ensures overflow { (w v up down : ℕ) → (overflows w v up down ≡ 1) ↔ (2 ^ w + down ≤ v + up) }
+    ensures no_overflow { (w v up down : ℕ) → (overflows w v up down ≡ 0) ↔ (v + up < 2 ^ w + down) }
     ensures underflow { (w v up down : ℕ) → (underflows v up down ≡ 1) ↔ (v + up < down) }
+    ensures no_underflow { (w v up down : ℕ) → (underflows v up down ≡ 0) ↔ (down ≤ v + up) }
     ensures high { (w v up down high : ℕ) (low : Option ℕ) → PassesHigh v up down (Some high)
         → counted w v up down (Some high) low ≡ high }
     ensures low { (w v up down : ℕ) (high : Option ℕ) (low : ℕ) → ¬ PassesHigh v up down high
@@ -71,9 +79,12 @@ pub fn counting_is_whole()
         × Counts 4 14 3 3 (Some 10) None 10 0 0 }
 {}
 
-/// From any kept values, over vectors that keep the bus protocol, the machine runs and answers each vector.
+/// From any kept values the machine runs over vectors that keep the bus protocol, and completes each access in time.
 pub fn protocol_runs()
-    ensures { (b : Block) → IsSound b → (m : Map) (vectors : List (List ℕ))
+    ensures runs { (b : Block) → IsSound b → (m : Map) (vectors : List (List ℕ))
         → KeepsProtocol b.waits (map (λ x. bus_of (pins_of b x)) vectors)
         → (outputs : List (List ℕ)) × MachineRun b m vectors outputs × (length outputs ≡ length vectors) }
+    ensures ready { (b : Block) → IsSound b → (m : Map) (vectors outputs : List (List ℕ))
+        → Each (FitsPins (input_pins b)) vectors → KeepsProtocol b.waits (map (λ x. bus_of (pins_of b x)) vectors)
+        → MachineRun b m vectors outputs → AreReady b.waits (map (λ x. bus_of (pins_of b x)) vectors) outputs }
 {}

@@ -1,9 +1,15 @@
 use Rattle.std.proofs.Common.{refl}
-use Rattle.rb_laws.proofs.Wholes.{overflow_where, underflow_where, counts_to_high, counts_to_low, counts_below, counts_modulo, counts_exactly}
+use Rattle.rb_laws.proofs.Wholes.{overflow_where, no_overflow_where, underflow_where, no_underflow_where, counts_to_high, counts_to_low, counts_below, counts_modulo, counts_exactly}
 use Rattle.rb_laws.proofs.laws.counting_is_whole.Goals as goal
 
 pub returns-clause-overflow : goal.returns-clause-overflow
 returns-clause-overflow c = overflow_where
+
+pub returns-clause-no_overflow : goal.returns-clause-no_overflow
+returns-clause-no_overflow c = no_overflow_where
+
+pub returns-clause-no_underflow : goal.returns-clause-no_underflow
+returns-clause-no_underflow c = no_underflow_where
 
 pub returns-clause-underflow : goal.returns-clause-underflow
 returns-clause-underflow c = underflow_where
