@@ -1,4 +1,5 @@
 pub mod Lengths
+pub mod Masks
 pub mod Others
 pub mod Readies
 pub mod Resets

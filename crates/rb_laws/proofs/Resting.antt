@@ -1,13 +1,28 @@
 -- What an edge makes of a field that its access doesn't reach.
-use Rattle.std.proofs.Common.{◌≡◌, ℕ, Bool, true, false, not, ◌&&◌, if◌then◌else◌, Some, is_some, unwrap_or, List, ◌++◌, codes, slice_get, refl, ap, ◌∙◌}
+use Rattle.std.specs.Prelude.{Contains}
+use Rattle.std.proofs.Common.{◌≡◌, ℕ, ◌^◌, ◌<◌, subst, Bool, true, false, not, ◌&&◌, if◌then◌else◌, Some, is_some, unwrap_or, List, ◌++◌, codes, slice_get, refl, ap, ◌∙◌}
 use Rattle.std.specs.Option.{option_map, option_map_or}
+use Rattle.std.proofs.Math.Pow.{pow_pos}
+use Rattle.rb_model.specs.declared.kinds.RefItem.{RefItem}
+use Rattle.rb_model.specs.declared.kinds.Mask.{Mask}
+use Rattle.rb_model.specs.declared.kinds.Mask.TheVariants as mask
 use Rattle.rb_model.specs.declared.block.Block.{Block}
 use Rattle.rb_model.specs.declared.block.Field.{Field}
 use Rattle.rb_model.specs.Effects.{counted, finished, is_gated, is_latching, is_open, latched, loaded, loads, masked, set_or_cleared}
 use Rattle.rb_model.specs.Items.{Now, ItemValues, down, fed, gated, level_value, mask_value, source_value, up}
-use Rattle.rb_model.specs.Kept.{Val, Last, Done, Map, is_storage}
+use Rattle.rb_model.specs.Kept.{Val, Last, Done, Map, Fits, is_storage}
 use Rattle.rb_model.specs.Machine.{changed, counts, hardware, is_asserted, moved, software}
 use Rattle.rb_model.specs.Run.{ClockEdge, kept_next, now, pins_of}
+use Rattle.v_design.specs.Fits.{FitsPins}
+use Rattle.rb_model.specs.Ports.{input_pins}
+use Rattle.rb_model.specs.Items.{items}
+use Rattle.rb_model.specs.References.{AreWide, item_width, mask_refs}
+use Rattle.rb_model.specs.SoundField.{FieldIsSoundIn}
+use Rattle.rb_model.specs.Sound.{IsSound}
+use Rattle.rb_model.proofs.Eachs.{Each-left, Each-from_zero}
+use Rattle.rb_model.proofs.ValueWidths.{pins_fit, values_fit, val_fits}
+use Rattle.rb_model.proofs.EdgeWidths.{now_fits}
+use Rattle.rb_laws.proofs.Masks.{mask_rests}
 use Rattle.rb_laws.specs.Quiet.{IsQuiet}
 use Rattle.rb_laws.specs.Words.{is_accessed}
 use Rattle.rb_laws.proofs.Others.{value_stays, mark_stays}
@@ -31,16 +46,15 @@ module _ (f : Field) (quiet : IsQuiet f) where
   unlatched : (x input last : ℕ) → latched f.latch f.width x input last ≡ x
   unlatched x input last = ap (λ l. latched l f.width x input last) quiet.unlatched
 
-  unfinished : (n : Now) (v : ItemValues) (old x bits : ℕ) → finished f old x (fed n v f.set (codes "hwset$" ++ f.path)) (fed n v f.clear (codes "hwclr$" ++ f.path)) bits ≡ x
+  unfinished : (n : Now) (v : ItemValues) (old x bits : ℕ) → finished f old x (fed n v f.set (codes "hwset$" ++ f.path)) (fed n v f.clear (codes "hwclr$" ++ f.path)) bits ≡ masked f.keep f.width old x bits
   unfinished n v old x bits =
       let set = fed n v f.set (codes "hwset$" ++ f.path) in
-      let clear = fed n v f.clear (codes "hwclr$" ++ f.path) in
-      ap (λ m. masked m f.width old (set_or_cleared f.width x set clear) bits) quiet.unmasked
-      ∙ (ap (λ q. set_or_cleared f.width x set (fed n v q (codes "hwclr$" ++ f.path))) quiet.uncleared
-      ∙ ap (λ q. set_or_cleared f.width x (fed n v q (codes "hwset$" ++ f.path)) 0) quiet.unset)
+      ap (λ q. masked f.keep f.width old (set_or_cleared f.width x set (fed n v q (codes "hwclr$" ++ f.path))) bits) quiet.uncleared
+      ∙ ap (λ q. masked f.keep f.width old (set_or_cleared f.width x (fed n v q (codes "hwset$" ++ f.path)) 0) bits) quiet.unset
 
-  pub hardware_rests : (n : Now) (v : ItemValues) (k x : ℕ) → hardware n v k f x ≡ x
-  hardware_rests n v k x =
+  -- only the mask is left
+  hardware_masks : (n : Now) (v : ItemValues) (k x : ℕ) → hardware n v k f x ≡ masked f.keep f.width x x (mask_value v f.keep)
+  hardware_masks n v k x =
       let from = source_value n v f in
       let gate = gated n v f.gate (codes "we$") (codes "wel$") f.path in
       let last = n.kept (Last k) in
@@ -96,8 +110,11 @@ module _ (b : Block) (m : Map) (x outs : List ℕ) (after : Map) (edge : ClockEd
       ∙ (hardware_alone b n edge.items k f (n.kept (Val k)) apart
       ∙ ap (hardware n edge.items k f) value_held))
 
-  pub value_rests : is_storage f.class ≡ true → IsQuiet f → after (Val k) ≡ m (Val k)
-  value_rests e quiet = hardware_moves e ∙ hardware_rests f quiet n edge.items k (m (Val k))
+  pub value_rests : is_storage f.class ≡ true → IsQuiet f → f.keep ≡ mask.Off → after (Val k) ≡ m (Val k)
+  value_rests e quiet unmasked =
+      hardware_moves e
+      ∙ (hardware_masks f quiet n edge.items k (m (Val k))
+      ∙ ap (λ q. masked q f.width (m (Val k)) (m (Val k)) (mask_value edge.items f.keep)) unmasked)
 
   pub mark_rests : f.once ≡ true → after (Done k) ≡ m (Done k)
   mark_rests once =
@@ -105,3 +122,26 @@ module _ (b : Block) (m : Map) (x outs : List ℕ) (after : Map) (edge : ClockEd
       ∙ (ap (λ c. if c then kept_next b n edge.items (Done k) else 0) (at_field b k f here false (λ g. g.once) ∙ once)
       ∙ (mark_next
       ∙ mark_held))
+
+-- in a sound block the bits of a mask are as wide as its field
+module _ (b : Block) (sound : IsSound b) (m : Map) (fits : Fits b m) (x : List ℕ) (pins : FitsPins (input_pins b) x) (outs : List ℕ) (after : Map) (edge : ClockEdge b m x outs after)
+    (k : ℕ) (f : Field) (here : slice_get b.fields k ≡ Some f) (asserted : is_asserted b (pins_of b x) f.reset_by ≡ false) (apart : is_accessed b (now b (pins_of b x) m).access k ≡ false) where
+  abbrev IsWide : ℕ → RefItem → Type 0
+  IsWide w i = Contains (items b) i × (item_width b i ≡ w)
+
+  item_fits : (i : RefItem) → IsWide f.width i → edge.items i < 2 ^ f.width
+  item_fits i a = subst (λ w. edge.items i < 2 ^ w) a.1 (values_fit b sound (now b (pins_of b x) m) (now_fits b sound (pins_of b x) m fits) (pins_fit b sound x pins) edge.items edge.valued i a.0)
+
+  mask_fits : (q : Mask) → AreWide b f.width (mask_refs q) → mask_value edge.items q < 2 ^ f.width
+  mask_fits mask.Off a = pow_pos f.width
+  mask_fits (mask.Enable i) a = item_fits i a.0
+  mask_fits (mask.Mask i) a = item_fits i a.0
+
+  pub masked_rests : is_storage f.class ≡ true → IsQuiet f → after (Val k) ≡ m (Val k)
+  masked_rests e quiet =
+      let s : FieldIsSoundIn b (k, f) = Each-from_zero (FieldIsSoundIn b) b.fields k f sound.fields here in
+      let both : AreWide b f.width (mask_refs f.keep ++ mask_refs f.enable) = Each-left (IsWide f.width) (mask_refs f.keep ++ mask_refs f.enable) (mask_refs f.halt) s.refers.masks in
+      let wide : AreWide b f.width (mask_refs f.keep) = Each-left (IsWide f.width) (mask_refs f.keep) (mask_refs f.enable) both in
+      hardware_moves b m x outs after edge k f here asserted apart e
+      ∙ (hardware_masks f quiet (now b (pins_of b x) m) edge.items k (m (Val k))
+      ∙ mask_rests f.width (m (Val k)) (mask_value edge.items f.keep) (val_fits b m fits k f here e) f.keep (mask_fits f.keep wide))

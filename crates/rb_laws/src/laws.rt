@@ -2,21 +2,22 @@
 
 ghost use Rattle.std.specs.Prelude.{◌≡◌, ◌↔◌, ℕ, ◌+◌, ◌-◌, ◌^◌, ◌%◌, ◌<◌, ◌≤◌, true, false, Option, Some, None, List, length, map, slice_get};
 ghost use Rattle.v_design.specs.Fits.{FitsPins};
+ghost use Rattle.rb_model.specs.declared.kinds.Mask.TheVariants as mask;
 ghost use Rattle.rb_model.specs.declared.block.Block.{Block};
 ghost use Rattle.rb_model.specs.declared.block.Field.{Field};
-ghost use Rattle.rb_model.specs.Kept.{Val, Last, Done, Map, is_storage};
+ghost use Rattle.rb_model.specs.Kept.{Val, Last, Done, Map, Fits, is_storage};
+ghost use Rattle.rb_model.specs.Ports.{input_pins};
+ghost use Rattle.rb_model.specs.References.{Each};
 ghost use Rattle.rb_model.specs.Effects.{counted, overflows, underflows};
 ghost use Rattle.rb_model.specs.Items.{Access, Now, ItemValues};
 ghost use Rattle.rb_model.specs.Machine.{hardware, is_asserted, software, uses_up};
 ghost use Rattle.rb_model.specs.Protocol.{KeepsProtocol, bus_of};
-ghost use Rattle.rb_model.specs.Ports.{input_pins};
-ghost use Rattle.rb_model.specs.References.{Each};
 ghost use Rattle.rb_model.specs.Run.{ClockEdge, MachineRun, now, pins_of};
 ghost use Rattle.rb_model.specs.Sound.{IsSound};
+ghost use Rattle.rb_laws.specs.Counting.{Counts, PassesHigh, PassesLow};
+ghost use Rattle.rb_laws.specs.Quiet.{IsQuiet};
 ghost use Rattle.rb_laws.specs.Ready.{AreReady};
 ghost use Rattle.rb_laws.specs.Words.{is_accessed};
-ghost use Rattle.rb_laws.specs.Quiet.{IsQuiet};
-ghost use Rattle.rb_laws.specs.Counting.{Counts, PassesHigh, PassesLow};
 
 /// A field whose reset is asserted takes its reset value at the edge, and forgets its last input and that it was written.
 pub fn reset_wins()
@@ -46,6 +47,11 @@ pub fn other_words_stay()
 /// A field that no access, hardware or reset touches at an edge keeps its value, and the mark that it was written.
 pub fn quiet_fields_stay()
     ensures value { (b : Block) (m : Map) (x outs : List ℕ) (after : Map) → ClockEdge b m x outs after
+        → (k : ℕ) (f : Field) → slice_get b.fields k ≡ Some f → is_asserted b (pins_of b x) f.reset_by ≡ false
+        → is_accessed b (now b (pins_of b x) m).access k ≡ false → is_storage f.class ≡ true → IsQuiet f
+        → f.keep ≡ mask.Off → after (Val k) ≡ m (Val k) }
+    ensures masked { (b : Block) → IsSound b → (m : Map) → Fits b m → (x : List ℕ) → FitsPins (input_pins b) x
+        → (outs : List ℕ) (after : Map) → ClockEdge b m x outs after
         → (k : ℕ) (f : Field) → slice_get b.fields k ≡ Some f → is_asserted b (pins_of b x) f.reset_by ≡ false
         → is_accessed b (now b (pins_of b x) m).access k ≡ false → is_storage f.class ≡ true → IsQuiet f
         → after (Val k) ≡ m (Val k) }
@@ -79,7 +85,7 @@ pub fn counting_is_whole()
         × Counts 4 14 3 3 (Some 10) None 10 0 0 }
 {}
 
-/// From any kept values the machine runs over vectors that keep the bus protocol, and completes each access in time.
+/// Over vectors that keep the bus protocol the machine runs, from any kept values, and PREADY ends each access in time.
 pub fn protocol_runs()
     ensures runs { (b : Block) → IsSound b → (m : Map) (vectors : List (List ℕ))
         → KeepsProtocol b.waits (map (λ x. bus_of (pins_of b x)) vectors)
