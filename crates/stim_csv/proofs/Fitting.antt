@@ -90,7 +90,7 @@ module _ (pins : List Pin) (apart : AllPairs (λ p q. p.name ≢ q.name) pins) (
       let named : get_or header column [] ≡ pin.name = subst (λ k. get_or header k [] ≡ pin.name) place (same_bytes (get_or header n []) pin.name passes) in
       let full : length cells ≡ length header = full_row (map (width_of pins) header) row cells sound ∙ long header in
       let width : get_or (map (width_of pins) header) column 0 ≡ pin.width =
-          get_or-mapped (width_of pins) header column [] 0 (omega (arith, low, place)) ∙ (ap (width_of pins) named ∙ width_own pins i l (λ j below. apart j i no_pin below l)) in
+      get_or-mapped (width_of pins) header column [] 0 (omega (arith, low, place)) ∙ (ap (width_of pins) named ∙ width_own pins i l (λ j below. apart j i no_pin below l)) in
       let cell = none_each (cell_problem (map (width_of pins) header) row) 0 cells [] (each_cell (map (width_of pins) header) row cells sound) column (omega (arith, low, place, full)) in
       let same : 0 + column ≡ column = omega arith in
       let fit = subst (λ k. number_of (get_or cells column []) < 2 ^ get_or (map (width_of pins) header) k 0) same (number_fits (get_or (map (width_of pins) header) (0 + column) 0) row (0 + column) (get_or cells column []) cell) in
