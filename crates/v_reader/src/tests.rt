@@ -80,3 +80,16 @@ fn near_misses_are_modules(rt: HostRuntime) -> Result<(), Fail> {
     }
     Ok(())
 }
+
+// As the printer writes it.
+const ADDER: &str =
+    "module adder (\n  input a,\n  input b,\n  output s\n);\n  wire n$2;\n  assign n$2 = a + b;\n  assign s = n$2;\nendmodule\n";
+
+#[test]
+fn a_printed_adder_is_read_back(rt: HostRuntime) -> Result<(), Fail> {
+    let design = read(rt.alloc(), ADDER.as_bytes())?;
+    assert_eq!(rt; design.inputs().len(), 2);
+    assert_eq!(rt; design.outputs().len(), 1);
+    assert_eq!(rt; design.registers().len(), 0);
+    Ok(())
+}
