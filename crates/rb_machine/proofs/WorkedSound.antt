@@ -1,14 +1,18 @@
 -- The blocks of the worked runs are sound.
-use Rattle.std.proofs.Common.{◌≡◌, inr, ℕ, zero, suc, ◌≤◌, Bool, false, not, Some, [], ◌∷◌, unwrap_or, refl, ap, subst, arith}
+use Rattle.std.proofs.Common.{◌≡◌, inr, ℕ, zero, suc, ◌<◌, ◌≤◌, ◌^◌, Bool, false, not, Some, List, [], ◌∷◌, length, unwrap_or, refl, ap, subst, arith}
 use Rattle.std.proofs.lemmas.List.Sorted.{IsPermutation-refl}
 use Rattle.rb_model.specs.declared.kinds.RefItem.{RefItem}
 use Rattle.rb_model.specs.declared.kinds.RefItem.TheVariants as item
 use Rattle.rb_model.specs.References.{IsOrdered, StandsBefore, Each, refs}
-use Rattle.rb_model.specs.Sound.{IsSound, WordIsSound}
+use Rattle.rb_model.specs.Sound.{IsSound, SlotIsSound, WordIsSound}
+use Rattle.rb_model.proofs.Eachs.{Each-from_zero}
+use Rattle.rb_model.specs.declared.block.Block.{Block}
+use Rattle.rb_model.specs.declared.block.Slot.{Slot}
+use Rattle.std.specs.List.{enumerate_from}
 use Rattle.std.specs.List.Sorted.{IsStrictlyIncreasing}
 use Rattle.rb_base.specs.declared.edge.Edge.{Edge}
-use Rattle.rb_model.specs.SoundField.{is_nonsticky}
-use Rattle.rb_machine.specs.Worked.{event_block, event_word, one_block, one_word}
+use Rattle.rb_model.specs.SoundField.{FieldIsSound, RefersWell, is_nonsticky}
+use Rattle.rb_machine.specs.Worked.{event_block, event_word, one_block, one_word, plain_field, plain_word, shared_block, whole_slot}
 
 module _ (w : ℕ) where
   at : (k : ℕ) (j i : RefItem) → Each (StandsBefore (one_block w).order k) (refs (one_block w) j) → Some j ≡ Some i → Each (StandsBefore (one_block w).order k) (refs (one_block w) i)
@@ -131,3 +135,90 @@ module _ (edge : Edge) (hw : Bool) where
     all_items = IsPermutation-refl _;
     ordered = event_ordered;
   }
+
+-- an order, from what each item in it refers to
+ordered_all : (b : Block) → Each (λ p. Each (StandsBefore b.order p.0) (refs b p.1)) (enumerate_from 0 b.order) → IsOrdered b b.order
+ordered_all b h k i e = Each-from_zero (λ p. Each (StandsBefore b.order p.0) (refs b p.1)) b.order k i h e
+
+plain_alone : (path : List ℕ) (reg width : ℕ) → 0 < width → width ≤ 64 → 0 < 2 ^ width → FieldIsSound (plain_field path reg width)
+plain_alone path reg width some few fits = record { wide = (some, few); reset = fits; count = tt; one_kind = refl; written_by = λ h. h; pulse_alone = λ h. refl; gate_fed = refl; source_fed = λ h. h; latch_edge = refl; bus_reset = refl; shown_in_order = λ k below. absurd (omega arith); shown_counts = refl }
+
+plain_refers : (b : Block) (path : List ℕ) (reg width : ℕ) → RefersWell b (plain_field path reg width)
+plain_refers b path reg width = record { source = tt; masks = tt; bits = tt; pulses = tt; amounts = tt; levels = tt }
+
+-- a word of one slot
+word_of_one : (b : Block) (address reg : ℕ) (s : Slot) → reg < length b.regs → SlotIsSound b (plain_word address reg (s ∷ [])) s → WordIsSound b (plain_word address reg (s ∷ []))
+word_of_one b address reg s in_register h = record { wide = inr (inr refl); in_register = in_register; slots = (h, tt); together = λ i j d lt below. absurd (omega arith) }
+
+shared_read : WordIsSound shared_block (plain_word 0 0 (whole_slot 0 ∷ []))
+shared_read = word_of_one shared_block 0 0 (whole_slot 0) (omega arith) (record { view = _; field = _; of_view = refl; of_field = refl; some_bit = omega arith; in_word = omega arith; in_field = omega arith; whole = λ h. (refl, refl) })
+
+shared_write : WordIsSound shared_block (plain_word 0 1 (whole_slot 1 ∷ []))
+shared_write = word_of_one shared_block 0 1 (whole_slot 1) (omega arith) (record { view = _; field = _; of_view = refl; of_field = refl; some_bit = omega arith; in_word = omega arith; in_field = omega arith; whole = λ h. (refl, refl) })
+
+shared_ordered : IsOrdered shared_block shared_block.order
+shared_ordered = ordered_all shared_block (
+  tt,
+  (
+    ((0, omega arith, refl), tt),
+    (
+      ((0, omega arith, refl), tt),
+      (
+        ((0, omega arith, refl), tt),
+        (
+          tt,
+          (
+            tt,
+            (tt, (((6, omega arith, refl), tt), (((6, omega arith, refl), tt), (((6, omega arith, refl), tt), (tt, (tt, tt)))))),
+          ),
+        ),
+      ),
+    ),
+  ),
+)
+
+pub shared_sound : IsSound shared_block
+shared_sound = record {
+  named = refl;
+  signals = tt;
+  fields = (
+    record {
+      alone = record { wide = (omega arith, omega arith); reset = tt; count = tt; one_kind = refl; written_by = λ h. refl; pulse_alone = λ h. cc h; gate_fed = refl; source_fed = λ h. refl; latch_edge = refl; bus_reset = refl; shown_in_order = λ k below. absurd (omega arith); shown_counts = refl };
+      refers = record { source = tt; masks = tt; bits = tt; pulses = tt; amounts = tt; levels = tt };
+      in_register = (_, refl, refl);
+      reset_signal = tt;
+      one_view = refl;
+      class = refl;
+      once = refl;
+    },
+    (
+      record {
+        alone = plain_alone _ 1 32 (omega arith) (omega arith) (omega arith);
+        refers = plain_refers shared_block _ 1 32;
+        in_register = (_, refl, refl);
+        reset_signal = tt;
+        one_view = refl;
+        class = refl;
+        once = refl;
+      },
+      tt,
+    ),
+  );
+  views = (
+    record { of = (_, refl, λ h. refl); gate_fed = refl; gate_bit = tt; read_in_one_slot = λ h. omega arith; written_in_one_slot = λ h. omega arith },
+    (record { of = (_, refl, λ h. refl); gate_fed = refl; gate_bit = tt; read_in_one_slot = λ h. omega arith; written_in_one_slot = λ h. omega arith }, tt),
+  );
+  regs = (record { intr = refl; halt = refl }, (record { intr = refl; halt = refl }, tt));
+  reads = (shared_read, tt);
+  writes = (shared_write, tt);
+  some_word = (omega arith, omega arith);
+  by_address = λ k below. absurd (omega arith);
+  same_addresses = refl;
+  signal_paths = refl;
+  field_paths = refl;
+  view_paths = refl;
+  reg_paths = refl;
+  waits = omega arith;
+  all_items = IsPermutation-refl _;
+  ordered = shared_ordered;
+}

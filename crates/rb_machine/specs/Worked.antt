@@ -3,7 +3,7 @@ use Rattle.rb_base.specs.declared.edge.Edge.{Edge}
 use Rattle.rb_model.specs.declared.kinds.OnWrite.{OnWrite}
 use Rattle.std.specs.Prelude.{ℕ, Bool, true, false, Some, None, List, [], ◌∷◌, codes}
 use Rattle.rb_model.specs.declared.kinds.RefItem.TheVariants as item
-use Rattle.rb_model.specs.declared.kinds.Class.TheVariants.{Storage}
+use Rattle.rb_model.specs.declared.kinds.Class.TheVariants.{Storage, Wire}
 use Rattle.rb_model.specs.declared.kinds.Feed.TheVariants as feed
 use Rattle.rb_model.specs.declared.kinds.Gate.TheVariants as gate
 use Rattle.rb_model.specs.declared.kinds.Latch.TheVariants as latch
@@ -12,6 +12,8 @@ use Rattle.rb_model.specs.declared.kinds.OnRead.TheVariants as on_read
 use Rattle.rb_model.specs.declared.kinds.OnWrite.TheVariants as on_write
 use Rattle.rb_model.specs.declared.block.Block.{Block}
 use Rattle.rb_model.specs.declared.block.Field.{Field}
+use Rattle.rb_model.specs.declared.block.Reg.{Reg}
+use Rattle.rb_model.specs.declared.block.Slot.{Slot}
 use Rattle.rb_model.specs.declared.block.View.{View}
 use Rattle.rb_model.specs.declared.block.Word.{Word}
 
@@ -105,5 +107,87 @@ event_block e hw = record {
   writes = event_word 0 0 ∷ event_word 4 1 ∷ [];
   regs = record { path = codes "a"; alias = false; intr = true; halt = false } ∷ record { path = codes "s"; alias = true; intr = false; halt = false } ∷ [];
   order = item.Field 0 ∷ item.Anded 0 ∷ item.Ored 0 ∷ item.Xored 0 ∷ item.SwMod 0 ∷ item.SwAcc 0 ∷ item.Intr 0 ∷ [];
+  waits = 0;
+}
+
+-- a field that software writes and hardware reads, reset to 0
+abbrev pub plain_field : (path : List ℕ) → (reg width : ℕ) → Field
+plain_field path reg width = record {
+  path = path;
+  reg = reg;
+  width = width;
+  reset = Some 0;
+  reset_by = record { signal = None; low = true; sync = false };
+  class = Storage;
+  hw_writes = false;
+  hw_reads = true;
+  hw_first = false;
+  source = feed.Off;
+  gate = gate.Always;
+  count = None;
+  latch = latch.Off;
+  set = feed.Off;
+  clear = feed.Off;
+  keep = mask.Off;
+  pulse = false;
+  once = false;
+  enable = mask.Off;
+  halt = mask.Off;
+  shown = [];
+}
+
+-- a view of a field in its own register
+abbrev pub plain_view : (path : List ℕ) → ℕ → (reads writes : Bool) → View
+plain_view path field reads writes = record { path = path; field = field; alias = false; reads = reads; writes = writes; once = false; on_write = on_write.Off; on_read = on_read.Off; gate = gate.Always }
+
+-- a word of 32 bits
+abbrev pub plain_word : (address reg : ℕ) → List Slot → Word
+plain_word address reg slots = record { address = address; width = 32; reg = reg; number = 0; slots = slots }
+
+-- a register without an interrupt
+abbrev pub plain_reg : (path : List ℕ) → Reg
+plain_reg path = record { path = path; alias = false; intr = false; halt = false }
+
+-- a field of 32 bits whose value is its pin
+abbrev pub status_field : Field
+status_field = record {
+  path = codes "a$st";
+  reg = 0;
+  width = 32;
+  reset = None;
+  reset_by = record { signal = None; low = true; sync = false };
+  class = Wire;
+  hw_writes = true;
+  hw_reads = false;
+  hw_first = false;
+  source = feed.Pin;
+  gate = gate.Always;
+  count = None;
+  latch = latch.Off;
+  set = feed.Off;
+  clear = feed.Off;
+  keep = mask.Off;
+  pulse = false;
+  once = false;
+  enable = mask.Off;
+  halt = mask.Off;
+  shown = [];
+}
+
+-- a slot of 32 bits
+abbrev pub whole_slot : ℕ → Slot
+whole_slot view = record { view = view; low = 0; from = 0; bits = 32 }
+
+-- a register that is read and one that is written, at one address
+abbrev pub shared_block : Block
+shared_block = record {
+  name = codes "t";
+  signals = [];
+  fields = status_field ∷ plain_field (codes "b$cmd") 1 32 ∷ [];
+  views = plain_view (codes "a$st") 0 true false ∷ plain_view (codes "b$cmd") 1 false true ∷ [];
+  reads = plain_word 0 0 (whole_slot 0 ∷ []) ∷ [];
+  writes = plain_word 0 1 (whole_slot 1 ∷ []) ∷ [];
+  regs = plain_reg (codes "a") ∷ plain_reg (codes "b") ∷ [];
+  order = item.Field 0 ∷ item.Anded 0 ∷ item.Ored 0 ∷ item.Xored 0 ∷ item.SwMod 0 ∷ item.SwAcc 0 ∷ item.Field 1 ∷ item.Anded 1 ∷ item.Ored 1 ∷ item.Xored 1 ∷ item.SwMod 1 ∷ item.SwAcc 1 ∷ [];
   waits = 0;
 }

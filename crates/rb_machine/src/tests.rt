@@ -12,6 +12,9 @@ use rb_model::{
 use std::alloc::Global;
 use std::test::Fail;
 
+mod plain;
+mod shared;
+
 fn text(alloc: Global, name: &[u8]) -> Result<Text, NoMemory>
     ensures { IfOk result (λ t. t ≡ name.now) }
 {
