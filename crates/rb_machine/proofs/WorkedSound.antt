@@ -4,15 +4,16 @@ use Rattle.std.proofs.lemmas.List.Sorted.{IsPermutation-refl}
 use Rattle.rb_model.specs.declared.kinds.RefItem.{RefItem}
 use Rattle.rb_model.specs.declared.kinds.RefItem.TheVariants as item
 use Rattle.rb_model.specs.References.{IsOrdered, StandsBefore, Each, refs}
-use Rattle.rb_model.specs.Sound.{IsSound, SlotIsSound, WordIsSound}
+use Rattle.rb_model.specs.Sound.{IsSound, SlotIsSound, StandTogether, WordIsSound}
 use Rattle.rb_model.proofs.Eachs.{Each-from_zero}
 use Rattle.rb_model.specs.declared.block.Block.{Block}
 use Rattle.rb_model.specs.declared.block.Slot.{Slot}
 use Rattle.std.specs.List.{enumerate_from}
+use Rattle.std.specs.Prelude.{AllPairs}
 use Rattle.std.specs.List.Sorted.{IsStrictlyIncreasing}
 use Rattle.rb_base.specs.declared.edge.Edge.{Edge}
 use Rattle.rb_model.specs.SoundField.{FieldIsSound, RefersWell, is_nonsticky}
-use Rattle.rb_machine.specs.Worked.{event_block, event_word, one_block, one_word, plain_field, plain_word, shared_block, whole_slot}
+use Rattle.rb_machine.specs.Worked.{event_block, event_word, one_block, one_word, lock_block, lock_word, plain_field, plain_word, shared_block, whole_slot}
 
 module _ (w : ℕ) where
   at : (k : ℕ) (j i : RefItem) → Each (StandsBefore (one_block w).order k) (refs (one_block w) j) → Some j ≡ Some i → Each (StandsBefore (one_block w).order k) (refs (one_block w) i)
@@ -221,4 +222,90 @@ shared_sound = record {
   waits = omega arith;
   all_items = IsPermutation-refl _;
   ordered = shared_ordered;
+}
+
+two_apart : {X : Type 0} (R : X → X → Type 0) (x y : X) → R x y → AllPairs R (x ∷ y ∷ [])
+two_apart R x y h zero zero d lt below = absurd (omega (arith, lt))
+two_apart R x y h zero (suc zero) d lt below = h
+two_apart R x y h zero (suc (suc j)) d lt below = absurd (omega (arith, below))
+two_apart R x y h (suc i) zero d lt below = absurd (omega (arith, lt))
+two_apart R x y h (suc i) (suc zero) d lt below = absurd (omega (arith, lt))
+two_apart R x y h (suc i) (suc (suc j)) d lt below = absurd (omega (arith, below))
+
+lock_word_sound : WordIsSound lock_block lock_word
+lock_word_sound = record {
+  wide = inr (inr refl);
+  in_register = omega arith;
+  slots = (
+    record { view = _; field = _; of_view = refl; of_field = refl; some_bit = omega arith; in_word = omega arith; in_field = omega arith; whole = λ h. (refl, refl) },
+    (record { view = _; field = _; of_view = refl; of_field = refl; some_bit = omega arith; in_word = omega arith; in_field = omega arith; whole = λ h. (refl, refl) }, tt),
+  );
+  together = two_apart (StandTogether lock_block) _ _ (record { one_view = λ h. h; one_reads = λ h. cc h; one_writes = λ h. cc h });
+}
+
+lock_ordered : IsOrdered lock_block lock_block.order
+lock_ordered = ordered_all lock_block (
+  tt,
+  (
+    ((0, omega arith, refl), tt),
+    (
+      ((0, omega arith, refl), tt),
+      (
+        ((0, omega arith, refl), tt),
+        (
+          tt,
+          (
+            tt,
+            (tt, (((6, omega arith, refl), tt), (((6, omega arith, refl), tt), (((6, omega arith, refl), tt), (tt, (tt, tt)))))),
+          ),
+        ),
+      ),
+    ),
+  ),
+)
+
+pub lock_sound : IsSound lock_block
+lock_sound = record {
+  named = refl;
+  signals = tt;
+  fields = (
+    record {
+      alone = plain_alone _ 0 1 (omega arith) (omega arith) (omega arith);
+      refers = plain_refers lock_block _ 0 1;
+      in_register = (_, refl, refl);
+      reset_signal = tt;
+      one_view = refl;
+      class = refl;
+      once = refl;
+    },
+    (
+      record {
+        alone = plain_alone _ 0 8 (omega arith) (omega arith) (omega arith);
+        refers = plain_refers lock_block _ 0 8;
+        in_register = (_, refl, refl);
+        reset_signal = tt;
+        one_view = refl;
+        class = refl;
+        once = refl;
+      },
+      tt,
+    ),
+  );
+  views = (
+    record { of = (_, refl, λ h. refl); gate_fed = refl; gate_bit = tt; read_in_one_slot = λ h. omega arith; written_in_one_slot = λ h. omega arith },
+    (record { of = (_, refl, λ h. refl); gate_fed = refl; gate_bit = (((0, omega arith, refl), refl), tt); read_in_one_slot = λ h. omega arith; written_in_one_slot = λ h. omega arith }, tt),
+  );
+  regs = (record { intr = refl; halt = refl }, tt);
+  reads = (lock_word_sound, tt);
+  writes = (lock_word_sound, tt);
+  some_word = (omega arith, omega arith);
+  by_address = λ k below. absurd (omega arith);
+  same_addresses = refl;
+  signal_paths = refl;
+  field_paths = refl;
+  view_paths = refl;
+  reg_paths = refl;
+  waits = omega arith;
+  all_items = IsPermutation-refl _;
+  ordered = lock_ordered;
 }

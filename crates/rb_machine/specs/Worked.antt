@@ -191,3 +191,25 @@ shared_block = record {
   order = item.Field 0 ∷ item.Anded 0 ∷ item.Ored 0 ∷ item.Xored 0 ∷ item.SwMod 0 ∷ item.SwAcc 0 ∷ item.Field 1 ∷ item.Anded 1 ∷ item.Ored 1 ∷ item.Xored 1 ∷ item.SwMod 1 ∷ item.SwAcc 1 ∷ [];
   waits = 0;
 }
+
+-- a view that writes while the first field is 0
+abbrev pub locked_view : View
+locked_view = record { path = codes "a$d"; field = 1; alias = false; reads = true; writes = true; once = false; on_write = on_write.Off; on_read = on_read.Off; gate = gate.Low (feed.Item (item.Field 0)) }
+
+-- the lock at bit 0 and what it locks at bits 8 to 1
+abbrev pub lock_word : Word
+lock_word = plain_word 0 0 (record { view = 0; low = 0; from = 0; bits = 1 } ∷ record { view = 1; low = 1; from = 0; bits = 8 } ∷ [])
+
+-- a register of a lock and of a field that it locks
+abbrev pub lock_block : Block
+lock_block = record {
+  name = codes "t";
+  signals = [];
+  fields = plain_field (codes "a$lock") 0 1 ∷ plain_field (codes "a$d") 0 8 ∷ [];
+  views = plain_view (codes "a$lock") 0 true true ∷ locked_view ∷ [];
+  reads = lock_word ∷ [];
+  writes = lock_word ∷ [];
+  regs = plain_reg (codes "a") ∷ [];
+  order = item.Field 0 ∷ item.Anded 0 ∷ item.Ored 0 ∷ item.Xored 0 ∷ item.SwMod 0 ∷ item.SwAcc 0 ∷ item.Field 1 ∷ item.Anded 1 ∷ item.Ored 1 ∷ item.Xored 1 ∷ item.SwMod 1 ∷ item.SwAcc 1 ∷ [];
+  waits = 0;
+}

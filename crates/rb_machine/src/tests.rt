@@ -12,6 +12,7 @@ use rb_model::{
 use std::alloc::Global;
 use std::test::Fail;
 
+mod lock;
 mod plain;
 mod shared;
 

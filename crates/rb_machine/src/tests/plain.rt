@@ -1,12 +1,12 @@
 //! What the blocks of several worked runs are made of.
 ghost use Rattle.std.specs.Prelude.{◌≡◌, IfOk};
-ghost use Rattle.rb_machine.specs.Worked.{plain_field, plain_reg, plain_view, plain_word};
+ghost use Rattle.rb_machine.specs.Worked.{plain_field, plain_reg, plain_view, plain_word, shared_block};
 
 use super::text;
 use rb_base::NoMemory;
 use rb_model::{
-    Class, Feed, Field, Gate, Latch, Mask, OnRead, OnWrite, Reg, ResetBy, Shows, Slot, Slots, View,
-    Word,
+    Class, Feed, Field, Gate, Latch, Mask, OnRead, OnWrite, Order, RefItem, Reg, ResetBy, Shows,
+    Slot, Slots, View, Word,
 };
 use std::alloc::Global;
 
@@ -92,5 +92,30 @@ pub fn plain_reg(alloc: Global, path: &[u8]) -> Result<Reg, NoMemory>
         alias: false,
         intr: false,
         halt: false,
+    })
+}
+
+/// The order of the items of two fields.
+pub fn two_fields(alloc: Global) -> Result<Order, NoMemory>
+    ensures { IfOk result (λ is. is ≡ shared_block.order) }
+{
+    Ok(Order {
+        items: Vec::from_array(
+            alloc,
+            [
+                RefItem::Field(0),
+                RefItem::Anded(0),
+                RefItem::Ored(0),
+                RefItem::Xored(0),
+                RefItem::SwMod(0),
+                RefItem::SwAcc(0),
+                RefItem::Field(1),
+                RefItem::Anded(1),
+                RefItem::Ored(1),
+                RefItem::Xored(1),
+                RefItem::SwMod(1),
+                RefItem::SwAcc(1),
+            ],
+        )?,
     })
 }

@@ -3,13 +3,13 @@ ghost use Rattle.std.specs.Prelude.{◌≡◌, ◌∷◌, [], IfOk};
 ghost use Rattle.rb_machine.specs.Machines.{IsReady};
 ghost use Rattle.rb_machine.specs.Worked.{plain_word, shared_block, status_field, whole_slot};
 
-use super::plain::{plain_field, plain_reg, plain_view, plain_word};
+use super::plain::{plain_field, plain_reg, plain_view, plain_word, two_fields};
 use super::{Bus, bit, text};
 use crate::Machine;
 use rb_base::NoMemory;
 use rb_model::{
-    Block, Class, Feed, Field, Fields, Gate, Latch, Mask, Order, RefItem, Regs, ResetBy, Shows,
-    Signals, Slot, Views, Words,
+    Block, Class, Feed, Field, Fields, Gate, Latch, Mask, Regs, ResetBy, Shows, Signals, Slot,
+    Views, Words,
 };
 use std::alloc::Global;
 use std::test::Fail;
@@ -65,31 +65,6 @@ fn word_of(alloc: Global, number: u32) -> Result<Words, NoMemory>
     })
 }
 
-/// The order of the items of two fields.
-fn order(alloc: Global) -> Result<Order, NoMemory>
-    ensures { IfOk result (λ is. is ≡ shared_block.order) }
-{
-    Ok(Order {
-        items: Vec::from_array(
-            alloc,
-            [
-                RefItem::Field(0),
-                RefItem::Anded(0),
-                RefItem::Ored(0),
-                RefItem::Xored(0),
-                RefItem::SwMod(0),
-                RefItem::SwAcc(0),
-                RefItem::Field(1),
-                RefItem::Anded(1),
-                RefItem::Ored(1),
-                RefItem::Xored(1),
-                RefItem::SwMod(1),
-                RefItem::SwAcc(1),
-            ],
-        )?,
-    })
-}
-
 /// The block of both registers.
 fn shared(alloc: Global) -> Result<Block, NoMemory>
     ensures { IfOk result (λ b. b ≡ shared_block) }
@@ -116,7 +91,7 @@ fn shared(alloc: Global) -> Result<Block, NoMemory>
         regs: Regs {
             items: Vec::from_array(alloc, [first, second])?,
         },
-        order: order(alloc)?,
+        order: two_fields(alloc)?,
         waits: 0,
     })
 }
