@@ -13,7 +13,7 @@ use Rattle.std.specs.Prelude.{AllPairs}
 use Rattle.std.specs.List.Sorted.{IsStrictlyIncreasing}
 use Rattle.rb_base.specs.declared.edge.Edge.{Edge}
 use Rattle.rb_model.specs.SoundField.{FieldIsSound, RefersWell, is_nonsticky}
-use Rattle.rb_machine.specs.Worked.{event_block, event_word, one_block, one_word, lock_block, lock_word, plain_field, plain_word, shared_block, whole_slot}
+use Rattle.rb_machine.specs.Worked.{event_block, event_word, loaded_block, loaded_word, lock_block, lock_word, one_block, one_word, plain_field, plain_word, shared_block, whole_slot}
 
 module _ (w : ℕ) where
   at : (k : ℕ) (j i : RefItem) → Each (StandsBefore (one_block w).order k) (refs (one_block w) j) → Some j ≡ Some i → Each (StandsBefore (one_block w).order k) (refs (one_block w) i)
@@ -309,3 +309,42 @@ lock_sound = record {
   all_items = IsPermutation-refl _;
   ordered = lock_ordered;
 }
+
+module _ (hw : Bool) where
+  loaded_word_sound : WordIsSound (loaded_block hw) loaded_word
+  loaded_word_sound = word_of_one (loaded_block hw) 0 0 _ (omega arith) (record { view = _; field = _; of_view = refl; of_field = refl; some_bit = omega arith; in_word = omega arith; in_field = omega arith; whole = λ h. (refl, refl) })
+
+  loaded_ordered : IsOrdered (loaded_block hw) (loaded_block hw).order
+  loaded_ordered = ordered_all (loaded_block hw) (tt, (((0, omega arith, refl), tt), (((0, omega arith, refl), tt), (((0, omega arith, refl), tt), (tt, (tt, tt))))))
+
+  pub loaded_sound : IsSound (loaded_block hw)
+  loaded_sound = record {
+    named = refl;
+    signals = tt;
+    fields = (
+      record {
+        alone = record { wide = (omega arith, omega arith); reset = omega arith; count = tt; one_kind = refl; written_by = λ h. refl; pulse_alone = λ h. cc h; gate_fed = refl; source_fed = λ h. refl; latch_edge = refl; bus_reset = refl; shown_in_order = λ k below. absurd (omega arith); shown_counts = refl };
+        refers = record { source = tt; masks = tt; bits = tt; pulses = tt; amounts = tt; levels = tt };
+        in_register = (_, refl, refl);
+        reset_signal = tt;
+        one_view = refl;
+        class = refl;
+        once = refl;
+      },
+      tt,
+    );
+    views = (record { of = (_, refl, λ h. refl); gate_fed = refl; gate_bit = tt; read_in_one_slot = λ h. omega arith; written_in_one_slot = λ h. omega arith }, tt);
+    regs = (record { intr = refl; halt = refl }, tt);
+    reads = (loaded_word_sound, tt);
+    writes = (loaded_word_sound, tt);
+    some_word = (omega arith, omega arith);
+    by_address = λ k below. absurd (omega arith);
+    same_addresses = refl;
+    signal_paths = refl;
+    field_paths = refl;
+    view_paths = refl;
+    reg_paths = refl;
+    waits = omega arith;
+    all_items = IsPermutation-refl _;
+    ordered = loaded_ordered;
+  }

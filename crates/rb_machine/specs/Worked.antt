@@ -213,3 +213,50 @@ lock_block = record {
   order = item.Field 0 ∷ item.Anded 0 ∷ item.Ored 0 ∷ item.Xored 0 ∷ item.SwMod 0 ∷ item.SwAcc 0 ∷ item.Field 1 ∷ item.Anded 1 ∷ item.Ored 1 ∷ item.Xored 1 ∷ item.SwMod 1 ∷ item.SwAcc 1 ∷ [];
   waits = 0;
 }
+
+-- a field of 8 bits that a pin loads, by the leave of another, reset to 0x12
+abbrev pub loaded_field : Bool → Field
+loaded_field hw = record {
+  path = codes "a$f";
+  reg = 0;
+  width = 8;
+  reset = Some 18;
+  reset_by = record { signal = None; low = true; sync = false };
+  class = Storage;
+  hw_writes = true;
+  hw_reads = true;
+  hw_first = hw;
+  source = feed.Pin;
+  gate = gate.High feed.Pin;
+  count = None;
+  latch = latch.Off;
+  set = feed.Off;
+  clear = feed.Off;
+  keep = mask.Off;
+  pulse = false;
+  once = false;
+  enable = mask.Off;
+  halt = mask.Off;
+  shown = [];
+}
+
+-- a view whose read clears
+abbrev pub clearing_view : View
+clearing_view = record { path = codes "a$f"; field = 0; alias = false; reads = true; writes = false; once = false; on_write = on_write.Off; on_read = on_read.RClr; gate = gate.Always }
+
+abbrev pub loaded_word : Word
+loaded_word = plain_word 0 0 (record { view = 0; low = 0; from = 0; bits = 8 } ∷ [])
+
+-- a register of that field
+abbrev pub loaded_block : Bool → Block
+loaded_block hw = record {
+  name = codes "t";
+  signals = [];
+  fields = loaded_field hw ∷ [];
+  views = clearing_view ∷ [];
+  reads = loaded_word ∷ [];
+  writes = loaded_word ∷ [];
+  regs = plain_reg (codes "a") ∷ [];
+  order = item.Field 0 ∷ item.Anded 0 ∷ item.Ored 0 ∷ item.Xored 0 ∷ item.SwMod 0 ∷ item.SwAcc 0 ∷ [];
+  waits = 0;
+}

@@ -4,6 +4,7 @@ ghost use Rattle.rb_machine.specs.Machines.{IsReady};
 ghost use Rattle.rb_machine.specs.Worked.{event_block, event_field, event_view, event_word, one_block, one_field, one_view, one_word};
 
 use crate::Machine;
+use plain::one_field_order;
 use rb_base::{Edge, NoMemory, Text};
 use rb_model::{
     Block, Class, Feed, Field, Fields, Gate, Latch, Mask, OnRead, OnWrite, Order, RefItem, Reg,
@@ -12,6 +13,7 @@ use rb_model::{
 use std::alloc::Global;
 use std::test::Fail;
 
+mod loaded;
 mod lock;
 mod plain;
 mod shared;
@@ -127,19 +129,7 @@ fn one(alloc: Global, waits: u8) -> Result<Block, NoMemory>
                 }],
             )?,
         },
-        order: Order {
-            items: Vec::from_array(
-                alloc,
-                [
-                    RefItem::Field(0),
-                    RefItem::Anded(0),
-                    RefItem::Ored(0),
-                    RefItem::Xored(0),
-                    RefItem::SwMod(0),
-                    RefItem::SwAcc(0),
-                ],
-            )?,
-        },
+        order: one_field_order(alloc)?,
         waits,
     })
 }

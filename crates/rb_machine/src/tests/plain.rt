@@ -1,6 +1,6 @@
 //! What the blocks of several worked runs are made of.
 ghost use Rattle.std.specs.Prelude.{◌≡◌, IfOk};
-ghost use Rattle.rb_machine.specs.Worked.{plain_field, plain_reg, plain_view, plain_word, shared_block};
+ghost use Rattle.rb_machine.specs.Worked.{one_block, plain_field, plain_reg, plain_view, plain_word, shared_block};
 
 use super::text;
 use rb_base::NoMemory;
@@ -115,6 +115,25 @@ pub fn two_fields(alloc: Global) -> Result<Order, NoMemory>
                 RefItem::Xored(1),
                 RefItem::SwMod(1),
                 RefItem::SwAcc(1),
+            ],
+        )?,
+    })
+}
+
+/// The order of the items of one field.
+pub fn one_field_order(alloc: Global) -> Result<Order, NoMemory>
+    ensures { IfOk result (λ is. is ≡ (one_block 0).order) }
+{
+    Ok(Order {
+        items: Vec::from_array(
+            alloc,
+            [
+                RefItem::Field(0),
+                RefItem::Anded(0),
+                RefItem::Ored(0),
+                RefItem::Xored(0),
+                RefItem::SwMod(0),
+                RefItem::SwAcc(0),
             ],
         )?,
     })
