@@ -1,19 +1,21 @@
 -- The blocks of the worked runs are sound.
-use Rattle.std.proofs.Common.{◌≡◌, inr, ℕ, zero, suc, ◌<◌, ◌≤◌, ◌^◌, Bool, false, not, Some, List, [], ◌∷◌, length, unwrap_or, refl, ap, subst, arith}
+use Rattle.std.proofs.Common.{◌≡◌, inr, ℕ, zero, suc, ◌<◌, ◌≤◌, ◌^◌, Bool, false, not, Option, Some, None, List, [], ◌∷◌, length, unwrap_or, refl, ap, subst, arith}
 use Rattle.std.proofs.lemmas.List.Sorted.{IsPermutation-refl}
 use Rattle.rb_model.specs.declared.kinds.RefItem.{RefItem}
 use Rattle.rb_model.specs.declared.kinds.RefItem.TheVariants as item
-use Rattle.rb_model.specs.References.{IsOrdered, StandsBefore, Each, refs}
+use Rattle.rb_model.specs.References.{IsOrdered, StandsBefore, Each, refs, WithSome, AreWithin, level_refs}
 use Rattle.rb_model.specs.Sound.{IsSound, SlotIsSound, StandTogether, WordIsSound}
 use Rattle.rb_model.proofs.Eachs.{Each-from_zero}
 use Rattle.rb_model.specs.declared.block.Block.{Block}
+use Rattle.rb_model.specs.declared.kinds.Level.{Level}
+use Rattle.rb_model.specs.declared.kinds.Level.TheVariants as level
 use Rattle.rb_model.specs.declared.block.Slot.{Slot}
 use Rattle.std.specs.List.{enumerate_from}
 use Rattle.std.specs.Prelude.{AllPairs}
 use Rattle.std.specs.List.Sorted.{IsStrictlyIncreasing}
 use Rattle.rb_base.specs.declared.edge.Edge.{Edge}
-use Rattle.rb_model.specs.SoundField.{FieldIsSound, RefersWell, is_nonsticky}
-use Rattle.rb_machine.specs.Worked.{event_block, event_word, loaded_block, loaded_word, lock_block, lock_word, one_block, one_word, plain_field, plain_word, shared_block, whole_slot}
+use Rattle.rb_model.specs.SoundField.{FieldIsSound, RefersWell, is_nonsticky, LevelFits}
+use Rattle.rb_machine.specs.Worked.{counter_block, event_block, event_word, half_word, loaded_block, loaded_word, lock_block, lock_word, one_block, one_word, plain_field, plain_word, shared_block, whole_slot}
 
 module _ (w : ℕ) where
   at : (k : ℕ) (j i : RefItem) → Each (StandsBefore (one_block w).order k) (refs (one_block w) j) → Some j ≡ Some i → Each (StandsBefore (one_block w).order k) (refs (one_block w) i)
@@ -68,6 +70,10 @@ module _ (w : ℕ) where
     ordered = ordered;
   }
 
+rising : IsStrictlyIncreasing (0 ∷ 4 ∷ [])
+rising zero below = omega arith
+rising (suc k) below = absurd (omega (arith, below))
+
 module _ (edge : Edge) (hw : Bool) where
   event_at : (k : ℕ) (j i : RefItem) → Each (StandsBefore (event_block edge hw).order k) (refs (event_block edge hw) j) → Some j ≡ Some i → Each (StandsBefore (event_block edge hw).order k) (refs (event_block edge hw) i)
   event_at k j i h e = let P : RefItem → Type 0 = λ i. Each (StandsBefore (event_block edge hw).order k) (refs (event_block edge hw) i) in let same : j ≡ i = ap (λ o. unwrap_or o j) e in subst P same h
@@ -97,10 +103,6 @@ module _ (edge : Edge) (hw : Bool) where
     slots = (record { view = _; field = _; of_view = refl; of_field = refl; some_bit = omega arith; in_word = omega arith; in_field = omega arith; whole = λ h. (refl, refl) }, tt);
     together = λ i j d lt below. absurd (omega arith);
   }
-
-  rising : IsStrictlyIncreasing (0 ∷ 4 ∷ [])
-  rising zero below = omega arith
-  rising (suc k) below = absurd (omega (arith, below))
 
   pub event_sound : is_nonsticky edge ≡ false → IsSound (event_block edge hw)
   event_sound sticky = record {
@@ -348,3 +350,52 @@ module _ (hw : Bool) where
     all_items = IsPermutation-refl _;
     ordered = loaded_ordered;
   }
+
+module _ (high : Option Level) where
+  lower_sound : WordIsSound (counter_block high) (half_word 0 0)
+  lower_sound = word_of_one (counter_block high) 0 0 _ (omega arith) (record { view = _; field = _; of_view = refl; of_field = refl; some_bit = omega arith; in_word = omega arith; in_field = omega arith; whole = λ h. cc h })
+
+  upper_sound : WordIsSound (counter_block high) (half_word 4 32)
+  upper_sound = word_of_one (counter_block high) 4 0 _ (omega arith) (record { view = _; field = _; of_view = refl; of_field = refl; some_bit = omega arith; in_word = omega arith; in_field = omega arith; whole = λ h. cc h })
+
+  counter_ordered : IsOrdered (counter_block high) (counter_block high).order
+  counter_ordered = ordered_all (counter_block high)
+      (tt, (((0, omega arith, refl), tt), (((0, omega arith, refl), tt), (((0, omega arith, refl), tt), (((0, omega arith, refl), tt), (((0, omega arith, refl), tt), (tt, (tt, (tt, (tt, tt))))))))))
+
+  counter_sound : WithSome high (LevelFits 64) → WithSome high (λ l. AreWithin (counter_block high) 64 (level_refs l)) → IsSound (counter_block high)
+  counter_sound fits within = record {
+    named = refl;
+    signals = tt;
+    fields = (
+      record {
+        alone = record { wide = (omega arith, omega arith); reset = omega arith; count = record { up = (refl, omega arith); down = (refl, omega arith); high = fits; low = tt; above = omega arith; below = omega arith }; one_kind = refl; written_by = λ h. h; pulse_alone = λ h. refl; gate_fed = refl; source_fed = λ h. h; latch_edge = refl; bus_reset = refl; shown_in_order = λ k below. absurd (omega arith); shown_counts = refl };
+        refers = record { source = tt; masks = tt; bits = tt; pulses = (tt, tt); amounts = (tt, tt); levels = (within, tt, tt) };
+        in_register = (_, refl, refl);
+        reset_signal = tt;
+        one_view = refl;
+        class = refl;
+        once = refl;
+      },
+      tt,
+    );
+    views = (record { of = (_, refl, λ h. refl); gate_fed = refl; gate_bit = tt; read_in_one_slot = λ h. cc h; written_in_one_slot = λ h. cc h }, tt);
+    regs = (record { intr = refl; halt = refl }, tt);
+    reads = (lower_sound, (upper_sound, tt));
+    writes = (lower_sound, (upper_sound, tt));
+    some_word = (omega arith, omega arith);
+    by_address = rising;
+    same_addresses = refl;
+    signal_paths = refl;
+    field_paths = refl;
+    view_paths = refl;
+    reg_paths = refl;
+    waits = omega arith;
+    all_items = IsPermutation-refl _;
+    ordered = counter_ordered;
+  }
+
+pub wrapping_sound : IsSound (counter_block None)
+wrapping_sound = counter_sound None tt tt
+
+pub saturating_sound : IsSound (counter_block (Some (level.Number 18446744073709551615)))
+saturating_sound = counter_sound (Some (level.Number 18446744073709551615)) (omega arith) tt

@@ -1,7 +1,7 @@
 -- The blocks of the worked runs that tests make.
 use Rattle.rb_base.specs.declared.edge.Edge.{Edge}
 use Rattle.rb_model.specs.declared.kinds.OnWrite.{OnWrite}
-use Rattle.std.specs.Prelude.{ℕ, Bool, true, false, Some, None, List, [], ◌∷◌, codes}
+use Rattle.std.specs.Prelude.{ℕ, Bool, true, false, Option, Some, None, List, [], ◌∷◌, codes}
 use Rattle.rb_model.specs.declared.kinds.RefItem.TheVariants as item
 use Rattle.rb_model.specs.declared.kinds.Class.TheVariants.{Storage, Wire}
 use Rattle.rb_model.specs.declared.kinds.Feed.TheVariants as feed
@@ -10,6 +10,12 @@ use Rattle.rb_model.specs.declared.kinds.Latch.TheVariants as latch
 use Rattle.rb_model.specs.declared.kinds.Mask.TheVariants as mask
 use Rattle.rb_model.specs.declared.kinds.OnRead.TheVariants as on_read
 use Rattle.rb_model.specs.declared.kinds.OnWrite.TheVariants as on_write
+use Rattle.rb_model.specs.declared.kinds.Amount.TheVariants as amount
+use Rattle.rb_model.specs.declared.kinds.Level.{Level}
+use Rattle.rb_model.specs.declared.kinds.Level.TheVariants as level
+use Rattle.rb_model.specs.declared.kinds.Shown.TheVariants as shown
+use Rattle.rb_model.specs.declared.kinds.Count.{Count}
+use Rattle.rb_model.specs.declared.kinds.Part.{Part}
 use Rattle.rb_model.specs.declared.block.Block.{Block}
 use Rattle.rb_model.specs.declared.block.Field.{Field}
 use Rattle.rb_model.specs.declared.block.Reg.{Reg}
@@ -258,5 +264,57 @@ loaded_block hw = record {
   writes = loaded_word ∷ [];
   regs = plain_reg (codes "a") ∷ [];
   order = item.Field 0 ∷ item.Anded 0 ∷ item.Ored 0 ∷ item.Xored 0 ∷ item.SwMod 0 ∷ item.SwAcc 0 ∷ [];
+  waits = 0;
+}
+
+-- a pin counts by one
+abbrev pub by_one : Part
+by_one = record { pulse = feed.Pin; amount = amount.Number 1 }
+
+-- up and down by one, up to this number if there is one
+abbrev pub wide_count : Option Level → Count
+wide_count high = record { up = Some by_one; down = Some by_one; high = high; low = None; above = level.Number 18446744073709551615; below = level.Number 0 }
+
+-- a counter of 64 bits, reset to ones, which shows where it overflows
+abbrev pub counter_field : Option Level → Field
+counter_field high = record {
+  path = codes "a$c";
+  reg = 0;
+  width = 64;
+  reset = Some 18446744073709551615;
+  reset_by = record { signal = None; low = true; sync = false };
+  class = Storage;
+  hw_writes = false;
+  hw_reads = true;
+  hw_first = false;
+  source = feed.Off;
+  gate = gate.Always;
+  count = Some (wide_count high);
+  latch = latch.Off;
+  set = feed.Off;
+  clear = feed.Off;
+  keep = mask.Off;
+  pulse = false;
+  once = false;
+  enable = mask.Off;
+  halt = mask.Off;
+  shown = shown.Overflow ∷ [];
+}
+
+-- a word of its lower or of its upper half
+abbrev pub half_word : (address from : ℕ) → Word
+half_word address from = plain_word address 0 (record { view = 0; low = 0; from = from; bits = 32 } ∷ [])
+
+-- a register of that counter, in two words
+abbrev pub counter_block : Option Level → Block
+counter_block high = record {
+  name = codes "t";
+  signals = [];
+  fields = counter_field high ∷ [];
+  views = plain_view (codes "a$c") 0 true false ∷ [];
+  reads = half_word 0 0 ∷ half_word 4 32 ∷ [];
+  writes = half_word 0 0 ∷ half_word 4 32 ∷ [];
+  regs = plain_reg (codes "a") ∷ [];
+  order = item.Field 0 ∷ item.Anded 0 ∷ item.Ored 0 ∷ item.Xored 0 ∷ item.IncrThreshold 0 ∷ item.DecrThreshold 0 ∷ item.Overflow 0 ∷ item.Underflow 0 ∷ item.SwMod 0 ∷ item.SwAcc 0 ∷ [];
   waits = 0;
 }

@@ -13,6 +13,7 @@ use rb_model::{
 use std::alloc::Global;
 use std::test::Fail;
 
+mod counter;
 mod loaded;
 mod lock;
 mod plain;
