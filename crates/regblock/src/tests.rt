@@ -114,18 +114,19 @@ const SEEN: &str =
 #[test]
 fn what_is_compiled_runs(rt: HostRuntime) -> Result<(), Fail> {
     let alloc = rt.alloc();
-    let mut shelf = shelf(alloc, &[])?;
-    shelf.put("commented.rdl", COMMENTED.as_bytes())?;
-    shelf.put("bus.csv", BUS.as_bytes())?;
+    let mut sources = MemShelf::new(alloc, &[])?;
+    sources.put("commented.rdl", COMMENTED.as_bytes())?;
     let mut module = MemSink::new(alloc, 1000, 10_000, &[])?;
     let mut err = MemSink::new(alloc, 1000, 1000, &[])?;
     let compile = words(alloc, &["compile", "commented.rdl"])?;
-    let status = run(alloc, &compile, &mut shelf, &mut module, &mut err);
+    let status = run(alloc, &compile, &mut sources, &mut module, &mut err);
     assert_eq!(rt; status, Status::Done);
-    shelf.put("one.v", module.bytes())?;
+    let mut modules = MemShelf::new(alloc, &[])?;
+    modules.put("one.v", module.bytes())?;
+    modules.put("bus.csv", BUS.as_bytes())?;
     let mut out = MemSink::new(alloc, 1000, 1000, &[])?;
     let sim = words(alloc, &["sim", "one.v", "bus.csv"])?;
-    let status = run(alloc, &sim, &mut shelf, &mut out, &mut err);
+    let status = run(alloc, &sim, &mut modules, &mut out, &mut err);
     assert_eq!(rt; status, Status::Done);
     assert_eq!(rt; out.bytes(), SEEN.as_bytes());
     assert!(rt; err.bytes().is_empty());
