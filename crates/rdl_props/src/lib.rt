@@ -1,0 +1,17 @@
+//! The properties of SystemRDL 2.0: which there are, on what they are legal, what they take, and which exclude one
+//! another.
+#![tactic(auto)]
+
+mod form;
+mod letter;
+mod names;
+mod prop;
+mod table;
+#[cfg(test)]
+mod tests;
+
+pub use form::Form;
+pub use letter::Letter;
+pub use names::{find, left_out};
+pub use prop::Prop;
+pub use table::{group, legal, takes};
