@@ -1,0 +1,38 @@
+-- What a source is answered: the failures of the first phase that has any.
+use Rattle.std.specs.Prelude.{◌≡◌, ◌≢◌, ◌⊎◌, ◌↔◌, List, [], ◌∷◌, Contains}
+use Rattle.std.specs.List.Sorted.{IsStrictlySortedBy}
+use Rattle.rb_base.specs.Faults.{fault_cmp}
+use Rattle.rb_base.specs.declared.place.Place.{Place}
+use Rattle.rb_base.specs.declared.fault.Fault.{Fault}
+use Rattle.rb_base.specs.declared.rule.Rule.{Rule}
+use Rattle.rb_base.specs.declared.rule.Rule.TheVariants.{N1}
+
+-- Which rule fails at which place.
+abbrev pub Fails : Type 1
+Fails = Rule → Place → Type 0
+
+-- The list has each failure once, and nothing else: by place, and at one place in the order of the table of rules.
+pub record IsListOf (P : Fails) (list : List Fault) : Type 0 where
+  pub ordered : IsStrictlySortedBy fault_cmp list
+  pub exact : (f : Fault) → Contains list f ↔ P f.rule f.place
+
+-- The list holds the failures, and there are some.
+pub record IsRefusal (P : Fails) (list : List Fault) : Type 0 where
+  pub failures : IsListOf P list
+  pub some : list ≢ []
+
+-- A phase says which list is its own: of all its failures in order, or of its first one alone.
+abbrev pub Phase : Type 1
+Phase = List Fault → Type 0
+
+-- The list is that of the first phase that has a failure, and empty where none has one. A phase is judged only where those
+-- before it have no failure.
+abbrev pub FirstOf : List Phase → List Fault → Type 0
+FirstOf [] list = list ≡ []
+FirstOf (P ∷ later) list = (P list × (list ≢ [])) ⊎ (P [] × FirstOf later list)
+
+-- A version that compiles some forms of source alone refuses all others by N1, at the start: a phase of its own, the last.
+pub record FailsVersion (IsRefused : Type 0) (rule : Rule) (place : Place) : Type 0 where
+  pub refused : IsRefused
+  pub named : rule ≡ N1
+  pub at_start : place ≡ record { 0 = 0 }

@@ -1,0 +1,13 @@
+//! The values of constant expressions, and what the instances of a source are.
+#![tactic(auto)]
+
+mod constants;
+mod lookup;
+mod numbers;
+mod operators;
+#[cfg(test)]
+mod tests;
+mod wanted;
+
+pub use constants::eval;
+pub use wanted::{as_type, number_of, start_of};
