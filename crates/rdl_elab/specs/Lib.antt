@@ -1,0 +1,2 @@
+pub mod Phase3
+pub mod Elaboration

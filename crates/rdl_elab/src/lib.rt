@@ -1,0 +1,2 @@
+//! The instances of a source.
+#![tactic(auto)]
