@@ -1,0 +1,9 @@
+pub mod Ranks
+pub mod Forms
+pub mod Meanings
+pub mod Assignments
+pub mod Judged
+pub mod Settings
+pub mod Says
+pub mod Phase4
+pub mod Fields

@@ -1,0 +1,12 @@
+//! The settings of properties (SystemRDL 2.0, 5.1.3): which assignments apply to a node, and which of them decides.
+#![tactic(auto)]
+
+mod candidate;
+mod rank;
+mod related;
+mod setting;
+
+pub use candidate::{Candidate, deciding};
+pub use rank::Rank;
+pub use related::is_related;
+pub use setting::Setting;
