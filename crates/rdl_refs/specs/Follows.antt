@@ -1,0 +1,110 @@
+-- What an item's value is made from, and where references can be followed for ever.
+use Rattle.std.specs.Prelude.{◌≡◌, ℕ, zero, suc, Bool, false, not, ◌&&◌, ◌||◌, cond, List, [], ◌∷◌, length, flat_map, filter, Some, Contains, All, AllPairs, IsPermutation, slice_get}
+use Rattle.std.specs.List.{list_any}
+use Rattle.rb_base.specs.declared.place.Place.{Place}
+use Rattle.rdl_tree.specs.declared.item.Kind.TheVariants as kind
+use Rattle.rdl_props.specs.declared.prop.Prop.{Prop}
+use Rattle.rdl_props.specs.declared.prop.Prop.TheVariants as prop
+use Rattle.rdl_values.specs.Bodies as bodies
+use Rattle.rdl_values.specs.Instances.{Instance, upto}
+use Rattle.rdl_layers.specs.Settings.{setting}
+use Rattle.rdl_layers.specs.Fields.{is_a, fields_of, is_alias, same_steps, steps_up, views, is_wire, is_counter, is_interrupt, has_one_of}
+use Rattle.rdl_refs.specs.declared.item.What.{What}
+use Rattle.rdl_refs.specs.declared.item.What.TheVariants as what
+use Rattle.rdl_refs.specs.Items.{Item, items, target}
+
+-- the items that settings of a node name
+abbrev pub given_items : List Instance → Instance → List Prop → List Item
+given_items all n ps = flat_map (λ p. target all (setting n p)) ps
+
+abbrev pub value_item : Instance → Item
+value_item n = record { node = n; what = what.Value }
+
+abbrev pub holds_field : bodies.Path → Instance → Bool
+holds_field (bodies.of_signal s) f = false
+holds_field (bodies.below_top ss) f = same_steps ss (steps_up f.path)
+
+-- the register of a field
+abbrev pub reg_of : List Instance → Instance → List Instance
+reg_of all f = filter (λ r. is_a kind.Reg r && holds_field r.path f) all
+
+-- an item of a field that is no counter, or of a register without interrupts
+abbrev pub is_missing : Item → Bool
+is_missing i = go i.what
+  where
+    go : What → Bool
+    go what.IncrThreshold = not (is_counter i.node)
+    go what.DecrThreshold = not (is_counter i.node)
+    go what.Overflow = not (is_counter i.node)
+    go what.Underflow = not (is_counter i.node)
+    go what.Intr = not (list_any is_interrupt (fields_of i.node))
+    go what.Halt = not (list_any (has_one_of (prop.Haltenable ∷ prop.Haltmask ∷ [])) (fields_of i.node))
+    go _ = false
+
+-- an item of an alias, or of a field of one
+abbrev pub is_in_alias : List Instance → Item → Bool
+is_in_alias all i = list_any is_alias (i.node ∷ reg_of all i.node)
+
+-- a wire is the item that its 'next' names
+abbrev pub wire_items : List Instance → Instance → List Item
+wire_items all f = flat_map (λ r. cond (is_wire (views all r f) f) (given_items all f (prop.Next ∷ [])) []) (reg_of all f)
+
+abbrev pub counts : List Prop
+counts = prop.Incr ∷ prop.Decr ∷ prop.Incrvalue ∷ prop.Decrvalue ∷ []
+
+abbrev pub masked_items : List Instance → List Prop → Instance → List Item
+masked_items all masks f = value_item f ∷ given_items all f masks
+
+abbrev pub made_from : List Instance → Item → List Item
+made_from all i = go i.what
+  where
+    go : What → List Item
+    go what.Value = cond (is_a kind.Field i.node) (wire_items all i.node) []
+    go what.Anded = value_item i.node ∷ []
+    go what.Ored = value_item i.node ∷ []
+    go what.Xored = value_item i.node ∷ []
+    go what.IncrThreshold = value_item i.node ∷ given_items all i.node (prop.Incrthreshold ∷ [])
+    go what.DecrThreshold = value_item i.node ∷ given_items all i.node (prop.Decrthreshold ∷ [])
+    go what.Overflow = given_items all i.node counts
+    go what.Underflow = given_items all i.node counts
+    go what.SwMod = []
+    go what.SwAcc = []
+    go what.Intr = flat_map (masked_items all (prop.Enable ∷ prop.Mask ∷ [])) (filter is_interrupt (fields_of i.node))
+    go what.Halt = flat_map (masked_items all (prop.Haltenable ∷ prop.Haltmask ∷ [])) (filter (has_one_of (prop.Haltenable ∷ prop.Haltmask ∷ [])) (fields_of i.node))
+
+-- the items that an item refers to: those that its value is made from; one that is missing or an alias's refers to none
+abbrev pub refers_to : List Instance → Item → List Item
+refers_to all i = cond (is_missing i || is_in_alias all i) [] (made_from all i)
+
+-- References can be followed for so many steps.
+abbrev pub GoesOn : List Instance → ℕ → Item → Type 0
+GoesOn all zero i = Unit {0}
+GoesOn all (suc k) i = (j : Item) × Contains (refers_to all i) j × GoesOn all k j
+
+abbrev pub ForEver : List Instance → Item → Type 0
+ForEver all i = (k : ℕ) → GoesOn all k i
+
+-- R7: at the instance of a field or register from one of whose items references can be followed for ever
+abbrev pub FailsR7 : List Instance → Place → Type 0
+FailsR7 all p = (i : Item) × Contains (items all) i × ForEver all i × (p ≡ i.node.use_.name.place)
+
+-- One item, by its number, refers to another.
+abbrev pub Refers : List Instance → ℕ → ℕ → Type 0
+Refers all a b = (i : Item) × (j : Item) × (slice_get (items all) a ≡ Some i) × (slice_get (items all) b ≡ Some j) × Contains (refers_to all i) j
+
+-- Numbers of all items, each once, each after those that it refers to.
+pub record IsOrder (all : List Instance) (order : List ℕ) : Type 0 where
+  pub each_once : IsPermutation order (upto (length (items all)))
+  pub after_its_own : AllPairs (λ a b. ¬ (Refers all a b)) order
+  pub not_to_itself : All (λ a. ¬ (Refers all a a)) order
+
+-- each refers to the next, and the last to the first
+abbrev pub GoesRound : List Instance → ℕ → List ℕ → Type 0
+GoesRound all first [] = Unit {0}
+GoesRound all first (a ∷ []) = Refers all a first
+GoesRound all first (a ∷ b ∷ more) = Refers all a b × GoesRound all first (b ∷ more)
+
+-- Different items that refer to one another in a circle.
+pub record IsCircle (all : List Instance) (first : ℕ) (others : List ℕ) : Type 0 where
+  pub differ : AllPairs (λ a b. ¬ (a ≡ b)) (first ∷ others)
+  pub round : GoesRound all first (first ∷ others)
