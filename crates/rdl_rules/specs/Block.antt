@@ -1,0 +1,60 @@
+-- The register block that a source describes, where it breaks no rule.
+use Rattle.std.specs.Prelude.{◌≡◌, ℕ, Bool, true, false, not, ◌&&◌, List, [], ◌∷◌, map, flat_map, Option}
+use Rattle.std.specs.List.{list_any}
+use Rattle.std.specs.List.Sorted.{IsPermutation}
+use Rattle.rdl_tree.specs.declared.item.Source.{Source}
+use Rattle.rdl_props.specs.declared.prop.Prop.TheVariants as prop
+use Rattle.rdl_values.specs.Bodies.{Path, of_signal, below_top}
+use Rattle.rdl_values.specs.Uses.{path_text}
+use Rattle.rdl_values.specs.Instances.{Instance, nodes, top_of}
+use Rattle.rdl_layers.specs.Phase4.{width_of}
+use Rattle.rdl_layers.specs.Fields.{fields_of, is_alias, is_interrupt, has_one_of}
+use Rattle.rdl_addr.specs.Rules as addr
+use Rattle.rb_model.specs.declared.block.Block.{Block}
+use Rattle.rb_model.specs.declared.block.Field.{Field}
+use Rattle.rb_model.specs.declared.block.Reg.{Reg}
+use Rattle.rb_model.specs.declared.block.Signal.{Signal}
+use Rattle.rb_model.specs.declared.block.View.{View}
+use Rattle.rb_model.specs.Items.{items}
+use Rattle.rb_model.specs.References.{IsOrdered}
+use Rattle.rdl_rules.specs.Numbers.{all_signals, registers, primaries}
+use Rattle.rdl_rules.specs.Fields.{field_of, view_of}
+use Rattle.rdl_rules.specs.Words.{read_words, write_words, AreByAddress}
+
+abbrev pub is_at_root : Path → Bool
+is_at_root (of_signal s) = true
+is_at_root (below_top ss) = false
+
+abbrev pub signal_of : Instance → Signal
+signal_of n = record { path = path_text n.path; width = width_of n; root = is_at_root n.path }
+
+abbrev pub fields : Source → List Instance → List Field
+fields s all = flat_map (λ r. map (field_of s all r) (fields_of r)) (primaries all)
+
+abbrev pub views : List Instance → List View
+views all = flat_map (λ r. map (view_of all r) (fields_of r)) (registers all)
+
+-- an interrupt field of it is enabled or masked for halt
+abbrev pub halts : Instance → Bool
+halts f = is_interrupt f && has_one_of (prop.Haltenable ∷ prop.Haltmask ∷ []) f
+
+abbrev pub reg_of : Instance → Reg
+reg_of r = record {
+  path = path_text r.path;
+  alias = is_alias r;
+  intr = not (is_alias r) && list_any is_interrupt (fields_of r);
+  halt = not (is_alias r) && list_any halts (fields_of r);
+}
+
+-- The block of a source and a number of wait states. Its order is any in which each item stands behind those that it refers to.
+pub record IsBlockOf (wanted : Option (List ℕ)) (s : Source) (waits : ℕ) (b : Block) : Type 0 where
+  pub name : map (λ n. n.use_.name.text.now) (top_of wanted s) ≡ b.name ∷ []
+  pub signals : b.signals ≡ map signal_of (all_signals (nodes wanted s))
+  pub fields_ : b.fields ≡ fields s (nodes wanted s)
+  pub views_ : b.views ≡ views (nodes wanted s)
+  pub regs : b.regs ≡ map reg_of (registers (nodes wanted s))
+  pub reads : AreByAddress (read_words (nodes wanted s) (addr.registers wanted s)) b.reads
+  pub writes : AreByAddress (write_words (nodes wanted s) (addr.registers wanted s)) b.writes
+  pub waits_ : b.waits ≡ waits
+  pub each_item : IsPermutation (items b) b.order
+  pub ordered : IsOrdered b b.order

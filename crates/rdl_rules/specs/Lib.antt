@@ -1,0 +1,9 @@
+pub mod Block
+pub mod Feeds
+pub mod FieldRules
+pub mod Fields
+pub mod Numbers
+pub mod Phase6
+pub mod ReferenceRules
+pub mod RegisterRules
+pub mod Words

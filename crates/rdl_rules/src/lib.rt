@@ -1,0 +1,2 @@
+//! The rules on meaning, and the register block.
+#![tactic(auto)]
