@@ -1,0 +1,15 @@
+pub mod Addresses
+pub mod AddressesSources
+pub mod BlockSources
+pub mod Blocks
+pub mod InOrder
+pub mod Instances
+pub mod InstancesSources
+pub mod InstancesTree
+pub mod MeaningSources
+pub mod Meanings
+pub mod References
+pub mod ReferencesSources
+pub mod Settings
+pub mod SettingsSources
+pub mod Trees

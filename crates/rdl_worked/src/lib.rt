@@ -1,0 +1,2 @@
+//! Worked sources, against the definitions.
+#![tactic(auto)]
