@@ -1,5 +1,5 @@
 -- Where registers and containers stand (SystemRDL 2.0, 5.1.2.2.2 and 13.4; the table of the three modes is this project's).
-use Rattle.std.specs.Prelude.{ℕ, zero, suc, ◌+◌, ◌*◌, ◌/◌, max, Bool, true, false, cond, List, [], ◌∷◌, length, nat_lt, map, flat_map, filter, Option, option_to_list}
+use Rattle.std.specs.Prelude.{ℕ, zero, suc, ◌+◌, ◌*◌, ◌/◌, max, Bool, true, false, cond, List, [], ◌∷◌, ◌++◌, length, nat_lt, map, flat_map, filter, Option, option_to_list}
 use Rattle.rb_base.specs.declared.keyword.Keyword.{Keyword}
 use Rattle.rb_base.specs.declared.keyword.Keyword.TheVariants as word
 use Rattle.rdl_tree.specs.declared.expr.Expr.{Expr}
@@ -119,7 +119,7 @@ greatest_end mode gs = greatest (map (λ g. g.1 + span mode g.0) (starts mode 0 
 
 -- the elements of each instance of a body that has an address
 abbrev pub instances : Instance → List (List Instance)
-instances n = map (λ s. filter has_address (given_by s)) (seen n.above (body n))
+instances n = map (λ s. filter has_address (given_by s)) (seen (n.above ++ (body n ∷ [])) (body n))
 
 -- Sizes and alignments, of nodes with no more than so many levels below them.
 

@@ -10,7 +10,7 @@ use Rattle.rdl_values.specs.Instances.{nodes}
 use Rattle.rdl_addr.specs.Bits.{bits_of}
 use Rattle.rdl_addr.specs.Rules.{failures_ab, registers}
 use Rattle.rdl_worked.proofs.Trees.{at}
-use Rattle.rdl_worked.proofs.AddressesSources.{compact_map, regalign_map, fullalign_map, odd_address, one_element_narrower, nested_map, small_stride, far_stride, read_and_write, read_and_read_write, read_and_narrow_write, shared_bits}
+use Rattle.rdl_worked.proofs.AddressesSources.{compact_map, regalign_map, fullalign_map, odd_address, one_element_narrower, nested_map, small_stride, far_stride, read_and_write, read_and_read_write, read_and_narrow_write, shared_bits, width_from_outside, access_from_outside}
 
 -- the addresses of the registers, in node order
 abbrev addresses : Source → List ℕ
@@ -35,6 +35,11 @@ fullalign_addresses = refl
 widest_element_counts : addresses one_element_narrower ≡ 0 ∷ 4 ∷ 8 ∷ []
 unfolding digits props roll-Path denote.Hole.Carrier.roll Rattle.rdl_tree.specs.declared.expr.Expr.TheBlock.hidden-the_row-Step-1 denote.Hole.Carrier.hidden Rattle.rdl_tree.specs.declared.item.Item.TheBlock.hidden-the_row-Item-0
 widest_element_counts = refl
+
+-- a width assigned from outside counts
+width_from_outside_counts : addresses width_from_outside ≡ 0 ∷ 1 ∷ []
+unfolding digits props roll-Path denote.Hole.Carrier.roll Rattle.rdl_tree.specs.declared.expr.Expr.TheBlock.hidden-the_row-Step-1 denote.Hole.Carrier.hidden Rattle.rdl_tree.specs.declared.item.Item.TheBlock.hidden-the_row-Item-0
+width_from_outside_counts = refl
 
 -- a nested map is placed by its parent's mode, and places by its own
 nested_map_has_a_mode_of_its_own : addresses nested_map ≡ 0 ∷ 4 ∷ 8 ∷ 9 ∷ []
@@ -65,6 +70,11 @@ far_stride_fails = refl
 read_and_write_share : failures_ab None read_and_write ≡ []
 unfolding digits props roll-Path denote.Hole.Carrier.roll Rattle.rdl_tree.specs.declared.expr.Expr.TheBlock.hidden-the_row-Step-1 denote.Hole.Carrier.hidden Rattle.rdl_tree.specs.declared.item.Item.TheBlock.hidden-the_row-Item-0
 read_and_write_share = refl
+
+-- also where what makes the one read-only is assigned from outside
+access_from_outside_counts : failures_ab None access_from_outside ≡ []
+unfolding digits props roll-Path denote.Hole.Carrier.roll Rattle.rdl_tree.specs.declared.expr.Expr.TheBlock.hidden-the_row-Step-1 denote.Hole.Carrier.hidden Rattle.rdl_tree.specs.declared.item.Item.TheBlock.hidden-the_row-Item-0
+access_from_outside_counts = refl
 
 -- one that is also read does not
 both_read : failures_ab None read_and_read_write ≡ at_ rules.A5 (at 102) ∷ []
