@@ -41,9 +41,9 @@ is_missing i = go i.what
     go what.Halt = not (list_any (has_one_of (prop.Haltenable ∷ prop.Haltmask ∷ [])) (fields_of i.node))
     go _ = false
 
--- an item of an alias, or of a field of one
+-- an item of an alias, or of a field of one; a signal in it is a node of its own
 abbrev pub is_in_alias : List Instance → Item → Bool
-is_in_alias all i = list_any is_alias (i.node ∷ reg_of all i.node)
+is_in_alias all i = is_alias i.node || (is_a kind.Field i.node && list_any is_alias (reg_of all i.node))
 
 -- a wire is the item that its 'next' names
 abbrev pub wire_items : List Instance → Instance → List Item

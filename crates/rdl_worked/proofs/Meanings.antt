@@ -7,7 +7,7 @@ use Rattle.rdl_props.specs.Table.{props}
 use Rattle.rdl_values.specs.Uses.{at_}
 use Rattle.rdl_rules.specs.Phase6.{failures6}
 use Rattle.rdl_worked.proofs.Trees.{at}
-use Rattle.rdl_worked.proofs.ReferencesSources.{alias_items}
+use Rattle.rdl_worked.proofs.ReferencesSources.{alias_items, signal_in_an_alias}
 use Rattle.rdl_worked.proofs.MeaningSources.{field_rules, reference_rules, alias_of_its_fields, alias_of_others, written_once_in_an_alias}
 
 -- each rule on fields fails at its field; what is written once and read by nobody is accepted, as is a field that only a read takes from two words
@@ -39,3 +39,8 @@ alias_written_once = refl
 references_into_an_alias : failures6 None alias_items ≡ at_ rules.F12 (at 132) ∷ at_ rules.R4 (at 234) ∷ at_ rules.R4 (at 188) ∷ at_ rules.R5 (at 188) ∷ at_ rules.R5 (at 208) ∷ []
 unfolding digits props roll-Path denote.Hole.Carrier.roll Rattle.rdl_tree.specs.declared.expr.Expr.TheBlock.hidden-the_row-Step-1 denote.Hole.Carrier.hidden Rattle.rdl_tree.specs.declared.item.Item.TheBlock.hidden-the_row-Item-0
 references_into_an_alias = refl
+
+-- a signal in an alias is a node of its own, and may be named
+signal_in_an_alias_is_named : failures6 None signal_in_an_alias ≡ []
+unfolding digits props roll-Path denote.Hole.Carrier.roll Rattle.rdl_tree.specs.declared.expr.Expr.TheBlock.hidden-the_row-Step-1 denote.Hole.Carrier.hidden Rattle.rdl_tree.specs.declared.item.Item.TheBlock.hidden-the_row-Item-0
+signal_in_an_alias_is_named = refl

@@ -152,3 +152,16 @@ alias_items = source (
     item.Dynamic (path_of ((step_to (name (codes "f") 188) []) ∷ [])) (assign (name (codes "hwset") 191) None (value (expr.Ref (path_of ((step_to (name (codes "s") 199) []) ∷ [])) (Some (name (codes "intr") 202)))) 188) ∷
     item.Dynamic (path_of ((step_to (name (codes "f") 208) []) ∷ [])) (assign (name (codes "hwclr") 211) None (value (expr.Ref (path_of ((step_to (name (codes "s") 219) []) ∷ (step_to (name (codes "n") 221) []) ∷ [])) (Some (name (codes "overflow") 224)))) 208) ∷
     item.Dynamic (path_of ((step_to (name (codes "f") 234) []) ∷ [])) (assign (name (codes "we") 237) None (value (expr.Ref (path_of ((step_to (name (codes "p") 242) []) ∷ [])) (Some (name (codes "halt") 245)))) 234) ∷ []) (Some (insts_of [] ((inst (name (codes "t") 253)) ∷ [])))) ∷ []) None) ∷ [])
+
+-- addrmap m { reg t { signal {} c; field {} f; }; t p; alias p t s; reg { field { next = s.c; } g; } b; };
+abbrev pub signal_in_an_alias : Source
+signal_in_an_alias = source (
+  item.Def (component kind.Addrmap (Some (name (codes "m") 8)) [] 8 (
+    item.Def (component kind.Reg (Some (name (codes "t") 16)) [] 16 (
+      item.Def (component kind.Signal None [] 20 [] (Some (insts_of [] ((inst (name (codes "c") 30)) ∷ [])))) ∷
+      item.Def (component kind.Field None [] 33 [] (Some (insts_of [] ((inst (name (codes "f") 42)) ∷ [])))) ∷ []) None) ∷
+    item.Made None (name (codes "t") 48) (insts_of [] ((inst (name (codes "p") 50)) ∷ [])) ∷
+    item.Made (Some (name (codes "p") 59)) (name (codes "t") 61) (insts_of [] ((inst (name (codes "s") 63)) ∷ [])) ∷
+    item.Def (component kind.Reg None [] 66 (
+      item.Def (component kind.Field None [] 72 (
+        item.Local (assign (name (codes "next") 80) None (value (expr.Ref (path_of ((step_to (name (codes "s") 87) []) ∷ (step_to (name (codes "c") 89) []) ∷ [])) None)) 80) ∷ []) (Some (insts_of [] ((inst (name (codes "g") 94)) ∷ [])))) ∷ []) (Some (insts_of [] ((inst (name (codes "b") 99)) ∷ [])))) ∷ []) None) ∷ [])
