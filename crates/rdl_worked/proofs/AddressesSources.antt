@@ -170,25 +170,25 @@ shared_bits = source (
 -- addrmap m { reg { field {} f[8]; } a; a->regwidth = 8; reg { regwidth=8; field {} f[8]; } b; };
 abbrev pub width_from_outside : Source
 width_from_outside = source (
-  item.Def (component kind.Addrmap (Some (name (codes "m") 8)) [] 8 (
+    item.Def (component kind.Addrmap (Some (name (codes "m") 8)) [] 8 (
     item.Def (component kind.Reg None [] 12 (
-      item.Def (component kind.Field None [] 18 [] (Some (insts_of [] ((record (inst (name (codes "f") 27)) { dims = lend ((expr.Number 8 (at 29)) ∷ []) }) ∷ [])))) ∷ []) (Some (insts_of [] ((inst (name (codes "a") 35)) ∷ [])))) ∷
+    item.Def (component kind.Field None [] 18 [] (Some (insts_of [] ((record (inst (name (codes "f") 27)) { dims = lend ((expr.Number 8 (at 29)) ∷ []) }) ∷ [])))) ∷ []) (Some (insts_of [] ((inst (name (codes "a") 35)) ∷ [])))) ∷
     item.Dynamic (path_of ((step_to (name (codes "a") 38) []) ∷ [])) (assign (name (codes "regwidth") 41) None (value (expr.Number 8 (at 52))) 38) ∷
     item.Def (component kind.Reg None [] 55 (
-      item.Local (assign (name (codes "regwidth") 61) None (value (expr.Number 8 (at 70))) 61) ∷
-      item.Def (component kind.Field None [] 73 [] (Some (insts_of [] ((record (inst (name (codes "f") 82)) { dims = lend ((expr.Number 8 (at 84)) ∷ []) }) ∷ [])))) ∷ []) (Some (insts_of [] ((inst (name (codes "b") 90)) ∷ [])))) ∷ []) None) ∷ [])
+    item.Local (assign (name (codes "regwidth") 61) None (value (expr.Number 8 (at 70))) 61) ∷
+    item.Def (component kind.Field None [] 73 [] (Some (insts_of [] ((record (inst (name (codes "f") 82)) { dims = lend ((expr.Number 8 (at 84)) ∷ []) }) ∷ [])))) ∷ []) (Some (insts_of [] ((inst (name (codes "b") 90)) ∷ [])))) ∷ []) None) ∷ [])
 
 -- addrmap m { regfile { reg { field { sw=rw; hw=w; } f; } a @0; reg { field { sw=w; hw=r; } g; } b @0; } x; x.a.f->sw = r; };
 abbrev pub access_from_outside : Source
 access_from_outside = source (
-  item.Def (component kind.Addrmap (Some (name (codes "m") 8)) [] 8 (
+    item.Def (component kind.Addrmap (Some (name (codes "m") 8)) [] 8 (
     item.Def (component kind.Regfile None [] 12 (
-      item.Def (component kind.Reg None [] 22 (
-        item.Def (component kind.Field None [] 28 (
-          item.Local (assign (name (codes "sw") 36) None (word keyword.Rw) 36) ∷
-          item.Local (assign (name (codes "hw") 43) None (word keyword.W) 43) ∷ []) (Some (insts_of [] ((inst (name (codes "f") 51)) ∷ [])))) ∷ []) (Some (insts_of [] ((record (inst (name (codes "a") 56)) { at = Some (expr.Number 0 (at 59)) }) ∷ [])))) ∷
-      item.Def (component kind.Reg None [] 62 (
-        item.Def (component kind.Field None [] 68 (
-          item.Local (assign (name (codes "sw") 76) None (word keyword.W) 76) ∷
-          item.Local (assign (name (codes "hw") 82) None (word keyword.R) 82) ∷ []) (Some (insts_of [] ((inst (name (codes "g") 90)) ∷ [])))) ∷ []) (Some (insts_of [] ((record (inst (name (codes "b") 95)) { at = Some (expr.Number 0 (at 98)) }) ∷ [])))) ∷ []) (Some (insts_of [] ((inst (name (codes "x") 103)) ∷ [])))) ∷
+    item.Def (component kind.Reg None [] 22 (
+    item.Def (component kind.Field None [] 28 (
+    item.Local (assign (name (codes "sw") 36) None (word keyword.Rw) 36) ∷
+    item.Local (assign (name (codes "hw") 43) None (word keyword.W) 43) ∷ []) (Some (insts_of [] ((inst (name (codes "f") 51)) ∷ [])))) ∷ []) (Some (insts_of [] ((record (inst (name (codes "a") 56)) { at = Some (expr.Number 0 (at 59)) }) ∷ [])))) ∷
+    item.Def (component kind.Reg None [] 62 (
+    item.Def (component kind.Field None [] 68 (
+    item.Local (assign (name (codes "sw") 76) None (word keyword.W) 76) ∷
+    item.Local (assign (name (codes "hw") 82) None (word keyword.R) 82) ∷ []) (Some (insts_of [] ((inst (name (codes "g") 90)) ∷ [])))) ∷ []) (Some (insts_of [] ((record (inst (name (codes "b") 95)) { at = Some (expr.Number 0 (at 98)) }) ∷ [])))) ∷ []) (Some (insts_of [] ((inst (name (codes "x") 103)) ∷ [])))) ∷
     item.Dynamic (path_of ((step_to (name (codes "x") 106) []) ∷ (step_to (name (codes "a") 108) []) ∷ (step_to (name (codes "f") 110) []) ∷ [])) (assign (name (codes "sw") 113) None (word keyword.R) 106) ∷ []) None) ∷ [])

@@ -156,12 +156,12 @@ alias_items = source (
 -- addrmap m { reg t { signal {} c; field {} f; }; t p; alias p t s; reg { field { next = s.c; } g; } b; };
 abbrev pub signal_in_an_alias : Source
 signal_in_an_alias = source (
-  item.Def (component kind.Addrmap (Some (name (codes "m") 8)) [] 8 (
+    item.Def (component kind.Addrmap (Some (name (codes "m") 8)) [] 8 (
     item.Def (component kind.Reg (Some (name (codes "t") 16)) [] 16 (
-      item.Def (component kind.Signal None [] 20 [] (Some (insts_of [] ((inst (name (codes "c") 30)) ∷ [])))) ∷
-      item.Def (component kind.Field None [] 33 [] (Some (insts_of [] ((inst (name (codes "f") 42)) ∷ [])))) ∷ []) None) ∷
+    item.Def (component kind.Signal None [] 20 [] (Some (insts_of [] ((inst (name (codes "c") 30)) ∷ [])))) ∷
+    item.Def (component kind.Field None [] 33 [] (Some (insts_of [] ((inst (name (codes "f") 42)) ∷ [])))) ∷ []) None) ∷
     item.Made None (name (codes "t") 48) (insts_of [] ((inst (name (codes "p") 50)) ∷ [])) ∷
     item.Made (Some (name (codes "p") 59)) (name (codes "t") 61) (insts_of [] ((inst (name (codes "s") 63)) ∷ [])) ∷
     item.Def (component kind.Reg None [] 66 (
-      item.Def (component kind.Field None [] 72 (
-        item.Local (assign (name (codes "next") 80) None (value (expr.Ref (path_of ((step_to (name (codes "s") 87) []) ∷ (step_to (name (codes "c") 89) []) ∷ [])) None)) 80) ∷ []) (Some (insts_of [] ((inst (name (codes "g") 94)) ∷ [])))) ∷ []) (Some (insts_of [] ((inst (name (codes "b") 99)) ∷ [])))) ∷ []) None) ∷ [])
+    item.Def (component kind.Field None [] 72 (
+    item.Local (assign (name (codes "next") 80) None (value (expr.Ref (path_of ((step_to (name (codes "s") 87) []) ∷ (step_to (name (codes "c") 89) []) ∷ [])) None)) 80) ∷ []) (Some (insts_of [] ((inst (name (codes "g") 94)) ∷ [])))) ∷ []) (Some (insts_of [] ((inst (name (codes "b") 99)) ∷ [])))) ∷ []) None) ∷ [])
