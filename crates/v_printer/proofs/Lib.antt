@@ -1,5 +1,4 @@
 pub mod Writing
-pub mod Hexadecimal
 pub mod Choices
 pub mod Tokens
 pub mod Laying

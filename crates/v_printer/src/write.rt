@@ -1,11 +1,12 @@
 //! Bytes and numbers.
 
-ghost use Rattle.std.specs.Prelude.{◌≡◌, ◌≤◌, ◌<◌, drop, false};
-ghost use Rattle.std.specs.Fmt.{digits, digit_glyph};
+ghost use Rattle.std.specs.Prelude.{false};
+ghost use Rattle.std.specs.Fmt.{digits};
 ghost use Rattle.v_printer.specs.Written.{Writes};
 
 use itoa::{Buffer, Integer};
 use rb_edge::{Failed, Sink, write_all};
+use rb_text::hex_digits;
 
 /// Writes the bytes.
 pub(crate) fn put<K: Sink>(out: &mut K, bytes: &[u8]) -> Result<(), Failed>
@@ -20,35 +21,6 @@ pub(crate) fn put_decimal<K: Sink, I: Integer>(out: &mut K, number: I) -> Result
 {
     let mut buffer = Buffer::new();
     put(out, buffer.format(number).as_bytes())
-}
-
-/// The hexadecimal digit of a number below 16.
-fn hex_digit(number: u8) -> u8
-    requires { number < 16 }
-    ensures { result ≡ digit_glyph false number }
-{
-    if number < 10 {
-        b'0' + number
-    } else {
-        b'a' + (number - 10)
-    }
-}
-
-/// Puts the hexadecimal digits of a number at the end of the bytes, and gives the place of the first.
-fn hex_digits(number: u128, bytes: &mut [u8; 32]) -> usize
-    ensures within { result ≤ 32 }
-    ensures digits { drop result bytes.new ≡ digits 16 false number }
-{
-    let mut left = number;
-    let mut at = 32;
-    while left >= 16 {
-        at -= 1;
-        bytes[at] = hex_digit((left % 16) as u8);
-        left /= 16;
-    }
-    at -= 1;
-    bytes[at] = hex_digit(left as u8);
-    at
 }
 
 /// Writes a number in hexadecimal digits.
