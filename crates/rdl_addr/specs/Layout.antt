@@ -7,7 +7,7 @@ use Rattle.rdl_tree.specs.declared.item.Kind.{Kind}
 use Rattle.rdl_tree.specs.declared.item.Kind.TheVariants as kind
 use Rattle.rdl_tree.specs.declared.item.Source.{Source}
 use Rattle.rdl_props.specs.declared.prop.Prop.TheVariants as prop
-use Rattle.rdl_values.specs.Instances.{Instance, body, kind_of, children, given_by, seen, top_of, most_names}
+use Rattle.rdl_values.specs.Instances.{Instance, kind_of, children, given_by, seen_in, top_of, most_names}
 use Rattle.rdl_layers.specs.Settings.{Meaning, named, setting}
 use Rattle.rdl_layers.specs.Phase4.{number_at, numbers_of, first_or}
 use Rattle.rdl_layers.specs.Fields.{is_a}
@@ -119,7 +119,7 @@ greatest_end mode gs = greatest (map (λ g. g.1 + span mode g.0) (starts mode 0 
 
 -- the elements of each instance of a body that has an address
 abbrev pub instances : Instance → List (List Instance)
-instances n = map (λ s. filter has_address (given_by s)) (seen (n.above ++ (body n ∷ [])) (body n))
+instances n = map (λ s. filter has_address (given_by s)) (seen_in n)
 
 -- Sizes and alignments, of nodes with no more than so many levels below them.
 

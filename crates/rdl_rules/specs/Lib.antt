@@ -3,6 +3,7 @@ pub mod Feeds
 pub mod FieldRules
 pub mod Fields
 pub mod Numbers
+pub mod Phase5
 pub mod Phase6
 pub mod ReferenceRules
 pub mod RegisterRules

@@ -50,9 +50,13 @@ elements s c _ _ = []
 abbrev pub given_by : Seen → List Instance
 given_by s = cond (is_empty (no_node s)) (flat_map (λ c. elements s c (bound_of s.use_ c) (dims_of s.use_ c.def.kind)) (option_to_list s.use_.closure)) []
 
+-- the uses in the body of a node
+abbrev pub seen_in : Instance → List Seen
+seen_in n = seen (n.above ++ (body n ∷ [])) (body n)
+
 -- the nodes in the body of a node, in text order
 abbrev pub children : Instance → List Instance
-children n = flat_map given_by (seen (n.above ++ (body n ∷ [])) (body n))
+children n = flat_map given_by (seen_in n)
 
 -- the signals at the root
 abbrev pub signals : Source → List Instance

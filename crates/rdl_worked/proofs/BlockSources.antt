@@ -1,5 +1,5 @@
 -- Sources whose blocks are read off.
-use Rattle.std.proofs.Common.{[], ◌∷◌, None, Some, codes, false}
+use Rattle.std.proofs.Common.{true, false, [], ◌∷◌, None, Some, codes, false}
 use Rattle.rdl_tree.specs.declared.item.Item.TheVariants as item
 use Rattle.rdl_tree.specs.declared.item.Source.{Source}
 use Rattle.rdl_tree.specs.declared.expr.Expr.TheVariants as expr
@@ -204,3 +204,107 @@ with_alias = source (
     item.Local (assign (name (codes "woset") 99) None None 99) ∷ []) (Some (insts_of [] ((record (inst (name (codes "e") 108)) { dims = lend ((expr.Number 4 (at 110)) ∷ []) }) ∷ [])))) ∷ []) None) ∷
     item.Made None (name (codes "P") 117) (insts_of [] ((inst (name (codes "p") 119)) ∷ [])) ∷
     item.Made (Some (name (codes "p") 128)) (name (codes "Q") 130) (insts_of [] ((inst (name (codes "s") 132)) ∷ [])) ∷ []) None) ∷ [])
+
+-- signal {} s;
+-- addrmap r {
+--   signal { field_reset; activelow; async; } s; signal { signalwidth = 4; } en;
+--   reg t {
+--     regwidth = 64; accesswidth = 16;
+--     field { sw=r; hw=w; } wi[4]; field { sw=rw; hw=w; posedge intr; woclr; sticky = false; } ev[4] = 0;
+--     field { sw=r; hw=w; nonsticky intr; } ns[4]; field { sw=rw; hw=na; } cfg[4] = 3;
+--     field { sw=r; hw=na; hwenable = cfg; } ko[4] = 5; field { sw=r; hw=r; hwset; } st;
+--     field { sw=rw; hw=r; singlepulse; } pu = 0;
+--     field { sw=r; hw=rw; counter; we; decrvalue = 2; decrsaturate; underflow; threshold = 3; } ct[2] = 1;
+--     field { sw=r; hw=w; } nx[4]; field { sw=w; hw=r; } cm[27:24] = 0;
+--   };
+--   reg q {
+--     regwidth = 64; accesswidth = 16;
+--     field { sw=rw; swwel; } wi[3:0]; field { sw=rw1; onwrite = wset; } cfg[15:12] = 9;
+--     field { sw=r; rclr; } pu[21:21]; field { sw=r; counter; intr; } st[20:20];
+--   };
+--   t p; alias p q x;
+--   p.ev->enable = en; p.ev->haltmask = p.cfg; p.nx->next = en; p.ct->incr = p->halt; p.ev->sticky = true;
+--   p.ko->hw = w; p.wi->hwclr = p.ev->ored; p.cfg->resetsignal = s;
+-- };
+abbrev pub many_kinds : Source
+many_kinds = source (
+    item.Def (component kind.Signal None [] 0 [] (Some (insts_of [] ((inst (name (codes "s") 10)) ∷ [])))) ∷
+    item.Def (component kind.Addrmap (Some (name (codes "r") 21)) [] 21 (
+    item.Def (component kind.Signal None [] 27 (
+    item.Local (assign (name (codes "field_reset") 36) None None 36) ∷
+    item.Local (assign (name (codes "activelow") 49) None None 49) ∷
+    item.Local (assign (name (codes "async") 60) None None 60) ∷ []) (Some (insts_of [] ((inst (name (codes "s") 69)) ∷ [])))) ∷
+    item.Def (component kind.Signal None [] 72 (
+    item.Local (assign (name (codes "signalwidth") 81) None (value (expr.Number 4 (at 95))) 81) ∷ []) (Some (insts_of [] ((inst (name (codes "en") 100)) ∷ [])))) ∷
+    item.Def (component kind.Reg (Some (name (codes "t") 110)) [] 110 (
+    item.Local (assign (name (codes "regwidth") 118) None (value (expr.Number 64 (at 129))) 118) ∷
+    item.Local (assign (name (codes "accesswidth") 133) None (value (expr.Number 16 (at 147))) 133) ∷
+    item.Def (component kind.Field None [] 155 (
+    item.Local (assign (name (codes "sw") 163) None (word keyword.R) 163) ∷
+    item.Local (assign (name (codes "hw") 169) None (word keyword.W) 169) ∷ []) (Some (insts_of [] ((record (inst (name (codes "wi") 177)) { dims = lend ((expr.Number 4 (at 180)) ∷ []) }) ∷ [])))) ∷
+    item.Def (component kind.Field None [] 184 (
+    item.Local (assign (name (codes "sw") 192) None (word keyword.Rw) 192) ∷
+    item.Local (assign (name (codes "hw") 199) None (word keyword.W) 199) ∷
+    item.Local (assign (name (codes "intr") 213) (Some edge.Posedge) None 205) ∷
+    item.Local (assign (name (codes "woclr") 219) None None 219) ∷
+    item.Local (assign (name (codes "sticky") 226) None (value (expr.Flag false (at 235))) 226) ∷ []) (Some (insts_of [] ((record (inst (name (codes "ev") 244)) { dims = lend ((expr.Number 4 (at 247)) ∷ []); reset = Some (expr.Number 0 (at 252)) }) ∷ [])))) ∷
+    item.Def (component kind.Field None [] 259 (
+    item.Local (assign (name (codes "sw") 267) None (word keyword.R) 267) ∷
+    item.Local (assign (name (codes "hw") 273) None (word keyword.W) 273) ∷
+    item.Local (assign (name (codes "intr") 289) (Some edge.Nonsticky) None 279) ∷ []) (Some (insts_of [] ((record (inst (name (codes "ns") 297)) { dims = lend ((expr.Number 4 (at 300)) ∷ []) }) ∷ [])))) ∷
+    item.Def (component kind.Field None [] 304 (
+    item.Local (assign (name (codes "sw") 312) None (word keyword.Rw) 312) ∷
+    item.Local (assign (name (codes "hw") 319) None (word keyword.Na) 319) ∷ []) (Some (insts_of [] ((record (inst (name (codes "cfg") 328)) { dims = lend ((expr.Number 4 (at 332)) ∷ []); reset = Some (expr.Number 3 (at 337)) }) ∷ [])))) ∷
+    item.Def (component kind.Field None [] 344 (
+    item.Local (assign (name (codes "sw") 352) None (word keyword.R) 352) ∷
+    item.Local (assign (name (codes "hw") 358) None (word keyword.Na) 358) ∷
+    item.Local (assign (name (codes "hwenable") 365) None (value (expr.Ref (path_of ((step_to (name (codes "cfg") 376) []) ∷ [])) None)) 365) ∷ []) (Some (insts_of [] ((record (inst (name (codes "ko") 383)) { dims = lend ((expr.Number 4 (at 386)) ∷ []); reset = Some (expr.Number 5 (at 391)) }) ∷ [])))) ∷
+    item.Def (component kind.Field None [] 394 (
+    item.Local (assign (name (codes "sw") 402) None (word keyword.R) 402) ∷
+    item.Local (assign (name (codes "hw") 408) None (word keyword.R) 408) ∷
+    item.Local (assign (name (codes "hwset") 414) None None 414) ∷ []) (Some (insts_of [] ((inst (name (codes "st") 423)) ∷ [])))) ∷
+    item.Def (component kind.Field None [] 431 (
+    item.Local (assign (name (codes "sw") 439) None (word keyword.Rw) 439) ∷
+    item.Local (assign (name (codes "hw") 446) None (word keyword.R) 446) ∷
+    item.Local (assign (name (codes "singlepulse") 452) None None 452) ∷ []) (Some (insts_of [] ((record (inst (name (codes "pu") 467)) { reset = Some (expr.Number 0 (at 472)) }) ∷ [])))) ∷
+    item.Def (component kind.Field None [] 479 (
+    item.Local (assign (name (codes "sw") 487) None (word keyword.R) 487) ∷
+    item.Local (assign (name (codes "hw") 493) None (word keyword.Rw) 493) ∷
+    item.Local (assign (name (codes "counter") 500) None None 500) ∷
+    item.Local (assign (name (codes "we") 509) None None 509) ∷
+    item.Local (assign (name (codes "decrvalue") 513) None (value (expr.Number 2 (at 525))) 513) ∷
+    item.Local (assign (name (codes "decrsaturate") 528) None None 528) ∷
+    item.Local (assign (name (codes "underflow") 542) None None 542) ∷
+    item.Local (assign (name (codes "threshold") 553) None (value (expr.Number 3 (at 565))) 553) ∷ []) (Some (insts_of [] ((record (inst (name (codes "ct") 570)) { dims = lend ((expr.Number 2 (at 573)) ∷ []); reset = Some (expr.Number 1 (at 578)) }) ∷ [])))) ∷
+    item.Def (component kind.Field None [] 585 (
+    item.Local (assign (name (codes "sw") 593) None (word keyword.R) 593) ∷
+    item.Local (assign (name (codes "hw") 599) None (word keyword.W) 599) ∷ []) (Some (insts_of [] ((record (inst (name (codes "nx") 607)) { dims = lend ((expr.Number 4 (at 610)) ∷ []) }) ∷ [])))) ∷
+    item.Def (component kind.Field None [] 614 (
+    item.Local (assign (name (codes "sw") 622) None (word keyword.W) 622) ∷
+    item.Local (assign (name (codes "hw") 628) None (word keyword.R) 628) ∷ []) (Some (insts_of [] ((record (inst (name (codes "cm") 636)) { range = (Some ((expr.Number 27 (at 639)), (expr.Number 24 (at 642)))); reset = Some (expr.Number 0 (at 648)) }) ∷ [])))) ∷ []) None) ∷
+    item.Def (component kind.Reg (Some (name (codes "q") 662)) [] 662 (
+    item.Local (assign (name (codes "regwidth") 670) None (value (expr.Number 64 (at 681))) 670) ∷
+    item.Local (assign (name (codes "accesswidth") 685) None (value (expr.Number 16 (at 699))) 685) ∷
+    item.Def (component kind.Field None [] 707 (
+    item.Local (assign (name (codes "sw") 715) None (word keyword.Rw) 715) ∷
+    item.Local (assign (name (codes "swwel") 722) None None 722) ∷ []) (Some (insts_of [] ((record (inst (name (codes "wi") 731)) { range = (Some ((expr.Number 3 (at 734)), (expr.Number 0 (at 736)))) }) ∷ [])))) ∷
+    item.Def (component kind.Field None [] 740 (
+    item.Local (assign (name (codes "sw") 748) None (word keyword.Rw1) 748) ∷
+    item.Local (assign (name (codes "onwrite") 756) None (word keyword.Wset) 756) ∷ []) (Some (insts_of [] ((record (inst (name (codes "cfg") 774)) { range = (Some ((expr.Number 15 (at 778)), (expr.Number 12 (at 781)))); reset = Some (expr.Number 9 (at 787)) }) ∷ [])))) ∷
+    item.Def (component kind.Field None [] 794 (
+    item.Local (assign (name (codes "sw") 802) None (word keyword.R) 802) ∷
+    item.Local (assign (name (codes "rclr") 808) None None 808) ∷ []) (Some (insts_of [] ((record (inst (name (codes "pu") 816)) { range = (Some ((expr.Number 21 (at 819)), (expr.Number 21 (at 822)))) }) ∷ [])))) ∷
+    item.Def (component kind.Field None [] 827 (
+    item.Local (assign (name (codes "sw") 835) None (word keyword.R) 835) ∷
+    item.Local (assign (name (codes "counter") 841) None None 841) ∷
+    item.Local (assign (name (codes "intr") 850) None None 850) ∷ []) (Some (insts_of [] ((record (inst (name (codes "st") 858)) { range = (Some ((expr.Number 20 (at 861)), (expr.Number 20 (at 864)))) }) ∷ [])))) ∷ []) None) ∷
+    item.Made None (name (codes "t") 876) (insts_of [] ((inst (name (codes "p") 878)) ∷ [])) ∷
+    item.Made (Some (name (codes "p") 887)) (name (codes "q") 889) (insts_of [] ((inst (name (codes "x") 891)) ∷ [])) ∷
+    item.Dynamic (path_of ((step_to (name (codes "p") 896) []) ∷ (step_to (name (codes "ev") 898) []) ∷ [])) (assign (name (codes "enable") 902) None (value (expr.Ref (path_of ((step_to (name (codes "en") 911) []) ∷ [])) None)) 896) ∷
+    item.Dynamic (path_of ((step_to (name (codes "p") 915) []) ∷ (step_to (name (codes "ev") 917) []) ∷ [])) (assign (name (codes "haltmask") 921) None (value (expr.Ref (path_of ((step_to (name (codes "p") 932) []) ∷ (step_to (name (codes "cfg") 934) []) ∷ [])) None)) 915) ∷
+    item.Dynamic (path_of ((step_to (name (codes "p") 939) []) ∷ (step_to (name (codes "nx") 941) []) ∷ [])) (assign (name (codes "next") 945) None (value (expr.Ref (path_of ((step_to (name (codes "en") 952) []) ∷ [])) None)) 939) ∷
+    item.Dynamic (path_of ((step_to (name (codes "p") 956) []) ∷ (step_to (name (codes "ct") 958) []) ∷ [])) (assign (name (codes "incr") 962) None (value (expr.Ref (path_of ((step_to (name (codes "p") 969) []) ∷ [])) (Some (name (codes "halt") 972)))) 956) ∷
+    item.Dynamic (path_of ((step_to (name (codes "p") 978) []) ∷ (step_to (name (codes "ev") 980) []) ∷ [])) (assign (name (codes "sticky") 984) None (value (expr.Flag true (at 993))) 978) ∷
+    item.Dynamic (path_of ((step_to (name (codes "p") 1001) []) ∷ (step_to (name (codes "ko") 1003) []) ∷ [])) (assign (name (codes "hw") 1007) None (word keyword.W) 1001) ∷
+    item.Dynamic (path_of ((step_to (name (codes "p") 1015) []) ∷ (step_to (name (codes "wi") 1017) []) ∷ [])) (assign (name (codes "hwclr") 1021) None (value (expr.Ref (path_of ((step_to (name (codes "p") 1029) []) ∷ (step_to (name (codes "ev") 1031) []) ∷ [])) (Some (name (codes "ored") 1035)))) 1015) ∷
+    item.Dynamic (path_of ((step_to (name (codes "p") 1041) []) ∷ (step_to (name (codes "cfg") 1043) []) ∷ [])) (assign (name (codes "resetsignal") 1048) None (value (expr.Ref (path_of ((step_to (name (codes "s") 1062) []) ∷ [])) None)) 1041) ∷ []) None) ∷ [])

@@ -1,5 +1,5 @@
 -- What the definitions give for register blocks.
-use Rattle.std.proofs.Common.{drop, ◌≡◌, ℕ, Bool, true, false, List, [], ◌∷◌, ◌++◌, refl, map, flat_map, filter, Option, None, Some, codes, arith}
+use Rattle.std.proofs.Common.{drop, take, ◌≡◌, ℕ, Bool, true, false, List, [], ◌∷◌, ◌++◌, refl, map, flat_map, filter, Option, None, Some, codes, arith}
 use Rattle.std.proofs.lemmas.List.Sorted.{IsPermutation-refl}
 use Rattle.std.specs.Fmt.{digits}
 use Rattle.rb_base.specs.declared.edge.Edge.TheVariants as edge
@@ -35,22 +35,22 @@ use Rattle.rdl_props.specs.Table.{props}
 use Rattle.rdl_values.specs.Instances.{nodes}
 use Rattle.rdl_elab.specs.Phase3.{failures3}
 use Rattle.rdl_layers.specs.Phase4.{failures4}
-use Rattle.rdl_addr.specs.Rules.{failures_ab, registers}
-use Rattle.rdl_refs.specs.Items.{failures_r}
+use Rattle.rdl_addr.specs.Rules.{registers}
+use Rattle.rdl_rules.specs.Phase5.{failures5}
 use Rattle.rdl_rules.specs.Phase6.{failures6}
 use Rattle.rb_base.specs.declared.fault.Fault.{Fault}
 use Rattle.rdl_rules.specs.Block.{IsBlockOf, signal_of, fields, views, reg_of}
 use Rattle.rdl_rules.specs.Numbers as numbers
 use Rattle.rdl_rules.specs.Words.{read_words, write_words}
 use Rattle.rdl_worked.proofs.AddressesSources.{read_and_write}
-use Rattle.rdl_worked.proofs.BlockSources.{one_register, serial_port, wide_register, many_resets, root_reset, counters, locked, cleared_by_a_read, with_alias}
+use Rattle.rdl_worked.proofs.BlockSources.{one_register, serial_port, wide_register, many_resets, root_reset, counters, locked, cleared_by_a_read, with_alias, many_kinds}
 
 -- All of them break no rule (that none of their references runs in a circle is not computed here).
 
 abbrev failing : Source → List Fault
-failing s = failures3 None s ++ failures4 None s ++ failures_ab None s ++ failures_r None s ++ failures6 None s
+failing s = failures3 None s ++ failures4 None s ++ failures5 None s ++ failures6 None s
 
-clean_sources : flat_map failing (one_register ∷ serial_port ∷ wide_register ∷ many_resets ∷ root_reset ∷ counters ∷ locked ∷ cleared_by_a_read ∷ with_alias ∷ read_and_write ∷ []) ≡ []
+clean_sources : flat_map failing (one_register ∷ serial_port ∷ wide_register ∷ many_resets ∷ root_reset ∷ counters ∷ locked ∷ cleared_by_a_read ∷ with_alias ∷ many_kinds ∷ read_and_write ∷ []) ≡ []
 unfolding digits props roll-Path denote.Hole.Carrier.roll Rattle.rdl_tree.specs.declared.expr.Expr.TheBlock.hidden-the_row-Step-1 denote.Hole.Carrier.hidden Rattle.rdl_tree.specs.declared.item.Item.TheBlock.hidden-the_row-Item-0
 clean_sources = refl
 
@@ -173,6 +173,17 @@ written_once_through_an_alias = refl
 alias_has_no_interrupt : map {B = Bool × Bool} (λ r. (r.alias, r.intr)) (map reg_of (numbers.registers (nodes None with_alias))) ≡ (false, true) ∷ (true, false) ∷ []
 unfolding digits props roll-Path denote.Hole.Carrier.roll Rattle.rdl_tree.specs.declared.expr.Expr.TheBlock.hidden-the_row-Step-1 denote.Hole.Carrier.hidden Rattle.rdl_tree.specs.declared.item.Item.TheBlock.hidden-the_row-Item-0
 alias_has_no_interrupt = refl
+
+-- ten kinds of fields, four of them with a second view: what hardware clears, what an alias writes or clears, and what keeps
+-- nothing of its own is told apart
+many_classes : map (λ f. f.class) (fields_in many_kinds) ≡ class.Storage ∷ class.Storage ∷ class.Wire ∷ class.Storage ∷ class.Storage ∷ class.Storage ∷ class.Storage ∷ class.Storage ∷ class.Wire ∷ class.Storage ∷ []
+unfolding digits props roll-Path denote.Hole.Carrier.roll Rattle.rdl_tree.specs.declared.expr.Expr.TheBlock.hidden-the_row-Step-1 denote.Hole.Carrier.hidden Rattle.rdl_tree.specs.declared.item.Item.TheBlock.hidden-the_row-Item-0
+many_classes = refl
+
+-- its words of 16 bits: two views of a field, and two fields at one place of which one is read and one written
+many_words : map {B = ℕ × List Slot} (λ w. (w.address, w.slots)) (take 4 (read_words (nodes None many_kinds) (registers None many_kinds))) ≡ (0, slot 0 0 0 4 ∷ slot 1 4 0 4 ∷ slot 2 8 0 4 ∷ slot 3 12 0 4 ∷ []) ∷ (2, slot 4 0 0 4 ∷ slot 5 4 0 1 ∷ slot 6 5 0 1 ∷ slot 7 6 0 2 ∷ slot 8 8 0 4 ∷ slot 9 8 0 4 ∷ []) ∷ (4, []) ∷ (6, []) ∷ []
+unfolding digits props roll-Path denote.Hole.Carrier.roll Rattle.rdl_tree.specs.declared.expr.Expr.TheBlock.hidden-the_row-Step-1 denote.Hole.Carrier.hidden Rattle.rdl_tree.specs.declared.item.Item.TheBlock.hidden-the_row-Item-0
+many_words = refl
 
 -- the parts of a block that ports come from
 abbrev shape_of : Source → Block
