@@ -1,22 +1,16 @@
 -- Which of the assignments that apply to a node decides a property (SystemRDL 2.0, 5.1.3).
-use Rattle.std.specs.Prelude.{ℕ, Bool, false, not, ◌&&◌, ◌||◌, nat_lt, ◌==◌, List, Option, Some}
+use Rattle.std.specs.Prelude.{ℕ, Bool, not, ◌&&◌, ◌||◌, nat_lt, ◌==◌, List}
 use Rattle.std.specs.List.{list_all}
 use Rattle.rdl_props.specs.declared.prop.Prop.{Prop}
-use Rattle.rdl_props.specs.declared.letter.Letter.{Letter}
-use Rattle.rdl_props.specs.Same.{same_prop, same_letter}
-use Rattle.rdl_props.specs.Table.{group_of}
+use Rattle.rdl_props.specs.Same.{same_prop}
+use Rattle.rdl_props.specs.Table.{share_group}
 use Rattle.rdl_layers.specs.declared.rank.Rank.{Rank}
 use Rattle.rdl_layers.specs.declared.rank.Rank.TheVariants as rank
 use Rattle.rdl_layers.specs.declared.candidate.Candidate.{Candidate}
 
--- they are of one group
-abbrev pub same_group : Option Letter → Option Letter → Bool
-same_group (Some a) (Some b) = same_letter a b
-same_group _ _ = false
-
 -- one is the other, or they exclude each other
 abbrev pub is_related : Prop → Prop → Bool
-is_related p q = same_prop p q || same_group (group_of p) (group_of q)
+is_related p q = same_prop p q || share_group p q
 
 -- the layers of assignments, the one that decides first at 0
 abbrev pub layer : Rank → ℕ

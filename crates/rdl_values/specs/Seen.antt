@@ -36,10 +36,6 @@ bound_of b = (b.name.text.now, val_of b.value)
 abbrev pub names_in : List Bound → List Name → List EntryValue → Names
 names_in bs ns es = record { bound = map bound_of bs; enums = map (enum_in es) ns }
 
--- the names of the body itself
-abbrev pub names_at : Env → Names
-names_at (Env' bs ns es outer) = names_in bs.now ns.now es.now
-
 -- an environment's bodies, the nearest first
 abbrev mutual
   pub around_of : Env → Around

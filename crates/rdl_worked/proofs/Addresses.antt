@@ -10,7 +10,7 @@ use Rattle.rdl_values.specs.Instances.{nodes}
 use Rattle.rdl_addr.specs.Bits.{bits_of}
 use Rattle.rdl_addr.specs.Rules.{failures_ab, registers}
 use Rattle.rdl_worked.proofs.Trees.{at}
-use Rattle.rdl_worked.proofs.AddressesSources.{compact_map, regalign_map, fullalign_map, odd_address, one_element_narrower, nested_map, small_stride, far_stride, read_and_write, read_and_read_write, read_and_narrow_write, shared_bits, width_from_outside, access_from_outside}
+use Rattle.rdl_worked.proofs.AddressesSources.{mode_from_outside, compact_map, regalign_map, fullalign_map, odd_address, one_element_narrower, nested_map, small_stride, far_stride, read_and_write, read_and_read_write, read_and_narrow_write, shared_bits, width_from_outside, access_from_outside}
 
 -- the addresses of the registers, in node order
 abbrev addresses : Source → List ℕ
@@ -95,3 +95,8 @@ bits_follow = refl
 bits_clash : failures_ab None shared_bits ≡ at_ rules.B2 (at 128) ∷ at_ rules.B1 (at 148) ∷ []
 unfolding digits props roll-Path denote.Hole.Carrier.roll Rattle.rdl_tree.specs.declared.expr.Expr.TheBlock.hidden-the_row-Step-1 denote.Hole.Carrier.hidden Rattle.rdl_tree.specs.declared.item.Item.TheBlock.hidden-the_row-Item-0
 bits_clash = refl
+
+-- so do widths and the mode that assignments from outside give, in a register file and in a nested map
+mode_from_outside_counts : addresses mode_from_outside ≡ 0 ∷ 4 ∷ 8 ∷ 9 ∷ 13 ∷ []
+unfolding digits props roll-Path denote.Hole.Carrier.roll Rattle.rdl_tree.specs.declared.expr.Expr.TheBlock.hidden-the_row-Step-1 denote.Hole.Carrier.hidden Rattle.rdl_tree.specs.declared.item.Item.TheBlock.hidden-the_row-Item-0
+mode_from_outside_counts = refl

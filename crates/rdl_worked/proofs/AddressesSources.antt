@@ -192,3 +192,25 @@ access_from_outside = source (
     item.Local (assign (name (codes "sw") 76) None (word keyword.W) 76) ∷
     item.Local (assign (name (codes "hw") 82) None (word keyword.R) 82) ∷ []) (Some (insts_of [] ((inst (name (codes "g") 90)) ∷ [])))) ∷ []) (Some (insts_of [] ((record (inst (name (codes "b") 95)) { at = Some (expr.Number 0 (at 98)) }) ∷ [])))) ∷ []) (Some (insts_of [] ((inst (name (codes "x") 103)) ∷ [])))) ∷
     item.Dynamic (path_of ((step_to (name (codes "x") 106) []) ∷ (step_to (name (codes "a") 108) []) ∷ (step_to (name (codes "f") 110) []) ∷ [])) (assign (name (codes "sw") 113) None (word keyword.R) 106) ∷ []) None) ∷ [])
+
+-- addrmap e { regfile { reg { regwidth = 8; field {} f[8]; } a, b; a->regwidth = 16; } g; g.b->regwidth = 32; addrmap { reg { regwidth = 8; field {} f[8]; } x; reg { field {} f[8]; accesswidth = 8; } y; } m; m->addressing = compact; reg { regwidth = 8; field {} f[8]; } z; };
+abbrev pub mode_from_outside : Source
+mode_from_outside = source (
+    item.Def (component kind.Addrmap (Some (name (codes "e") 8)) [] 8 (
+    item.Def (component kind.Regfile None [] 12 (
+    item.Def (component kind.Reg None [] 22 (
+    item.Local (assign (name (codes "regwidth") 28) None (value (expr.Number 8 (at 39))) 28) ∷
+    item.Def (component kind.Field None [] 42 [] (Some (insts_of [] ((record (inst (name (codes "f") 51)) { dims = lend ((expr.Number 8 (at 53)) ∷ []) }) ∷ [])))) ∷ []) (Some (insts_of [] ((inst (name (codes "a") 59)) ∷ (inst (name (codes "b") 62)) ∷ [])))) ∷
+    item.Dynamic (path_of ((step_to (name (codes "a") 65) []) ∷ [])) (assign (name (codes "regwidth") 68) None (value (expr.Number 16 (at 79))) 65) ∷ []) (Some (insts_of [] ((inst (name (codes "g") 85)) ∷ [])))) ∷
+    item.Dynamic (path_of ((step_to (name (codes "g") 88) []) ∷ (step_to (name (codes "b") 90) []) ∷ [])) (assign (name (codes "regwidth") 93) None (value (expr.Number 32 (at 104))) 88) ∷
+    item.Def (component kind.Addrmap None [] 108 (
+    item.Def (component kind.Reg None [] 118 (
+    item.Local (assign (name (codes "regwidth") 124) None (value (expr.Number 8 (at 135))) 124) ∷
+    item.Def (component kind.Field None [] 138 [] (Some (insts_of [] ((record (inst (name (codes "f") 147)) { dims = lend ((expr.Number 8 (at 149)) ∷ []) }) ∷ [])))) ∷ []) (Some (insts_of [] ((inst (name (codes "x") 155)) ∷ [])))) ∷
+    item.Def (component kind.Reg None [] 158 (
+    item.Def (component kind.Field None [] 164 [] (Some (insts_of [] ((record (inst (name (codes "f") 173)) { dims = lend ((expr.Number 8 (at 175)) ∷ []) }) ∷ [])))) ∷
+    item.Local (assign (name (codes "accesswidth") 179) None (value (expr.Number 8 (at 193))) 179) ∷ []) (Some (insts_of [] ((inst (name (codes "y") 198)) ∷ [])))) ∷ []) (Some (insts_of [] ((inst (name (codes "m") 203)) ∷ [])))) ∷
+    item.Dynamic (path_of ((step_to (name (codes "m") 206) []) ∷ [])) (assign (name (codes "addressing") 209) None (word keyword.Compact) 206) ∷
+    item.Def (component kind.Reg None [] 231 (
+    item.Local (assign (name (codes "regwidth") 237) None (value (expr.Number 8 (at 248))) 237) ∷
+    item.Def (component kind.Field None [] 251 [] (Some (insts_of [] ((record (inst (name (codes "f") 260)) { dims = lend ((expr.Number 8 (at 262)) ∷ []) }) ∷ [])))) ∷ []) (Some (insts_of [] ((inst (name (codes "z") 268)) ∷ [])))) ∷ []) None) ∷ [])
