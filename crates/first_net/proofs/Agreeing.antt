@@ -5,22 +5,19 @@ use Rattle.rb_base.specs.declared.ports.Pin.{Pin}
 use Rattle.rb_base.specs.declared.ports.Port.{Port}
 use Rattle.rtl_net.specs.Net.{Net}
 use Rattle.v_printer.specs.TextOf.{IsTextOf}
-use Rattle.v_printer.specs.Header as printed
 use Rattle.v_printer.specs.Module as printed_module
 use Rattle.rb_model.specs.declared.block.Block.{Block}
 use Rattle.rb_model.specs.Kept.{kept_pins}
 use Rattle.rb_model.specs.Ports.{ports, module_name}
-use Rattle.rb_model.specs.Header.{header}
+use Rattle.v_design.specs.Header.{header}
 use Rattle.rb_model.specs.Agreement.{Agrees}
 use Rattle.first_net.specs.Netlist.{IsNetlistOf}
-use Rattle.first_net.proofs.Headers.{header_same}
 
 pub agrees : (net : Net) (b : Block) (text : List ℕ) → IsNetlistOf net b → IsTextOf net text → Agrees text b
 agrees net b text is of =
-    let head : printed.header net.name (printed_module.ports net) ≡ header (module_name b) (ports b) =
-    ap (λ (n : List ℕ). printed.header n (printed_module.ports net)) is.named
-    ∙ ap (λ (ps : List Port). printed.header (module_name b) ps) is.ported
-    ∙ header_same (module_name b) (ports b) in
+    let head : header net.name (printed_module.ports net) ≡ header (module_name b) (ports b) =
+    ap (λ (n : List ℕ). header n (printed_module.ports net)) is.named
+    ∙ ap (λ (ps : List Port). header (module_name b) ps) is.ported in
     let P : List Pin → Type 0 = λ ps. (p : Pin) → Contains ps p ↔ Contains (kept_pins b) p in
     record {
       tree = of.tree;

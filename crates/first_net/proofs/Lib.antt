@@ -1,4 +1,3 @@
-pub mod Headers
 pub mod Agreeing
 pub mod Answering
 pub mod Running

@@ -12,7 +12,7 @@ use Rattle.rb_model.specs.Kept.{Kept, Map, kept, kept_pins, register_name, Fits}
 use Rattle.rb_model.specs.Ports.{ports, input_pins, module_name}
 use Rattle.rb_model.specs.Protocol.{Bus, bus_of, KeepsProtocol}
 use Rattle.rb_model.specs.Run.{MachineRun, pins_of}
-use Rattle.rb_model.specs.Header.{header}
+use Rattle.v_design.specs.Header.{header}
 
 -- the registers contain the values of the map
 abbrev pub Holds : Block → Map → Values → Type 0

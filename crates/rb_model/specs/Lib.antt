@@ -8,7 +8,6 @@ pub mod Run
 pub mod References
 pub mod SoundField
 pub mod Sound
-pub mod Header
 pub mod Agreement
 pub mod Own
 pub mod PinsHave

@@ -6,3 +6,4 @@ pub mod WellFormed
 pub mod Run
 pub mod Fits
 pub mod Seen
+pub mod Header

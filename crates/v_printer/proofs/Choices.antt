@@ -16,7 +16,7 @@ use Rattle.rtl_net.proofs.Widths.{width_at, width_most}
 use Rattle.rtl_net.proofs.Making.{wire_width}
 use Rattle.v_design.specs.Tree.{Plain, Joined, Whole, Bit, Part, Sized, edge_word}
 use Rattle.v_design.specs.declared.design.VTwo.TheVariants.{And}
-use Rattle.v_printer.specs.Header.{range_text}
+use Rattle.v_design.specs.Header.{range_text}
 use Rattle.v_printer.specs.Module.{selected, node_name, wire_name, block}
 use Rattle.v_printer.specs.Layout.{term_text, operand_text, negation_text, constant_text, event_text, test_text, reset_value_text, next_text, stmt_text, line_text}
 use Rattle.v_printer.specs.declared.section.Section.TheVariants.{Wires}

@@ -8,7 +8,7 @@ use Rattle.v_design.specs.Lexemes.{Token, Name, Number}
 use Rattle.v_design.specs.Tree.{Tree, Statement, Assign, Clocked, Resettable, Term, Operand, Operands, Plain, Prefixed, Joined, Chosen, Whole, Bit, Part, Sized, Braced, Grouped, no_more, and_also, one_word, two_word, dir_word, decl_word, edge_word}
 use Rattle.v_design.proofs.Printing.{printer}
 use Rattle.v_design.proofs.TreeText.{at, far, near, term_cells, operand_cells, operands_cells, range_cells, port_cells, ports_cells, decls_cells, negation_cells, stmt_cells, stmts_cells, tree_cells}
-use Rattle.v_printer.specs.Header.{range_text, port_text, ports_text, header}
+use Rattle.v_design.specs.Header.{range_text, port_text, ports_text, header}
 use Rattle.v_printer.specs.Layout.{constant_text, term_text, operand_text, operands_text, decl_text, negation_text, stmt_text, each_text}
 
 abbrev pub laid : List (Cell Token) → List ℕ → List ℕ

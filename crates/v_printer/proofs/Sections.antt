@@ -4,7 +4,7 @@ use Rattle.std.proofs.lemmas.Bool.Decides.{nat_tests}
 use Rattle.std.proofs.Math.Seq.{take-length}
 use Rattle.rtl_net.specs.Net.{Net}
 use Rattle.rtl_net.specs.declared.node.Seat.{Seat}
-use Rattle.v_printer.specs.Header.{port_text, ports_text, header}
+use Rattle.v_design.specs.Header.{port_text, ports_text, header}
 use Rattle.v_printer.specs.Module.{numbered, port_of, ports, register_decl, wire_decl, wire_stmt, output_stmt, register_stmt, decls, stmts, tree_of}
 use Rattle.v_printer.specs.Layout.{decl_text, stmt_text, each_text, section_text, port_line, shown_text, text_of}
 use Rattle.v_printer.specs.declared.section.Section.TheVariants.{Registers, Wires, Assignments, Blocks}

@@ -6,7 +6,7 @@ use Rattle.v_design.specs.declared.design.Decl.{Decl}
 use Rattle.rtl_net.specs.Net.{Net}
 use Rattle.rtl_net.specs.declared.node.NetNode.{NetNode}
 use Rattle.rtl_net.specs.declared.node.Seat.{Seat}
-use Rattle.v_printer.specs.Header.{range_text, port_text, header}
+use Rattle.v_design.specs.Header.{range_text, port_text, header}
 use Rattle.v_printer.specs.Module.{numbered, ports, port_of, register_decl, wire_decl, wire_stmt, output_stmt, register_stmt}
 use Rattle.v_printer.specs.declared.section.Section.{Section}
 use Rattle.v_printer.specs.declared.section.Section.TheVariants.{Registers, Wires, Assignments, Blocks}

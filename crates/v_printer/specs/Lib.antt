@@ -1,4 +1,3 @@
-pub mod Header
 pub mod Module
 pub mod Layout
 pub mod TextOf

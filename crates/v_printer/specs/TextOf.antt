@@ -9,7 +9,7 @@ use Rattle.v_design.specs.Design as design
 use Rattle.v_design.specs.Run.{Run}
 use Rattle.rtl_net.specs.Net.{Net, undriven}
 use Rattle.rtl_net.specs.Run.{NetRun, registers}
-use Rattle.v_printer.specs.Header.{header}
+use Rattle.v_design.specs.Header.{header}
 use Rattle.v_printer.specs.Module.{ports}
 
 -- each register is driven, and there are ports, each of them taken

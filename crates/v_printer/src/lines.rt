@@ -4,7 +4,7 @@ ghost use Rattle.std.specs.Prelude.{◌≡◌, ◌<◌, ◌≤◌, ◌++◌, ◌
 ghost use Rattle.rtl_net.specs.Net.{CanWire, width_in};
 ghost use Rattle.rtl_net.specs.Made.{IsMade, IsNodeMade, IsPinBelow};
 ghost use Rattle.rtl_net.specs.declared.node.Id.{Id as IdOf};
-ghost use Rattle.v_printer.specs.Header.{range_text};
+ghost use Rattle.v_design.specs.Header.{range_text};
 ghost use Rattle.v_printer.specs.Module.{numbered, wire_name, node_name, block, term_of};
 ghost use Rattle.v_printer.specs.Layout.{term_text, stmt_text, line_text, section_text, negation_text, event_text, test_text, reset_value_text, next_text};
 ghost use Rattle.v_design.specs.Tree.{edge_word};

@@ -6,7 +6,7 @@ ghost use Rattle.rb_edge.specs.Sink.{Takes, TakesPart};
 ghost use Rattle.rtl_net.specs.Net.{Stands};
 ghost use Rattle.rtl_net.specs.Made.{IsMade, IsTakenBy};
 ghost use Rattle.v_design.specs.Tree.{dir_word};
-ghost use Rattle.v_printer.specs.Header.{port_text, ports_text, header};
+ghost use Rattle.v_design.specs.Header.{port_text, ports_text, header};
 ghost use Rattle.v_printer.specs.Module.{numbered, node_name, ports, port_of, side_of};
 ghost use Rattle.v_printer.specs.Layout.{port_line, shown_text, text_of};
 ghost use Rattle.v_printer.specs.TextOf.{IsWhole, IsTextOf};

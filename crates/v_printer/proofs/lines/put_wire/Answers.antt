@@ -1,5 +1,5 @@
 use Rattle.std.proofs.Common.{codes, ◌++◌}
-use Rattle.v_printer.specs.Header.{range_text}
+use Rattle.v_design.specs.Header.{range_text}
 use Rattle.v_printer.specs.Module.{wire_name}
 use Rattle.v_printer.proofs.Writing.{and_then, stopped}
 use Rattle.v_printer.proofs.lines.put_wire.Goals as goal

@@ -1,5 +1,5 @@
 use Rattle.std.proofs.Common.{codes, ◌++◌}
-use Rattle.v_printer.specs.Header.{ports_text}
+use Rattle.v_design.specs.Header.{ports_text}
 use Rattle.v_printer.specs.Module.{ports}
 use Rattle.v_printer.proofs.Writing.{and_then, stopped, of_bytes}
 use Rattle.v_printer.proofs.module.put_header.Goals as goal

@@ -1,6 +1,6 @@
 use Rattle.std.proofs.Common.{codes, ◌++◌}
 use Rattle.v_design.specs.Tree.{dir_word}
-use Rattle.v_printer.specs.Header.{range_text}
+use Rattle.v_design.specs.Header.{range_text}
 use Rattle.v_printer.specs.Module.{side_of}
 use Rattle.v_printer.proofs.Writing.{and_then, stopped, of_bytes}
 use Rattle.v_printer.proofs.module.put_port.Goals as goal

@@ -1,4 +1,4 @@
--- The header of a module's text: one port a line.
+-- The header of a printed module: its name, and one port a line.
 use Rattle.std.specs.Prelude.{ℕ, ◌-◌, ◌==◌, if◌then◌else◌, List, [], ◌∷◌, ◌++◌, codes, decimal}
 use Rattle.rb_base.specs.declared.ports.Port.{Port}
 use Rattle.v_design.specs.Tree.{dir_word}
