@@ -12,10 +12,11 @@ use Rattle.rdl_values.specs.Values.{EnumOf, visible_enum}
 use Rattle.rdl_values.specs.Bodies.{around}
 use Rattle.rdl_values.specs.Uses.{when, at_}
 use Rattle.rdl_values.specs.Instances.{Instance}
-use Rattle.rdl_layers.specs.Settings.{Meaning, number, named, hard, intr, enum_of, setting, is_assigned}
+use Rattle.rdl_layers.specs.Settings.{Meaning, number, named, intr, enum_of, setting, is_assigned}
 use Rattle.rdl_layers.specs.Phase4.{number_at, width_of}
 use Rattle.rdl_layers.specs.Fields.{is_given, has, has_one_of, reads, writes, is_once, has_on_read, has_on_write, hardware_writes, is_counter, is_interrupt}
 use Rattle.rdl_addr.specs.Bits.{Bits}
+use Rattle.rdl_rules.specs.Fields.{hardware_first}
 
 abbrev pub at_node : Rule → Instance → Bool → List Fault
 at_node r n t = when t (at_ r n.use_.name.place)
@@ -59,14 +60,10 @@ abbrev pub is_zero : Meaning → Bool
 is_zero (number n) = n == 0
 is_zero _ = false
 
-abbrev pub is_hard : Meaning → Bool
-is_hard (hard b) = b
-is_hard _ = false
-
 abbrev pub bad_pulse : Instance → Bool
 bad_pulse f =
     has prop.Singlepulse f
-    && (not (width_of f == 1) || not (is_zero (setting f prop.Reset)) || hardware_writes f || is_hard (setting f prop.Precedence) || has_on_write f || has_on_read f || not (writes f) || is_once f)
+    && (not (width_of f == 1) || not (is_zero (setting f prop.Reset)) || hardware_writes f || hardware_first (setting f prop.Precedence) || has_on_write f || has_on_read f || not (writes f) || is_once f)
 
 -- F10: a number that the field can't hold
 abbrev pub is_above : ℕ → Meaning → Bool
