@@ -1,10 +1,11 @@
 -- The bodies round a place, and which component a name means there (SystemRDL 2.0, 5.1.4).
+use Rattle.std.specs.Option.{option_or}
 use Rattle.std.specs.Prelude.{ℕ, Bool, false, cond, List, [], ◌∷◌, ◌++◌, bytes_eq, map, Option, None, Some, option_map}
 use Rattle.rdl_tree.specs.declared.expr.Name.{Name}
 use Rattle.rdl_tree.specs.declared.item.Def.{Def}
 use Rattle.rdl_tree.specs.declared.item.Item.{Item}
 use Rattle.rdl_tree.specs.declared.item.Kind.{Kind}
-use Rattle.rdl_values.specs.Values.{Names, Around, or_else, nearest}
+use Rattle.rdl_values.specs.Values.{Names, Around, nearest}
 use Rattle.rdl_values.specs.Views as view
 use Rattle.rdl_values.specs.Views.{ItemIs, item_is}
 pub use Rattle.rdl_values.specs.Paths.{Step, Path, of_signal, below_top}
@@ -79,4 +80,4 @@ closure_in l outer f = record { def = f.1; scope = record l { before = f.0 } ∷
 -- first. A definition stands before what follows its end, so it is not visible in itself.
 abbrev pub component : List ℕ → Scope → Option Closure
 component n [] = None
-component n (l ∷ outer) = or_else (option_map (closure_in l outer) (nearest (found n) (standing l.before))) (component n outer)
+component n (l ∷ outer) = option_or (option_map (closure_in l outer) (nearest (found n) (standing l.before))) (component n outer)

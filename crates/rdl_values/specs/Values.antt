@@ -9,7 +9,7 @@ use Rattle.rdl_tree.specs.declared.expr.Name.{Name}
 use Rattle.rdl_values.specs.Views.{steps_of}
 pub use Rattle.rdl_values.specs.Constants.{Val, number, flag, text, as_number, as_flag, as_text, as_type, Outcome, fails, then, or_fails}
 pub use Rattle.rdl_values.specs.Operators.{applied}
-pub use Rattle.rdl_values.specs.Visible.{EnumOf, Names, Around, or_else, nearest, entry_named, parameter, parameter_of, visible_enum, entry_value}
+pub use Rattle.rdl_values.specs.Visible.{EnumOf, Names, Around, nearest, entry_named, parameter, parameter_of, visible_enum, entry_value}
 
 -- the name that a path of one bare name is
 abbrev pub bare : List Step → Option Name

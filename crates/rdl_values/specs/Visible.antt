@@ -1,4 +1,5 @@
 -- What an expression may name: the parameters and the enums of the bodies round it (SystemRDL 2.0, 5.1.4).
+use Rattle.std.specs.Option.{option_or}
 use Rattle.std.specs.Prelude.{ℕ, ◌&&◌, List, [], ◌∷◌, nat_lt, bytes_eq, find, Option, None, Some, option_map, Ok}
 use Rattle.rb_base.specs.declared.rule.Rule.TheVariants as rules
 use Rattle.rdl_tree.specs.declared.expr.Name.{Name}
@@ -19,14 +20,10 @@ pub record Names : Type 0 where
 abbrev pub Around : Type 0
 Around = List Names
 
-abbrev pub or_else : {A : Type 0} → Option A → Option A → Option A
-or_else None y = y
-or_else (Some x) y = Some x
-
 -- what the nearest body that has one gives
 abbrev pub nearest : {A B : Type 0} → (A → Option B) → List A → Option B
 nearest f [] = None
-nearest f (x ∷ xs) = or_else (f x) (nearest f xs)
+nearest f (x ∷ xs) = option_or (f x) (nearest f xs)
 
 -- what stands under a name, where two have it the first
 abbrev pub entry_named : {A : Type 0} → List ℕ → List (List ℕ × A) → Option A
