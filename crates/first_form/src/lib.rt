@@ -8,6 +8,3 @@ mod tokens;
 
 pub use form::{Form, read_form};
 pub use laws::{block_is_sound, one_form};
-
-#[cfg(test)]
-mod tests;

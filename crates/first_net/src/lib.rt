@@ -7,8 +7,6 @@ mod decode;
 mod gates;
 mod laws;
 mod logic;
-#[cfg(test)]
-mod tests;
 mod text;
 
 pub use assembly::netlist;

@@ -12,8 +12,6 @@ mod memory;
 mod place;
 mod ports;
 mod rule;
-#[cfg(test)]
-mod tests;
 mod text;
 
 pub use bits::{ones, part, put};

@@ -7,8 +7,6 @@ mod mem_sink;
 mod real;
 mod shelf;
 mod sink;
-#[cfg(test)]
-mod tests;
 
 pub use count_sink::CountSink;
 pub use mem_shelf::MemShelf;

@@ -7,6 +7,3 @@ pub use effects::{
     acts, after_read, after_write, counted, counting, finished, has_read_effect, is_interrupt,
     is_on, is_storage, keeps_last, latched, loaded, ones, overflows, underflows,
 };
-
-#[cfg(test)]
-mod tests;

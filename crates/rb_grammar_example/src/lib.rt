@@ -12,8 +12,6 @@
 mod laws;
 mod lexer;
 mod parser;
-#[cfg(test)]
-mod tests;
 mod token;
 mod tree;
 

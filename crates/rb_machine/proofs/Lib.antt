@@ -11,4 +11,3 @@ pub mod Stepping
 pub mod Knowing
 pub mod Shown
 pub mod Listing
-pub mod WorkedSound

@@ -7,4 +7,3 @@ pub mod Moves
 pub mod Transfers
 pub mod Places
 pub mod Machines
-pub mod Worked

@@ -14,6 +14,3 @@ mod slots;
 mod table;
 
 pub use machine::Machine;
-
-#[cfg(test)]
-mod tests;

@@ -8,6 +8,3 @@ mod numbers;
 mod runs;
 
 pub use lexer::Lexer;
-
-#[cfg(test)]
-mod tests;

@@ -10,8 +10,6 @@ mod laws;
 mod parser;
 mod properties;
 mod reading;
-#[cfg(test)]
-mod tests;
 
 pub use error::ParseError;
 pub use laws::one_verdict;

@@ -7,8 +7,6 @@ mod letter;
 mod names;
 mod prop;
 mod table;
-#[cfg(test)]
-mod tests;
 
 pub use form::Form;
 pub use letter::Letter;

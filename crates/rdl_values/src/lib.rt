@@ -5,8 +5,6 @@ mod constants;
 mod lookup;
 mod numbers;
 mod operators;
-#[cfg(test)]
-mod tests;
 mod wanted;
 
 pub use constants::eval;

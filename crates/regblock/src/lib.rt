@@ -8,8 +8,6 @@ mod loading;
 mod places;
 mod simulating;
 mod status;
-#[cfg(test)]
-mod tests;
 mod top_call;
 mod words;
 

@@ -8,8 +8,6 @@ mod net;
 mod node;
 mod nodes;
 mod ports;
-#[cfg(test)]
-mod tests;
 
 pub use laws::{has_run, one_run, values_fit};
 pub use net::Netlist;

@@ -6,8 +6,6 @@ mod error;
 mod printed;
 mod running;
 mod stimulus;
-#[cfg(test)]
-mod tests;
 
 pub use answer::simulate;
 pub use error::SimError;

@@ -7,8 +7,6 @@ mod header;
 mod laws;
 mod records;
 mod stimulus;
-#[cfg(test)]
-mod tests;
 
 pub use error::StimError;
 pub use laws::vectors_fit;

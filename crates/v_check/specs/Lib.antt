@@ -5,4 +5,3 @@ pub mod Drivers
 pub mod Settling
 pub mod Loops
 pub mod Judged
-pub mod Sample

@@ -9,8 +9,6 @@ mod loops;
 mod names;
 mod nets;
 mod settling;
-#[cfg(test)]
-mod tests;
 mod undeclared;
 mod widths;
 

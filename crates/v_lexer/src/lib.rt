@@ -9,6 +9,3 @@ mod scan;
 
 pub use lexer::VLexer;
 pub use scan::{Scanned, tokens};
-
-#[cfg(test)]
-mod tests;

@@ -12,6 +12,3 @@ mod statement;
 
 pub use laws::tree_fits;
 pub use parsing::{ParseError, parse};
-
-#[cfg(test)]
-mod tests;

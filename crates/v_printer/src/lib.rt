@@ -5,8 +5,6 @@ mod expr;
 mod lines;
 mod module;
 mod section;
-#[cfg(test)]
-mod tests;
 mod text_sink;
 mod write;
 

@@ -4,8 +4,6 @@
 mod design;
 mod laws;
 mod reading;
-#[cfg(test)]
-mod tests;
 
 pub use laws::{failure_is_no_module, one_failure};
 pub use reading::read;

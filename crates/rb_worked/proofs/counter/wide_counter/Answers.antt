@@ -1,0 +1,7 @@
+use Rattle.std.proofs.Common.{sym, subst}
+use Rattle.rb_model.specs.Sound.{IsSound}
+use Rattle.rb_worked.proofs.WorkedSound.{wrapping_sound}
+use Rattle.rb_worked.proofs.counter.wide_counter.Goals as goal
+
+pub ensures-sound : goal.ensures-sound
+ensures-sound g c = ?

@@ -1,0 +1,17 @@
+//! Small register blocks, worked out by hand and proved sound, for tests of the machine and of what generators make.
+#![tactic(auto)]
+
+mod counter;
+mod events;
+mod loaded;
+mod lock;
+mod one;
+mod parts;
+mod shared;
+
+pub use counter::{saturating_counter, wide_counter};
+pub use events::event_register;
+pub use loaded::loaded_register;
+pub use lock::locked_register;
+pub use one::one_register;
+pub use shared::shared_address;

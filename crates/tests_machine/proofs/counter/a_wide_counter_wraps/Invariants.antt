@@ -1,0 +1,10 @@
+use Rattle.std.proofs.Common.{◌≡◌, None}
+use Rattle.rb_machine.specs.Machines.{IsReady}
+use Rattle.rb_worked.specs.Worked.{counter_block}
+use Rattle.tests_machine.proofs.counter.a_wide_counter_wraps.Given as goal
+
+abbrev pub invariant-loop-bus : goal.invariant-loop-bus
+invariant-loop-bus g l = record {
+  ready : IsReady l.m;
+  block : l.m.block.now ≡ counter_block None;
+}
