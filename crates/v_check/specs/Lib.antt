@@ -2,7 +2,6 @@ pub mod Found
 pub mod Nets
 pub mod Sizes
 pub mod Drivers
-pub mod Settling
 pub mod Loops
 pub mod Judged
 pub mod Sample
