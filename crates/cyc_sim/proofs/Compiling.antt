@@ -11,7 +11,7 @@ use Rattle.v_design.specs.declared.design.VTwo.{VTwo}
 use Rattle.v_design.specs.declared.design.VTwo.TheVariants.{Add, Sub, And, Or, Xor, Eq, Ne, Lt, Le, Gt, Ge}
 use Rattle.v_design.specs.Expr as expr
 use Rattle.v_design.specs.Expr.{Expr, Exprs, none, more, Widths, Values, nets_of, nets_of_each, width_of, width_of_all, is_sized, are_sized, value_of, value_of_all, value_under, value_over, width_under, width_over}
-use Rattle.v_design.proofs.Constants.{ConstantsFit, EachConstantFits}
+use Rattle.v_design.specs.Constants.{ConstantsFit, EachConstantFits}
 use Rattle.v_design.proofs.ValuesFit.{value_fits}
 use Rattle.v_design.proofs.Names.{each_one, each_append}
 use Rattle.cyc_sim.specs.declared.operation.Operation.{Operation}

@@ -1,16 +1,18 @@
 -- Concatenations, part by part.
 use Rattle.std.specs.List.{AllByRecursion}
-use Rattle.std.proofs.Common.{◌≡◌, ℕ, ◌+◌, ◌*◌, ◌^◌, ◌<◌, ◌≤◌, Bool, true, false, ◌&&◌, nat_le, IsSome, List, [], ◌∷◌, ◌++◌, length, get_or, refl, ap, sym, ◌∙◌, append_assoc, arith, rules, Vec, Global}
-use Rattle.std.proofs.lemmas.List.{append-nil}
+use Rattle.std.proofs.Common.{◌≡◌, ℕ, ◌+◌, ◌*◌, ◌^◌, ◌<◌, ◌≤◌, Bool, true, false, ◌&&◌, nat_le, IsSome, List, [], ◌∷◌, ◌++◌, length, take, get_or, refl, ap, sym, ◌∙◌, append_assoc, arith, rules, Vec, Box, Global}
+use Rattle.std.proofs.lemmas.List.{append-nil, take_more, take_all}
 use Rattle.std.proofs.lemmas.Bool.Decides.{nat_tests}
 use Rattle.std.proofs.lemmas.Nat.{pow-add}
 use Rattle.v_design.specs.declared.design.VExpr.{VExpr, Row_of-VExpr, end_of-VExpr, more_of-VExpr, items-the_row-VExpr}
-use Rattle.v_design.specs.declared.design.VExpr.TheVariants.{Cat as cat_of}
+use Rattle.v_design.specs.declared.design.VExpr.TheVariants as variant
 use Rattle.v_design.specs.declared.design.VExpr.TheViews.{the_lemmas}
+use Rattle.v_design.specs.declared.design.VOne.{VOne}
+use Rattle.v_design.specs.declared.design.VTwo.{VTwo}
 use Rattle.v_design.specs.Expr as expr
 use Rattle.v_design.specs.Expr.{Expr, Exprs, none, more, Widths, Values, nets_of, nets_of_each, width_of, width_of_all, is_sized, are_sized, value_of, value_of_all}
 use Rattle.v_design.specs.Seen.{expr_seen, exprs_seen}
-use Rattle.v_design.proofs.Constants.{ConstantsFit, EachConstantFits}
+use Rattle.v_design.specs.Constants.{ConstantsFit, EachConstantFits}
 use Rattle.v_design.proofs.Names.{each_append}
 use Rattle.cyc_sim.specs.declared.listing.Wire.{Wire}
 use Rattle.cyc_sim.specs.declared.listing.Listing.{Listing}
@@ -30,8 +32,17 @@ row_listed _ end_of-VExpr = refl
 row_listed _ (more_of-VExpr e rest) = ap (λ z. more (expr_seen e) z) (row_listed _ rest)
 
 -- a concatenation is seen as the list of its parts
-pub cat_seen : (v : Vec VExpr Global) → expr_seen (cat_of v) ≡ expr.Cat (listed v.items)
+pub cat_seen : (v : Vec VExpr Global) → expr_seen (variant.Cat v) ≡ expr.Cat (listed v.items)
 cat_seen v = search (rules, the_lemmas, row_listed)
+
+pub one_seen : (op : VOne) (a : Box VExpr Global) → expr_seen (variant.One op a) ≡ expr.One op (expr_seen a.value)
+one_seen op a = search (rules, the_lemmas)
+
+pub two_seen : (op : VTwo) (a b : Box VExpr Global) → expr_seen (variant.Two op a b) ≡ expr.Two op (expr_seen a.value) (expr_seen b.value)
+two_seen op a b = search (rules, the_lemmas)
+
+pub pick_seen : (a b c : Box VExpr Global) → expr_seen (variant.Pick a b c) ≡ expr.Pick (expr_seen a.value) (expr_seen b.value) (expr_seen c.value)
+pick_seen a b c = search (rules, the_lemmas)
 
 -- one expression more at the end
 abbrev pub behind : Exprs → Expr → Exprs
@@ -42,7 +53,7 @@ pub listed-push : (es : List VExpr) (e : VExpr) → listed (es ++ (e ∷ [])) �
 listed-push [] e = refl
 listed-push (x ∷ xs) e = ap (more (expr_seen x)) (listed-push xs e)
 
-width-behind : (ws : Widths) (es : Exprs) (e : Expr) → width_of_all ws (behind es e) ≡ width_of_all ws es + width_of ws e
+pub width-behind : (ws : Widths) (es : Exprs) (e : Expr) → width_of_all ws (behind es e) ≡ width_of_all ws es + width_of ws e
 width-behind ws none e = omega arith
 width-behind ws (more x xs) e = ap (λ n. width_of ws x + n) (width-behind ws xs e) ∙ omega arith
 
@@ -75,9 +86,16 @@ constants-behind : (es : Exprs) (e : Expr) → EachConstantFits (behind es e) �
 constants-behind none e h = (tt, h.0)
 constants-behind (more x xs) e h = let q = constants-behind xs e h.1 in ((h.0, q.0), q.1)
 
-nets-behind : (es : Exprs) (e : Expr) → nets_of_each (behind es e) ≡ nets_of_each es ++ nets_of e
+pub nets-behind : (es : Exprs) (e : Expr) → nets_of_each (behind es e) ≡ nets_of_each es ++ nets_of e
 nets-behind none e = append-nil (nets_of e)
 nets-behind (more x xs) e = ap (λ l. nets_of x ++ l) (nets-behind xs e) ∙ sym (append_assoc (nets_of x) (nets_of_each xs) (nets_of e))
+
+-- one part more of a list, and all parts of it
+pub listed-more : (items : List VExpr) (i : ℕ) (d : VExpr) → i < length items → d ≡ get_or items i d → listed (take (i + 1) items) ≡ behind (listed (take i items)) (expr_seen d)
+listed-more items i d l is = rw (take_more items i d l, listed-push (take i items) (get_or items i d), ← is) refl
+
+pub listed-all : (items parts : List VExpr) (i : ℕ) → length items ≤ i → items ≡ parts → listed (take i items) ≡ listed parts
+listed-all items parts i l is = ap listed (take_all i items l ∙ is)
 
 -- as `Compiles`, of the parts of a concatenation
 pub record CompilesAll (known : Known) (es : Exprs) (old new : Listing) (w : Wire) : Type 0 where

@@ -8,7 +8,8 @@ use Rattle.v_design.specs.Design.{Module, Step, Reset, module_of, inputs, regist
 use Rattle.v_design.specs.WellFormed.{IsWellFormed, nets}
 use Rattle.v_design.specs.Run.{Edge, Run, values_at, under_reset, is_asserted}
 use Rattle.v_design.specs.Fits.{FitsPins, ValuesFit}
-use Rattle.v_design.proofs.Constants.{ConstantsFit, ResetFits, StepFits, steps_fit}
+use Rattle.v_design.specs.Constants.{ConstantsFit, ResetFits}
+use Rattle.v_design.proofs.Constants.{StepFits, steps_fit}
 use Rattle.v_design.proofs.Names.{each_two}
 use Rattle.v_design.proofs.Nets.{inputs_wide, registers_wide}
 use Rattle.v_design.proofs.Steps.{IsSound, ResetHasWidth, steps_sound}

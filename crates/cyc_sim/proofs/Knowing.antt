@@ -37,6 +37,13 @@ front_last [] i d l = absurd (omega (arith, l))
 front_last (x ∷ xs) zero d l = refl
 front_last (x ∷ xs) (suc i) d l = front_last xs i d (omega (arith, l))
 
+pub front_cases : {A : Type 0} (xs : List A) (n i : ℕ) (x : A) → slice_get (take (suc n) xs) i ≡ Some x → (slice_get (take n xs) i ≡ Some x) ⊎ (slice_get xs n ≡ Some x)
+front_cases [] n i x h = cc h
+front_cases (y ∷ ys) zero zero x h = inr h
+front_cases (y ∷ ys) zero (suc i) x h = cc h
+front_cases (y ∷ ys) (suc n) zero x h = inl h
+front_cases (y ∷ ys) (suc n) (suc i) x h = front_cases ys n i x h
+
 -- one more of each of two lists
 pub AllZip-pushed : {A B : Type 0} (R : A → B → Type 0) (xs : List A) (ys : List B) (x : A) (y : B) → AllZip R xs ys → R x y → AllZip R (xs ++ (x ∷ [])) (ys ++ (y ∷ []))
 AllZip-pushed R [] [] x y h k = (k, tt)

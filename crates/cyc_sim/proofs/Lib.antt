@@ -2,10 +2,14 @@ pub mod Numbers
 pub mod Settling
 pub mod Compiling
 pub mod Concatenating
+pub mod Sizes
 pub mod Places
 pub mod Stepping
 pub mod Knowing
 pub mod Facts
+pub mod Ordering
 pub mod Stages
+pub mod Standing
+pub mod Readying
 pub mod Statements
 pub mod Programs

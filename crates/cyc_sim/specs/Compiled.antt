@@ -1,5 +1,5 @@
 -- What compiled expressions compute.
-use Rattle.std.specs.Prelude.{◌≡◌, ℕ, ◌+◌, ◌<◌, ◌^◌, true, Option, Some, IsSome, List, [], ◌∷◌, ◌++◌, length, slice_index}
+use Rattle.std.specs.Prelude.{◌≡◌, ℕ, ◌+◌, ◌<◌, ◌≤◌, ◌^◌, true, Option, Some, IsSome, List, [], ◌∷◌, ◌++◌, length, slice_index}
 use Rattle.std.specs.List.{AllByRecursion}
 use Rattle.std.specs.Str.{bytes_eq}
 use Rattle.std.specs.HashMap.{HashMap, get_by}
@@ -7,7 +7,7 @@ use Rattle.std.specs.declared.hash.FoldHasher.{FoldHasher}
 use Rattle.std.specs.declared.hash.BuildHasherDefault.{BuildHasherDefault}
 use denote.Ref.{Bor}
 use Rattle.v_design.specs.Expr.{Expr, Widths, Values, nets_of, width_of, is_sized, value_of}
-use Rattle.v_design.proofs.Constants.{ConstantsFit}
+use Rattle.v_design.specs.Constants.{ConstantsFit}
 use Rattle.cyc_sim.specs.Operations.{values_after}
 use Rattle.cyc_sim.specs.declared.operation.Operation.{Operation}
 use Rattle.cyc_sim.specs.declared.listing.Wire.{Wire}
@@ -32,6 +32,15 @@ pub record AreBelow (known : Known) (end : ℕ) : Type 0 where
 -- the widths of nets are these
 pub record AreWidths (known : Known) (ws : Widths) : Type 0 where
   pub width : (name : List ℕ) (w : Wire) → known_at known name ≡ Some w → w.width ≡ ws name
+
+-- the nets of an expression have places, and its widths agree, none of more than 128 bits
+pub record IsReady (known : Known) (e : Expr) : Type 0 where
+  pub nets : AllByRecursion (λ n. IsSome (known_at known n)) (nets_of e)
+  pub widths : Widths
+  pub wide : AreWidths known widths
+  pub narrow : (name : List ℕ) → widths name ≤ 128
+  pub sized : is_sized widths e ≡ true
+  pub constants : ConstantsFit e
 
 -- over the values of the first places, each net's place has the net's value, which is within its width
 pub record Agrees (known : Known) (operations : List Operation) (base : List ℕ) (v : Values) : Type 0 where

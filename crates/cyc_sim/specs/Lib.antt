@@ -1,3 +1,4 @@
+pub mod Order
 pub mod Operations
 pub mod Compiled
 pub mod Simulation

@@ -1,9 +1,9 @@
 -- How far a module is compiled.
-use Rattle.std.specs.Prelude.{◌≡◌, ℕ, ◌+◌, ◌<◌, Option, Some, List, ◌++◌, length, slice_get, slice_index}
+use Rattle.std.specs.Prelude.{◌≡◌, ℕ, ◌+◌, ◌<◌, true, Option, Some, None, IsSome, List, ◌++◌, length, slice_get, slice_index}
 use Rattle.std.specs.List.{AllZip}
 use Rattle.rb_base.specs.declared.ports.Pin.{Pin}
 use Rattle.v_design.specs.Expr.{Values}
-use Rattle.v_design.specs.Design.{Module, Reset, inputs, registers, widths}
+use Rattle.v_design.specs.Design.{Module, Reset, Step, inputs, registers, widths}
 use Rattle.v_design.specs.Run.{IsSettled, Moves, values_at, under_reset}
 use Rattle.v_design.specs.Fits.{FitsPins}
 use Rattle.cyc_sim.specs.Operations.{values_after}
@@ -25,8 +25,25 @@ pub record IsSettling (m : Module) (base : List ℕ) (v after : Values) : Type 0
   pub settled : IsSettled (widths m) contents v m.steps
   pub moved : Moves (widths m) v after m.steps
 
--- each name is that of a pin, and has the pin's place behind the first
+-- each of these pins has a place
+abbrev pub KnowsPins : Known → List Pin → Type 0
+KnowsPins known pins = (i : ℕ) (p : Pin) → slice_get pins i ≡ Some p → IsSome (known_at known p.name)
+
+-- each register, and each net, that a step drives has a place
+abbrev pub KnowsRegisters : Known → List Step → Type 0
+KnowsRegisters known ss = (i : ℕ) (s : Step) → slice_get ss i ≡ Some s → s.clocked ≡ true → IsSome (known_at known s.to)
+
+abbrev pub KnowsNets : Known → List Step → Type 0
+KnowsNets known ss = (i : ℕ) (s : Step) → slice_get ss i ≡ Some s → IsSome (known_at known s.to)
+
+-- the pin of a reset has a place
+abbrev pub KnowsReset : Known → Option Reset → Type 0
+KnowsReset known None = Unit {0}
+KnowsReset known (Some r) = IsSome (known_at known r.pin)
+
+-- each pin has a place, and each name is that of a pin, and has the pin's place behind the first
 pub record ArePlaced (pins : List Pin) (first : ℕ) (known : Known) : Type 0 where
+  pub each : KnowsPins known pins
   pub placed : (name : List ℕ) (w : Wire) → known_at known name ≡ Some w
       → (i : ℕ) × (p : Pin) × (slice_get pins i ≡ Some p) × (p.name ≡ name) × (w.place ≡ first + i) × (w.width ≡ p.width)
 

@@ -1,7 +1,7 @@
 //! Expressions as operations.
-ghost use Rattle.std.specs.Prelude.{◌≡◌, Some, IfOk};
+ghost use Rattle.std.specs.Prelude.{◌≡◌, Some, IsSome, IfOk};
 ghost use Rattle.v_design.specs.Seen.{expr_seen};
-ghost use Rattle.cyc_sim.specs.Compiled.{known_at, end_of, AreBelow, Compiles};
+ghost use Rattle.cyc_sim.specs.Compiled.{known_at, end_of, AreBelow, Compiles, IsReady};
 
 use crate::listing::{Listing, Wire};
 use crate::operation::Operation;
@@ -16,13 +16,14 @@ pub(crate) fn bytes_of(name: &Text) -> &[u8]
     name.bytes.as_slice()
 }
 
-/// The wire of a net.
-pub(crate) fn wire_of(known: &HashMap<&[u8], Wire>, name: &Text) -> Result<Wire, NoMemory>
-    ensures { IfOk result (λ w. known_at known.now name.now ≡ Some w) }
+/// The wire of a net that has one.
+pub(crate) fn wire_of(known: &HashMap<&[u8], Wire>, name: &Text) -> Wire
+    requires { IsSome (known_at known.now name.now) }
+    ensures { known_at known.now name.now ≡ Some result }
 {
     match known.get(bytes_of(name)) {
-        Some(wire) => Ok(*wire),
-        None => Err(NoMemory),
+        Some(wire) => *wire,
+        None => unreachable!(),
     }
 }
 
@@ -32,12 +33,13 @@ pub(crate) fn compile(
     expr: &VExpr,
     listing: &mut Listing,
 ) -> Result<Wire, NoMemory>
-    requires { AreBelow known.now (end_of listing.old) }
+    requires below { AreBelow known.now (end_of listing.old) }
+    requires ready { IsReady known.now (expr_seen expr.now) }
     ensures { IfOk result (Compiles known.now (expr_seen expr.now) listing.old listing.new) }
 {
     match expr {
-        VExpr::Net(name) => wire_of(known, name),
-        VExpr::Bits(name, high, low) => listing.part(wire_of(known, name)?, *high, *low),
+        VExpr::Net(name) => Ok(wire_of(known, name)),
+        VExpr::Bits(name, high, low) => listing.part(wire_of(known, name), *high, *low),
         VExpr::Const(width, value) => listing.constant(*width, *value),
         VExpr::Cat(parts) => {
             let mut joined = listing.constant(0, 0)?;

@@ -66,6 +66,7 @@ impl Listing {
         requires { is_within (end_of self.old) operation ≡ true }
         ensures { IfOk result (Adds self.old self.new operation) }
     {
+        // No memory holds so many operations that their number passes 2^64.
         let Some(place) = self.first.checked_add(self.operations.len()) else {
             return Err(NoMemory);
         };
@@ -84,13 +85,12 @@ impl Listing {
 
     /// Adds the bits of a wire from one down to another.
     pub fn part(&mut self, from: Wire, high: u8, low: u8) -> Result<Wire, NoMemory>
-        requires { from.place < end_of self.old }
+        requires from { from.place < end_of self.old }
+        requires ordered { low ≤ high }
+        requires narrow { high < 128 }
         ensures adds { IfOk result (λ w. Adds self.old self.new (Part from.place low (high - low + 1)) w.place) }
         ensures width { IfOk result (λ w. w.width ≡ high - low + 1) }
     {
-        if low > high || high >= 128 {
-            return Err(NoMemory);
-        }
         let width = high - low + 1;
         let place = self.push(Operation::Part {
             from: from.place,
@@ -104,29 +104,28 @@ impl Listing {
     pub fn join(&mut self, high: Wire, low: Wire) -> Result<Wire, NoMemory>
         requires high { high.place < end_of self.old }
         requires low { low.place < end_of self.old }
+        requires narrow { high.width + low.width < 256 }
         ensures adds { IfOk result (λ w. Adds self.old self.new (Join high.place low.place low.width) w.place) }
         ensures width { IfOk result (λ w. w.width ≡ high.width + low.width) }
     {
-        let Some(width) = high.width.checked_add(low.width) else {
-            return Err(NoMemory);
-        };
         let place = self.push(Operation::Join {
             high: high.place,
             low: low.place,
             width: low.width,
         })?;
-        Ok(Wire { place, width })
+        Ok(Wire {
+            place,
+            width: high.width + low.width,
+        })
     }
 
     /// Adds an operator before a wire.
     pub fn one(&mut self, op: VOne, of: Wire) -> Result<Wire, NoMemory>
-        requires { of.place < end_of self.old }
+        requires of { of.place < end_of self.old }
+        requires narrow { of.width ≤ 128 }
         ensures adds { IfOk result (λ w. Adds self.old self.new (One op of.width of.place) w.place) }
         ensures width { IfOk result (λ w. w.width ≡ width_under op of.width) }
     {
-        if of.width > 128 {
-            return Err(NoMemory);
-        }
         let place = self.push(Operation::One {
             op,
             width: of.width,
@@ -142,14 +141,11 @@ impl Listing {
     pub fn two(&mut self, op: VTwo, left: Wire, right: Wire) -> Result<Wire, NoMemory>
         requires left { left.place < end_of self.old }
         requires right { right.place < end_of self.old }
+        requires narrow { left.width ≤ 128 }
         ensures adds { IfOk result
             (λ w. Adds self.old self.new (Two op left.width left.place right.place) w.place) }
         ensures width { IfOk result (λ w. w.width ≡ width_over op left.width) }
-        ensures narrow { OnOk result (left.width ≤ 128) }
     {
-        if left.width > 128 {
-            return Err(NoMemory);
-        }
         let place = self.push(Operation::Two {
             op,
             width: left.width,

@@ -1,127 +1,21 @@
-//! The order in which nets settle.
+//! The order in which nets settle (levelization).
+ghost use Rattle.std.specs.Prelude.{◌≡◌, ◌++◌, ◌∷◌, [], IfOk, OnOk, map};
+ghost use Rattle.topological_order.specs.Levels.{lists};
+ghost use Rattle.v_design.specs.Expr.{nets_of};
+ghost use Rattle.v_design.specs.Seen.{expr_seen, step_seen};
+ghost use Rattle.cyc_sim.specs.Order.{AreDrivers, IsAcyclic, IsSettlingOrder, all_needs, driver_at, numbers_of, step_needs};
+
 use crate::compile::bytes_of;
 use rb_base::NoMemory;
 use std::alloc::Global;
 use std::collections::HashMap;
+use topological_order::{Levels, levelize};
 use v_design::{Stmt, VExpr};
 
-/// A read of a net in an assignment, and the read before it of the same net.
-#[derive(Clone, Copy)]
-struct Read {
-    by: usize,
-    before: Option<usize>,
-}
-
-/// Which assignments read which nets. Statements go by their numbers.
-#[derive(Drop)]
-struct Reads {
-    reads: Vec<Read>,
-    /// For each statement, the last read of the net that it drives.
-    last: Vec<Option<usize>>,
-    /// For each statement, how many of its reads wait for the assignment of a net.
-    waiting: Vec<usize>,
-}
-
-impl Reads {
-    /// No reads yet, of so many statements.
-    fn new(alloc: Global, count: usize) -> Result<Reads, NoMemory> {
-        Ok(Reads {
-            reads: Vec::new(alloc),
-            last: vec![in alloc; None; count]?,
-            waiting: vec![in alloc; 0; count]?,
-        })
-    }
-
-    /// Notes that a statement reads the net that another one drives.
-    fn add(&mut self, driver: usize, by: usize) -> Result<(), NoMemory> {
-        if driver < self.last.len() && by < self.waiting.len() {
-            let place = self.reads.len();
-            let before = self.last[driver];
-            self.reads.push(Read { by, before })?;
-            self.last[driver] = Some(place);
-            self.waiting[by] = self.waiting[by].saturating_add(1);
-        }
-        Ok(())
-    }
-
-    /// Notes the reads of an expression, of which the drivers are these.
-    fn add_all(
-        &mut self,
-        drivers: &HashMap<&[u8], usize>,
-        expr: &VExpr,
-        by: usize,
-    ) -> Result<(), NoMemory> {
-        match expr {
-            VExpr::Net(name) | VExpr::Bits(name, _, _) => match drivers.get(bytes_of(name)) {
-                Some(driver) => self.add(*driver, by),
-                None => Ok(()),
-            },
-            VExpr::Const(_, _) => Ok(()),
-            VExpr::Cat(parts) => {
-                for part in parts {
-                    self.add_all(drivers, part, by)?;
-                }
-                Ok(())
-            }
-            VExpr::One(_, of) => self.add_all(drivers, of, by),
-            VExpr::Two(_, left, right) => {
-                self.add_all(drivers, left, by)?;
-                self.add_all(drivers, right, by)
-            }
-            VExpr::Pick(test, chosen, other) => {
-                self.add_all(drivers, test, by)?;
-                self.add_all(drivers, chosen, by)?;
-                self.add_all(drivers, other, by)
-            }
-        }
-    }
-
-    /// Puts the statements behind the order that wait for this one's net alone.
-    fn release(&mut self, driver: usize, order: &mut Vec<usize>) -> Result<(), NoMemory> {
-        let mut read = if driver < self.last.len() {
-            self.last[driver]
-        } else {
-            None
-        };
-        for _ in 0..self.reads.len() {
-            let Some(place) = read else {
-                break;
-            };
-            if place >= self.reads.len() {
-                break;
-            }
-            let Read { by, before } = self.reads[place];
-            if by < self.waiting.len() {
-                self.waiting[by] = self.waiting[by].saturating_sub(1);
-                if self.waiting[by] == 0 {
-                    order.push(by)?;
-                }
-            }
-            read = before;
-        }
-        Ok(())
-    }
-
-    /// The statements in an order in which each stands behind those that drive the nets that it reads.
-    fn order(mut self, alloc: Global) -> Result<Vec<usize>, NoMemory> {
-        let mut order = Vec::new(alloc);
-        for (statement, waiting) in self.waiting.iter().enumerate() {
-            if *waiting == 0 {
-                order.push(statement)?;
-            }
-        }
-        for done in 0..self.waiting.len() {
-            if done >= order.len() {
-                break;
-            }
-            self.release(order[done], &mut order)?;
-        }
-        Ok(order)
-    }
-}
-
-/// The assignment that drives each net.
-fn drivers_of(alloc: Global, stmts: &[Stmt]) -> Result<HashMap<&[u8], usize>, NoMemory> {
+/// The number of the assignment that drives each net.
+fn drivers_of(alloc: Global, stmts: &[Stmt]) -> Result<HashMap<&[u8], usize>, NoMemory>
+    ensures { IfOk result (λ d. AreDrivers d (map step_seen stmts.now)) }
+{
     let mut drivers = HashMap::new(alloc);
     for (index, stmt) in stmts.iter().enumerate() {
         if !stmt.clocked {
@@ -131,15 +25,87 @@ fn drivers_of(alloc: Global, stmts: &[Stmt]) -> Result<HashMap<&[u8], usize>, No
     Ok(drivers)
 }
 
-/// The numbers of statements, each assignment's behind those of the assignments that drive the nets that it reads. It
-/// takes time in proportion to the size of the statements.
-pub(crate) fn settling_order(alloc: Global, stmts: &[Stmt]) -> Result<Vec<usize>, NoMemory> {
-    let drivers = drivers_of(alloc, stmts)?;
-    let mut reads = Reads::new(alloc, stmts.len())?;
-    for (index, stmt) in stmts.iter().enumerate() {
-        if !stmt.clocked {
-            reads.add_all(&drivers, &stmt.expr, index)?;
+/// Puts the number of a net's driver behind others, if it has one.
+fn need(
+    drivers: &HashMap<&[u8], usize>,
+    name: &[u8],
+    needs: &mut Vec<usize>,
+) -> Result<(), NoMemory>
+    ensures { OnOk result (needs.new.items ≡ needs.old.items ++ numbers_of (driver_at drivers.now) (name.now ∷ [])) }
+{
+    if let Some(driver) = drivers.get(name) {
+        needs.push(*driver)?;
+    }
+    Ok(())
+}
+
+/// Puts the numbers of the drivers of the nets that an expression reads behind others.
+fn needs_in(
+    drivers: &HashMap<&[u8], usize>,
+    expr: &VExpr,
+    needs: &mut Vec<usize>,
+) -> Result<(), NoMemory>
+    ensures { OnOk result (needs.new.items ≡ needs.old.items ++ numbers_of (driver_at drivers.now) (nets_of (expr_seen expr.now))) }
+{
+    match expr {
+        VExpr::Net(name) | VExpr::Bits(name, _, _) => need(drivers, bytes_of(name), needs),
+        VExpr::Const(_, _) => Ok(()),
+        VExpr::Cat(parts) => {
+            for part in parts {
+                needs_in(drivers, part, needs)?;
+            }
+            Ok(())
+        }
+        VExpr::One(_, of) => needs_in(drivers, of, needs),
+        VExpr::Two(_, left, right) => {
+            needs_in(drivers, left, needs)?;
+            needs_in(drivers, right, needs)
+        }
+        VExpr::Pick(test, chosen, other) => {
+            needs_in(drivers, test, needs)?;
+            needs_in(drivers, chosen, needs)?;
+            needs_in(drivers, other, needs)
         }
     }
-    reads.order(alloc)
+}
+
+/// The numbers of the assignments that drive the nets that an assignment reads.
+fn needs_of(
+    alloc: Global,
+    drivers: &HashMap<&[u8], usize>,
+    stmt: &Stmt,
+) -> Result<Vec<usize>, NoMemory>
+    ensures { IfOk result (λ r. r.items ≡ step_needs (driver_at drivers.now) (step_seen stmt.now)) }
+{
+    let mut needs = Vec::new(alloc);
+    if !stmt.clocked {
+        needs_in(drivers, &stmt.expr, &mut needs)?;
+    }
+    Ok(needs)
+}
+
+fn needs_of_each(
+    alloc: Global,
+    drivers: &HashMap<&[u8], usize>,
+    stmts: &[Stmt],
+) -> Result<Vec<Vec<usize>>, NoMemory>
+    ensures { IfOk result (λ r. lists r.items ≡ all_needs (driver_at drivers.now) (map step_seen stmts.now)) }
+{
+    let mut needs = Vec::new(alloc);
+    for stmt in stmts {
+        needs.push(needs_of(alloc, drivers, stmt)?)?;
+    }
+    Ok(needs)
+}
+
+/// The numbers of statements, each assignment's behind those of the assignments that drive the nets that it reads. It
+/// takes time in proportion to the size of the statements.
+pub(crate) fn settling_order(alloc: Global, stmts: &[Stmt]) -> Result<Vec<usize>, NoMemory>
+    requires { IsAcyclic (map step_seen stmts.now) }
+    ensures { IfOk result (λ o. IsSettlingOrder (map step_seen stmts.now) o.items) }
+{
+    let drivers = drivers_of(alloc, stmts)?;
+    let needs = needs_of_each(alloc, &drivers, stmts)?;
+    let Levels { order, .. } = levelize(alloc, &needs)?;
+    Ok(order)
 }

@@ -1,10 +1,11 @@
 //! A module's statements as operations.
 ghost use Rattle.std.specs.Prelude.{◌≡◌, ◌+◌, ◌<◌, ◌^◌, IfOk, OnOk, length, map};
-ghost use Rattle.v_design.specs.Design.{inputs, registers};
+ghost use Rattle.v_design.specs.Design.{inputs, outputs, registers};
 ghost use Rattle.v_design.specs.Seen.{module_seen, reset_seen};
 ghost use Rattle.cyc_sim.specs.Accepted.{IsAccepted};
 ghost use Rattle.cyc_sim.specs.Compiled.{AreBelow, end_of};
-ghost use Rattle.cyc_sim.specs.Preparing.{ArePlaced, ArePlacesOf, Guards, Moving, Prepared};
+ghost use Rattle.cyc_sim.specs.Order.{IsSettlingOrder};
+ghost use Rattle.cyc_sim.specs.Preparing.{ArePlaced, ArePlacesOf, Guards, KnowsNets, KnowsPins, KnowsRegisters, KnowsReset, Moving, Prepared};
 
 use crate::compile::{bytes_of, compile, wire_of};
 use crate::listing::{Listing, Wire};
@@ -43,12 +44,13 @@ fn guarded(
 ) -> Result<Wire, NoMemory>
     requires known { AreBelow known.now (end_of listing.old) }
     requires next { next.place < end_of listing.old }
+    requires pin { KnowsReset known.now (reset_seen reset.now) }
     ensures { IfOk result (Guards known.now (reset_seen reset.now) next listing.old listing.new) }
 {
     match reset {
         None => Ok(next),
         Some(reset) => {
-            let pin = wire_of(known, &reset.pin)?;
+            let pin = wire_of(known, &reset.pin);
             let place = listing.push(Operation::Guard {
                 pin: pin.place,
                 low: reset.low,
@@ -69,11 +71,12 @@ pub(crate) fn places_in(
     known: &HashMap<&[u8], Wire>,
     pins: &[Pin],
 ) -> Result<Vec<usize>, NoMemory>
+    requires { KnowsPins known.now pins.now }
     ensures { IfOk result (λ r. ArePlacesOf known.now pins.now r.items) }
 {
     let mut places = Vec::new(alloc);
     for pin in pins {
-        places.push(wire_of(known, &pin.name)?.place)?;
+        places.push(wire_of(known, &pin.name).place)?;
     }
     Ok(places)
 }
@@ -88,20 +91,23 @@ pub(crate) fn place_registers<'d>(
     requires accepted { IsAccepted (module_seen design.now) }
     requires kept { ArePlaced (registers (module_seen design.now)) (length (inputs (module_seen design.now))) kept.now }
     requires prepared { Prepared (module_seen design.now) known.old listing.old }
-    ensures { OnOk result (Prepared (module_seen design.now) known.new listing.new) }
+    requires pins { KnowsPins known.old (inputs (module_seen design.now)) }
+    ensures prepared { OnOk result (Prepared (module_seen design.now) known.new listing.new) }
+    ensures pins { OnOk result (KnowsPins known.new (inputs (module_seen design.now))) }
+    ensures registers { OnOk result (KnowsRegisters known.new (module_seen design.now).steps) }
 {
     for stmt in &design.stmts {
         if !stmt.clocked {
             continue;
         }
-        let contents = wire_of(kept, &stmt.to)?;
+        let contents = wire_of(kept, &stmt.to);
         let wire = guarded(known, &stmt.reset, contents, listing)?;
         known.insert(bytes_of(&stmt.to), wire)?;
     }
     Ok(())
 }
 
-/// Adds the values of the nets that assignments drive, in this order of the statements.
+/// Adds the values of the nets that assignments drive, in an order in which they settle.
 pub(crate) fn place_nets<'d>(
     design: &'d Design,
     order: &[usize],
@@ -109,14 +115,19 @@ pub(crate) fn place_nets<'d>(
     listing: &mut Listing,
 ) -> Result<(), NoMemory>
     requires accepted { IsAccepted (module_seen design.now) }
+    requires order { IsSettlingOrder (module_seen design.now).steps order.now }
     requires prepared { Prepared (module_seen design.now) known.old listing.old }
-    ensures { OnOk result (Prepared (module_seen design.now) known.new listing.new) }
+    requires pins { KnowsPins known.old (inputs (module_seen design.now)) }
+    requires registers { KnowsRegisters known.old (module_seen design.now).steps }
+    ensures prepared { OnOk result (Prepared (module_seen design.now) known.new listing.new) }
+    ensures pins { OnOk result (KnowsPins known.new (inputs (module_seen design.now))) }
+    ensures nets { OnOk result (KnowsNets known.new (module_seen design.now).steps) }
 {
     for index in order {
-        if *index >= design.stmts.len() || design.stmts[*index].clocked {
+        let stmt = &design.stmts[*index];
+        if stmt.clocked {
             continue;
         }
-        let stmt = &design.stmts[*index];
         let wire = compile(known, &stmt.expr, listing)?;
         known.insert(bytes_of(&stmt.to), wire)?;
     }
@@ -132,8 +143,11 @@ pub(crate) fn place_moves<'d>(
 ) -> Result<HashMap<&'d [u8], Wire>, NoMemory>
     requires accepted { IsAccepted (module_seen design.now) }
     requires prepared { Prepared (module_seen design.now) known.now listing.old }
+    requires pins { KnowsPins known.now (inputs (module_seen design.now)) }
+    requires nets { KnowsNets known.now (module_seen design.now).steps }
     ensures prepared { OnOk result (Prepared (module_seen design.now) known.now listing.new) }
     ensures moves { IfOk result (λ moves. Moving (module_seen design.now) moves listing.new) }
+    ensures registers { IfOk result (λ moves. KnowsRegisters moves (module_seen design.now).steps) }
 {
     let mut moves = HashMap::new(alloc);
     for stmt in &design.stmts {

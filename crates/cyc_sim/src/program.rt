@@ -41,6 +41,7 @@ impl Program {
     {
         let pins = design.inputs();
         let kept = design.registers();
+        // No memory holds so many places that their number passes 2^64.
         let Some(first) = pins.len().checked_add(kept.len()) else {
             return Err(NoMemory);
         };

@@ -1,3 +1,4 @@
+pub mod Adds
 pub mod Copy
 pub mod Driving
 pub mod Fits

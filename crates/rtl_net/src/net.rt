@@ -128,6 +128,8 @@ fn add_register(
 }
 
 impl Netlist {
+    ghost use Rattle.rtl_net.specs.Adds.{AddsNode, AddsWire, folded};
+
     /// A netlist of no nodes and no ports, of a module of this name.
     pub fn new(alloc: Global, name: &[u8]) -> Result<Self, NoMemory>
         requires { IsTrue (is_identifier name.now) }
@@ -208,6 +210,7 @@ impl Netlist {
         ensures registers { registers_of self.new.nodes ≡ registers_of self.old.nodes }
         ensures undriven { undriven self.new.nodes ≡ undriven self.old.nodes }
         ensures seats { IfOk result (λ id. self.new.seats ≡ seated self.old.seats name.now width (Taken.Input id)) }
+        ensures nodes { OnOk result (AddsNode self.old self.new (NetNode.Input name.now width)) }
         ensures input { IfOk result (λ id. IsInput self.new id name.now width) }
         ensures node { IfOk result (λ id. OnFalse (bytes_eq name.now clock) (IsNode self.new id width (λ v. v.ins name.now))) }
         ensures clocked { OnOk result (OnTrue (bytes_eq name.now clock) (HasClock self.new)) }
@@ -230,6 +233,7 @@ impl Netlist {
         ensures seats { self.new.seats ≡ self.old.seats }
         ensures registers { OnOk result (registers_of self.new.nodes ≡ registers_of self.old.nodes ++ record { name = name.now; width = width } ∷ []) }
         ensures undriven { OnOk result (undriven self.new.nodes ≡ undriven self.old.nodes + 1) }
+        ensures nodes { OnOk result (AddsNode self.old self.new (NetNode.Register name.now width reset None)) }
         ensures register { IfOk result (λ id. Awaits self.new id name.now width reset) }
         ensures node { IfOk result (λ id. IsNode self.new id width (λ v. under v.node reset (v.kept name.now))) }
         ensures err { OnErr result (self.new ≡ self.old) }
@@ -284,6 +288,7 @@ impl Netlist {
         ensures older { Grows self.old self.new }
         ensures name { self.new.name ≡ self.old.name }
         ensures node { IfOk result (λ id. IsNode self.new id (expr_width (widths self.old) expr) (λ v. expr_value (widths self.old) v.node expr)) }
+        ensures nodes { OnOk result (AddsWire self.old self.new expr) }
         ensures wire { IfOk result (λ id. IsWire self.new id expr) }
         ensures shared { (id : IdOf) → IsWire self.old id expr → (result ≡ Ok id) × (self.new ≡ self.old) }
         ensures err { OnErr result (self.new ≡ self.old) }
@@ -302,6 +307,7 @@ impl Netlist {
         ensures older { Grows self.old self.new }
         ensures name { self.new.name ≡ self.old.name }
         ensures node { IfOk result (λ id. IsNode self.new id (expr_width (widths self.old) expr) (λ v. expr_value (widths self.old) v.node expr)) }
+        ensures nodes { OnOk result (AddsWire self.old self.new (folded self.old expr)) }
         ensures constant { IsTrue (is_constant self.old.nodes expr) → IfOk result (λ id. IsWire self.new id
             (NetExpr.Const (expr_width (widths self.old) expr) (expr_value (widths self.old) (constant_values self.old.nodes) expr))) }
         ensures wire { is_constant self.old.nodes expr ≡ false → IfOk result (λ id. IsWire self.new id expr) }

@@ -11,6 +11,11 @@ use Rattle.v_check.specs.Sizes.{stmt_places}
 use Rattle.v_check.specs.Nets.{IsUndeclared, is_unknown, numbers, token_places}
 use Rattle.v_check.specs.Found.{noted, Finds, Stands, StandsBefore}
 
+pub get-within : {X : Type 0} (xs : List X) (i : ℕ) (x : X) → slice_get xs i ≡ Some x → i < length xs
+get-within [] i x h = cc h
+get-within (y ∷ ys) zero x h = omega arith
+get-within (y ∷ ys) (suc i) x h = let l = get-within ys i x h in omega (arith, l)
+
 pub le-true : (a b : ℕ) → nat_le a b ≡ true → a ≤ b
 le-true a b h = grind (arith, nat_tests)
 

@@ -3,7 +3,6 @@ pub mod Tables
 pub mod Finding
 pub mod Sizing
 pub mod Driving
-pub mod Ranking
 pub mod Looping
 pub mod Spelled
 pub mod Faults

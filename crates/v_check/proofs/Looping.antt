@@ -2,10 +2,11 @@
 use Rattle.std.specs.List.{AllByRecursion, list_any}
 use Rattle.std.specs.Option.{option_map_or}
 use Rattle.std.specs.Str.{bytes_eq}
-use Rattle.std.proofs.Common.{◌≡◌, ℕ, zero, suc, ◌+◌, ◌<◌, Bool, true, false, not, if◌then◌else◌, Option, Some, None, IfNone, is_some, List, [], ◌∷◌, ◌++◌, length, map, take, get_or, slice_get, refl, ap, sym, ◌∙◌, subst, inl, inr, add-one, arith, Vec, Global, Bor}
+use Rattle.std.proofs.Common.{◌≡◌, ℕ, zero, suc, ◌+◌, ◌<◌, Bool, true, false, not, if◌then◌else◌, Option, Some, None, IfNone, is_some, List, [], ◌∷◌, ◌++◌, length, map, take, get_or, slice_get, refl, ap, sym, ◌∙◌, subst, inl, inr, add-one, arith, Bor}
 use Rattle.std.proofs.lemmas.Bool.{cases_lt, or_cases}
 use Rattle.std.proofs.lemmas.List.{length-map, append-nil}
 use Rattle.rb_base.specs.declared.place.Place.{Place}
+use Rattle.topological_order.specs.Levels.{AreLevels, AreWithin, need_at, rank_at}
 use Rattle.v_design.proofs.Tests.{and-left, and-right, same-refl, same-true}
 use Rattle.v_design.proofs.Names.{or-left, or-right}
 use Rattle.v_design.specs.Lexemes.{among}
@@ -22,10 +23,9 @@ use Rattle.v_check.specs.declared.drivers.Drivers.{Drivers}
 use Rattle.v_check.specs.Drivers.{AreDrivers, AreNumbers, IsSingle, driver_at}
 use Rattle.v_check.specs.Found.{Finds, Stands}
 use Rattle.v_check.specs.Loops.{IsLooping, IsUnranked, all_needs, numbers_of, stmt_needs, with_number}
-use Rattle.v_check.specs.Settling.{AreRanks, AreWithin, lists, list_at, need_at, rank_at}
 use Rattle.v_check.specs.Nets.{texts}
 use Rattle.v_check.proofs.Driving.{nets-statement, any-append}
-use Rattle.v_check.proofs.Ranking.{get-within, length-lists}
+use Rattle.v_check.proofs.Finding.{get-within}
 
 -- tests of some element
 pub any-at : {X : Type 0} (p : X → Bool) (xs : List X) (i : ℕ) (x : X) → slice_get xs i ≡ Some x → p x ≡ true → list_any p xs ≡ true
@@ -103,9 +103,9 @@ some-at (x ∷ xs) zero l = (x, refl)
 some-at (x ∷ xs) (suc i) l = some-at xs i (omega (arith, l))
 
 -- each need of a statement is a statement
-pub needs-within : (drivers : Drivers) (stmts : List Stmt) (needs : List (Vec ℕ Global)) → lists needs ≡ all_needs (driver_at drivers) stmts → AreNumbers drivers (length stmts) → AreWithin needs
+pub needs-within : (drivers : Drivers) (stmts : List Stmt) (needs : List (List ℕ)) → needs ≡ all_needs (driver_at drivers) stmts → AreNumbers drivers (length stmts) → AreWithin needs
 needs-within drivers stmts needs is numbers i k j need =
-    let long : length needs ≡ length stmts = (let a = ap length is in let b = length-lists needs in let c = length-map stmts (stmt_needs (driver_at drivers)) in omega (arith, a, b, c)) in
+    let long : length needs ≡ length stmts = (let a = ap length is in let c = length-map stmts (stmt_needs (driver_at drivers)) in omega (arith, a, c)) in
     let l = at-list stmts i (ap (λ ls. slice_get (get_or ls i []) k) (sym is) ∙ need) in
     omega (arith, l, long)
   where
@@ -149,7 +149,7 @@ drives-own : (to : List ℕ) → among (to ∷ []) to ≡ true
 drives-own to = or-left (bytes_eq to to) false (same-refl to)
 
 module _ (drivers : Drivers) (stmts : List Stmt) (events : List Event) (ss : List Statement) (are : AreStatements stmts events ss) (d : AreDrivers drivers ss) (single : IsSingle ss)
-    (needs : List (Vec ℕ Global)) (is : lists needs ≡ all_needs (driver_at drivers) stmts) (ranks : List (Option ℕ)) (ranked : AreRanks needs ranks) where
+    (needs : List (List ℕ)) (is : needs ≡ all_needs (driver_at drivers) stmts) (ranks : List (Option ℕ)) (order : List ℕ) (ranked : AreLevels needs ranks order) where
   earlier : (i j : ℕ) (s t : Statement) (n : List ℕ) → slice_get ss i ≡ Some s → slice_get ss j ≡ Some t → among (driven_by s) n ≡ true → among (driven_by t) n ≡ true → i < j → ⊥
   earlier i j s t n a b p q l =
       let e : list_any (among (all_driven (take j ss))) (driven_by t) ≡ true = any-among (among (all_driven (take j ss))) (driven_by t) n q (driven-among (take j ss) i s n (take-at ss i j s a l) p) in
@@ -170,10 +170,10 @@ module _ (drivers : Drivers) (stmts : List Stmt) (events : List Event) (ss : Lis
       go None e t = cc (sym (ap is_some e) ∙ t)
       go (Some j) e t = let (u, b, q) = d.at n j e in let same = one-driver j i u s n b a q p in e ∙ ap Some same
 
-  needs-at : (i : ℕ) (x : Stmt) → slice_get stmts i ≡ Some x → list_at needs i ≡ stmt_needs (driver_at drivers) x
+  needs-at : (i : ℕ) (x : Stmt) → slice_get stmts i ≡ Some x → get_or needs i [] ≡ stmt_needs (driver_at drivers) x
   needs-at i x at = ap (λ l. get_or l i []) is ∙ mapped-at (stmt_needs (driver_at drivers)) stmts i x [] at
 
-  needs-assign : (i : ℕ) (to : List ℕ) (e : Term) → slice_get ss i ≡ Some (Assign to e) → list_at needs i ≡ numbers_of (driver_at drivers) (nets_of (expr_of e))
+  needs-assign : (i : ℕ) (to : List ℕ) (e : Term) → slice_get ss i ≡ Some (Assign to e) → get_or needs i [] ≡ numbers_of (driver_at drivers) (nets_of (expr_of e))
   needs-assign i to e at =
       let (x, v, there, st) = statement-of stmts events ss i (Assign to e) are at in
       needs-at i x there
@@ -181,7 +181,7 @@ module _ (drivers : Drivers) (stmts : List Stmt) (events : List Event) (ss : Lis
       ∙ ap (numbers_of (driver_at drivers)) (nets-statement x v (Assign to e) st))
 
   counts : length needs ≡ length ss
-  counts = let a = ap length is in let b = length-lists needs in let c = length-map stmts (stmt_needs (driver_at drivers)) in let e = same-count stmts events ss are in omega (arith, a, b, c, e)
+  counts = let a = ap length is in let c = length-map stmts (stmt_needs (driver_at drivers)) in let e = same-count stmts events ss are in omega (arith, a, c, e)
 
   -- an assignment that has no rank
   record Stuck : Type 0 where
@@ -201,7 +201,7 @@ module _ (drivers : Drivers) (stmts : List Stmt) (events : List Event) (ss : Lis
       no-need s at clocked =
           let (k, j, need, none) = ranked.stays i l free in
           let (x, v, there, st) = statement-of stmts events ss i s are at in
-          let e : list_at needs i ≡ [] = needs-at i x there ∙ ap (λ b. if b then [] else numbers_of (driver_at drivers) (nets_of (expr_seen x.expr))) (clocked x v st) in
+          let e : get_or needs i [] ≡ [] = needs-at i x there ∙ ap (λ b. if b then [] else numbers_of (driver_at drivers) (nets_of (expr_seen x.expr))) (clocked x v st) in
           cc (sym (ap (λ ks. slice_get ks k) e) ∙ need)
 
       go : (s : Statement) → slice_get ss i ≡ Some s → (x : Stuck) × (x.number ≡ i)

@@ -2,6 +2,5 @@ pub mod Found
 pub mod Nets
 pub mod Sizes
 pub mod Drivers
-pub mod Settling
 pub mod Loops
 pub mod Judged

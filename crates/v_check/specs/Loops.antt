@@ -1,11 +1,11 @@
 -- The assignments of a module that was parsed, and what they read.
 use Rattle.std.specs.Prelude.{◌≡◌, ℕ, ◌<◌, if◌then◌else◌, Option, Some, None, List, [], ◌∷◌, length, map, slice_get}
+use Rattle.topological_order.specs.Levels.{rank_at}
 use Rattle.v_design.specs.Expr.{nets_of}
 use Rattle.v_design.specs.Seen.{expr_seen}
 use Rattle.v_design.specs.Tree.{Statement, Term, Assign}
 use Rattle.v_design.specs.declared.design.Stmt.{Stmt}
 use Rattle.v_syntax.specs.Faulty.{GoesOn}
-use Rattle.v_check.specs.Settling.{rank_at}
 
 -- the numbers of the names that have one
 abbrev pub with_number : Option ℕ → List ℕ → List ℕ

@@ -8,7 +8,6 @@ mod laws;
 mod loops;
 mod names;
 mod nets;
-mod settling;
 mod undeclared;
 mod widths;
 

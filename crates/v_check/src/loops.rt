@@ -3,20 +3,20 @@
 ghost use Rattle.std.specs.Prelude.{◌≡◌, ℕ, List, length, IfOk, IfNone};
 ghost use Rattle.v_design.specs.Tree.{Statement};
 ghost use Rattle.v_design.specs.WellFormed.{Rises};
+ghost use Rattle.topological_order.specs.Levels.{lists};
 ghost use Rattle.v_syntax.specs.Syntax.{AreStatements};
 ghost use Rattle.v_syntax.specs.declared.parsed.Event.{Event};
 ghost use Rattle.v_check.specs.Drivers.{AreDrivers, AreNumbers, IsSingle, driver_at};
 ghost use Rattle.v_check.specs.Found.{Finds, Stands};
 ghost use Rattle.v_check.specs.Loops.{IsLooping, IsUnranked, all_needs, stmt_needs};
-ghost use Rattle.v_check.specs.Settling.{lists};
 ghost use Rattle.v_check.specs.Sizes.{stmt_places};
 
 use crate::drivers::Drivers;
 use crate::found::note;
 use crate::names::nets_in;
-use crate::settling::settle;
 use rb_base::{NoMemory, Place};
 use std::alloc::Global;
+use topological_order::levelize;
 use v_design::Stmt;
 
 /// The numbers of the statements that drive the nets that an assignment reads.
@@ -76,6 +76,6 @@ pub(crate) fn looping(
         → IsSingle ss → IfNone r ((rank : List ℕ → ℕ) × Rises rank ss)) }
 {
     let needs = needs_of_each(alloc, drivers, stmts)?;
-    let ranks = settle(alloc, &needs)?;
-    Ok(unranked(&ranks, stmts))
+    let levels = levelize(alloc, &needs)?;
+    Ok(unranked(&levels.ranks, stmts))
 }

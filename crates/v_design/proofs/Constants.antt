@@ -2,23 +2,25 @@
 use Rattle.std.specs.List.{AllByRecursion, before_first, after_first}
 use Rattle.std.specs.Prelude.{option_and_then}
 use Rattle.std.specs.Str.Parse.{digits_value}
-use Rattle.std.proofs.Common.{◌≡◌, ℕ, ◌<◌, ◌^◌, Bool, true, false, ◌&&◌, nat_le, nat_lt, cond, Option, Some, None, List, [], ◌∷◌, length, map, refl, subst}
+use Rattle.std.proofs.Common.{◌≡◌, ℕ, ◌<◌, ◌≤◌, ◌^◌, Bool, true, false, ◌&&◌, nat_le, nat_lt, cond, Option, Some, None, List, [], ◌∷◌, length, map, refl, subst, arith}
 use Rattle.std.proofs.lemmas.Bool.{ltb-true}
+use Rattle.std.proofs.lemmas.Bool.Decides.{nat_tests}
 use Rattle.rb_grammar.specs.Lexemes.{meaning_of}
 use Rattle.rb_grammar.specs.Spelling.{At, SpellsFrom}
 use Rattle.rb_grammar.specs.Spelling as spelling
 use Rattle.v_design.specs.Lexemes.{Token, Word, Name, Number, among, is_name, reserved_words, marks, is_decimal, is_quote, base_of, is_constant, constant, constant_of, verilog, Spells}
 use Rattle.v_design.specs.Lexemes as token
-use Rattle.v_design.specs.Expr.{Expr, Exprs, Net, Bits, Const, Cat, One, Two, Pick, none, more}
+use Rattle.v_design.specs.Constants.{ConstantsFit, EachConstantFits, ResetFits}
 use Rattle.v_design.specs.Tree.{Tree, IsTree, Statement, Assign, Clocked, Resettable, Term, Operand, Operands, Plain, Prefixed, Joined, Chosen, Whole, Bit, Part, Sized, Braced, Grouped, no_more, and_also, term_tokens, operand_tokens, operands_tokens, ports_tokens, decls_tokens, negation, stmt_tokens, stmts_tokens, tokens_of}
-use Rattle.v_design.specs.Design.{Step, Reset, expr_of, operand_of, operands_of, step_of, module_of}
+use Rattle.v_design.specs.Design.{Step, expr_of, operand_of, operands_of, step_of, module_of}
+use Rattle.v_design.proofs.Tests.{and-right}
 use Rattle.v_design.proofs.Names.{each_left, each_right}
 
 abbrev TokenFits : Token → Type 0
 TokenFits (Word w) = Unit {0}
 TokenFits (Name n) = Unit {0}
 TokenFits (Number n) = Unit {0}
-TokenFits (token.Const w v) = v < 2 ^ w
+TokenFits (token.Const w v) = (w ≤ 128) × (v < 2 ^ w)
 
 -- what a text means, if anything, is within its width
 abbrev MeaningFits : Option Token → Type 0
@@ -33,13 +35,16 @@ word_fits : (b : Bool) (word : List ℕ) → TokenFits (cond b (Word word) (Name
 word_fits true word = tt
 word_fits false word = tt
 
+at_most : (n : ℕ) → nat_le n 128 ≡ true → n ≤ 128
+at_most n h = grind (arith, nat_tests)
+
 constant_fits : (width value : ℕ) → MeaningFits (constant width value)
-constant_fits width value = go (nat_le 1 width && nat_le width 128) (nat_lt value (2 ^ width)) refl
+constant_fits width value = go (nat_le 1 width && nat_le width 128) (nat_lt value (2 ^ width)) refl refl
   where
-    go : (a b : Bool) → nat_lt value (2 ^ width) ≡ b → MeaningFits (cond (a && b) (Some (token.Const width value)) None)
-    go true true e = ltb-true value (2 ^ width) e
-    go true false e = tt
-    go false b e = tt
+    go : (a b : Bool) → (nat_le 1 width && nat_le width 128) ≡ a → nat_lt value (2 ^ width) ≡ b → MeaningFits (cond (a && b) (Some (token.Const width value)) None)
+    go true true d e = (at_most width (and-right (nat_le 1 width) (nat_le width 128) d), ltb-true value (2 ^ width) e)
+    go true false d e = tt
+    go false b d e = tt
 
 based_fits : (width : ℕ) (o : Option ℕ) (digits : List ℕ) → MeaningFits (option_and_then (λ base. constant width (digits_value base digits)) o)
 based_fits width None digits = tt
@@ -64,21 +69,6 @@ placed_fit size (t ∷ ts) text h = (let s = h.1 in subst MeaningFits s.means (m
 tokens_fit : (ts : List Token) (text : List ℕ) → Spells text ts → AllByRecursion TokenFits ts
 tokens_fit ts text h = subst (AllByRecursion TokenFits) h.2 (placed_fit (length text) h.0 text h.1)
 
-abbrev mutual
-  -- the constants in an expression are within their widths
-  pub ConstantsFit : Expr → Type 0
-  ConstantsFit (Net n) = Unit {0}
-  ConstantsFit (Bits n hi lo) = Unit {0}
-  ConstantsFit (Const w v) = v < 2 ^ w
-  ConstantsFit (Cat es) = EachConstantFits es
-  ConstantsFit (One op e) = ConstantsFit e
-  ConstantsFit (Two op a b) = ConstantsFit a × ConstantsFit b
-  ConstantsFit (Pick c a b) = ConstantsFit c × ConstantsFit a × ConstantsFit b
-
-  pub EachConstantFits : Exprs → Type 0
-  EachConstantFits none = Unit {0}
-  EachConstantFits (more e es) = ConstantsFit e × EachConstantFits es
-
 mutual
   term_fits : (e : Term) → AllByRecursion TokenFits (term_tokens e) → ConstantsFit (expr_of e)
   term_fits (Plain a) h = operand_fits a h
@@ -102,10 +92,6 @@ mutual
   operands_fit no_more h = tt
   operands_fit (and_also a rest) h = (operand_fits a (each_left TokenFits (operand_tokens a) _ h.1), operands_fit rest (each_right TokenFits (operand_tokens a) _ h.1))
 
-abbrev pub ResetFits : Option Reset → Type 0
-ResetFits None = Unit {0}
-ResetFits (Some r) = r.value < 2 ^ r.width
-
 -- the constants of a step are within their widths
 abbrev pub StepFits : Step → Type 0
 StepFits s = ConstantsFit s.expr × ResetFits s.reset
@@ -116,7 +102,7 @@ stmt_fits (Clocked c to e) h = (term_fits e (each_left TokenFits (term_tokens e)
 stmt_fits (Resettable c low reset negated test to width value again e) h =
     let r = each_right TokenFits (negation negated) _ h.1.1.1.1.1.1.1.1.1.1.1 in
     let k = r.1.1.1.1 in
-    (term_fits e (each_left TokenFits (term_tokens e) _ k.1.1.1.1.1), k.0)
+    (term_fits e (each_left TokenFits (term_tokens e) _ k.1.1.1.1.1), k.0.1)
 
 stmts_fit : (ss : List Statement) → AllByRecursion TokenFits (stmts_tokens ss) → AllByRecursion StepFits (map step_of ss)
 stmts_fit [] h = tt

@@ -23,7 +23,8 @@ use Rattle.v_design.proofs.Tests.{and-left, and-right}
 use Rattle.v_design.proofs.Names.{at_name, each_one, each_two, each_three, each_left, each_right, each_append}
 use Rattle.v_design.proofs.Nets.{given_input, inputs_wide, outputs_wide, decls_wide, registers_wide, kept_register, registers_kept, has_one}
 use Rattle.v_design.proofs.Steps.{IsSound, ResetHasWidth, steps_sound, tos, outputs_driven, holds_at_target, holds_at_read, decls_driven, registers_driven}
-use Rattle.v_design.proofs.Constants.{ConstantsFit, EachConstantFits, ResetFits, StepFits, steps_fit}
+use Rattle.v_design.specs.Constants.{ConstantsFit, EachConstantFits, ResetFits}
+use Rattle.v_design.proofs.Constants.{StepFits, steps_fit}
 
 one_bit : (b : Bool) → bit_of b < 2 ^ 1
 one_bit true = omega arith
@@ -79,7 +80,7 @@ module _ (ws : Widths) (v : Values) where
     pub value_fits : (e : Expr) → is_sized ws e ≡ true → ConstantsFit e → AllByRecursion FitsAt (nets_of e) → value_of ws v e < 2 ^ width_of ws e
     value_fits (Net n) s c h = h.0
     value_fits (Bits n hi lo) s c h = mod_below (v n / 2 ^ lo) (2 ^ (hi - lo + 1)) (pow_pos (hi - lo + 1))
-    value_fits (Const w x) s c h = c
+    value_fits (Const w x) s c h = c.1
     value_fits (Cat es) s c h = values_fit_all es (and-left (are_sized ws es) (nat_le (width_of_all ws es) 128) s) c h
     value_fits (One op e) s c h = under_fits op (width_of ws e) (value_of ws v e)
     value_fits (Two op a b) s c h =

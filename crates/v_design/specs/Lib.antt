@@ -5,5 +5,6 @@ pub mod Design
 pub mod WellFormed
 pub mod Run
 pub mod Fits
+pub mod Constants
 pub mod Seen
 pub mod Header

@@ -1,5 +1,7 @@
 use Rattle.std.proofs.Common.{take}
 use Rattle.cyc_sim.specs.Compiled.{end_of, AreBelow}
+use Rattle.v_design.specs.Seen.{expr_seen}
+use Rattle.cyc_sim.proofs.Sizes.{size_of}
 use Rattle.cyc_sim.proofs.Concatenating.{listed, CompilesAll}
 use Rattle.cyc_sim.proofs.compile.+compile.Given as goal
 
@@ -8,3 +10,6 @@ invariant-loop-part l = record {
   below : AreBelow l.known (end_of l.listing);
   compiled : CompilesAll l.known (listed (take l.part-index l.part-items)) l.fn.listing l.listing l.joined;
 }
+
+abbrev pub decreases-compile : goal.decreases-compile
+decreases-compile l = size_of (expr_seen l.expr.now)

@@ -17,4 +17,4 @@ guards known r pin next w old new at adds width = record {
 }
 
 pub returns-in_ok-place-in-Some : goal.returns-in_ok-place-in-Some
-returns-in_ok-place-in-Some c = rw c.in-Some.is (guards c.args.known.now _ c.in_ok-pin-in-Some.pin c.args.next _ c.args.listing.now c.push.new.self c.in_ok-pin-in-Some.ensures c.in_ok-place-in-Some.ensures refl)
+returns-in_ok-place-in-Some c = rw c.in-Some.is (guards c.args.known.now _ c.wire_of-pin.result c.args.next _ c.args.listing.now c.push.new.self c.wire_of-pin.ensures c.in_ok-place-in-Some.ensures refl)

@@ -13,4 +13,4 @@ more_places known pins i d places places' w l is at h pushed =
     rw (pushed, take_more pins i d l, ← is) (AllZip-pushed (λ p place. (x : Wire) × (known_at known p.name ≡ Some x) × (x.place ≡ place)) (take i pins) places d w.place h (w, at, refl))
 
 pub loop-pin-preserved : goal.loop-pin-preserved
-loop-pin-preserved c = more_places c.args.known.now c.args.pins.now c.loop-pin.pin-index c.pin-item.result c.loop-pin.places.items c.push.new.self.items c.in_ok-wire_of.field-0 c.loop-pin-test.true c.pin-item.is c.in_ok-wire_of.ensures c.loop-pin.invariant c.in_ok-push.ensures.items
+loop-pin-preserved c = more_places c.args.known.now c.args.pins.now c.loop-pin.pin-index c.pin-item.result c.loop-pin.places.items c.push.new.self.items c.wire_of.result c.loop-pin-test.true c.pin-item.is c.wire_of.ensures c.loop-pin.invariant c.in_ok-push.ensures.items

@@ -1,8 +1,10 @@
-use Rattle.std.proofs.Common.{◌≡◌, ℕ, ◌+◌, List, length, refl, ap, subst, ◌∙◌, arith}
+use Rattle.std.proofs.Common.{◌≡◌, ℕ, ◌+◌, List, length, refl, ap, sym, map, subst, ◌∙◌, arith}
 use Rattle.v_design.specs.Design.{inputs, outputs, registers}
 use Rattle.rb_base.specs.declared.ports.Pin.{Pin}
-use Rattle.v_design.specs.Seen.{module_seen}
-use Rattle.cyc_sim.specs.Preparing.{ArePlaced, ArePlacesOf}
+use Rattle.v_design.specs.Seen.{module_seen, step_seen}
+use Rattle.cyc_sim.specs.Order.{IsAcyclic}
+use Rattle.cyc_sim.proofs.Standing.{acyclic, moves-known, outputs-known}
+use Rattle.cyc_sim.specs.Preparing.{ArePlaced, ArePlacesOf, KnowsPins}
 use Rattle.cyc_sim.proofs.Stages.{start_prepared}
 use Rattle.cyc_sim.proofs.Programs.{places_length, places_below, program_edges, places_up_to, within_from}
 use Rattle.cyc_sim.proofs.program.Program.new.Goals as goal
@@ -47,3 +49,12 @@ returns c =
       keeps = places_length c.in_ok-moves.moves (registers m) _ nexts;
       edges = program_edges m c.requires _ c.in_ok-moves.moves c.place_moves.new.listing _ _ c.in_ok-moves.ensures.prepared c.in_ok-moves.ensures.moves outs nexts;
     }
+
+pub settling_order-requires : goal.settling_order-requires
+settling_order-requires c = subst (λ ss. IsAcyclic (map step_seen ss)) (sym c.deref.ensures.value) (acyclic (module_seen c.args.design.now) c.requires)
+
+pub places_in-requires : goal.places_in-requires
+places_in-requires c = subst (KnowsPins c.place_nets.new.known) (sym c.outputs.ensures) (outputs-known (module_seen c.args.design.now) c.requires c.place_nets.new.known c.in_ok-place_nets.ensures.nets)
+
+pub places_in-requires-2 : goal.places_in-requires-2
+places_in-requires-2 c = subst (KnowsPins c.in_ok-moves.moves) (sym c.registers-kept.ensures) (moves-known (module_seen c.args.design.now) c.requires c.in_ok-moves.moves c.in_ok-moves.ensures.registers)
