@@ -40,7 +40,7 @@ fn is_open(gate: Gate, value: u64) -> bool
 }
 
 /// Whether a gate has a pin or an item.
-fn is_gated(gate: Gate) -> bool
+pub fn is_gated(gate: Gate) -> bool
     ensures { result ≡ spec.is_gated gate }
 {
     match gate {
@@ -111,7 +111,7 @@ pub fn after_write(view: &View, width: u8, acts: bool, value: u64, bits: u64) ->
 }
 
 /// Whether an interrupt keeps its events.
-fn is_latching(latch: Latch) -> bool
+pub fn is_latching(latch: Latch) -> bool
     ensures { result ≡ spec.is_latching latch }
 {
     match latch {
@@ -123,7 +123,7 @@ fn is_latching(latch: Latch) -> bool
 }
 
 /// Whether a field takes numbers from its source.
-fn loads(field: &Field) -> bool
+pub fn loads(field: &Field) -> bool
     ensures { result ≡ spec.loads field.now }
 {
     if field.count.is_some() {

@@ -4,6 +4,7 @@
 mod effects;
 
 pub use effects::{
-    acts, after_read, after_write, counted, counting, finished, has_read_effect, is_interrupt,
-    is_on, is_storage, keeps_last, latched, loaded, ones, overflows, underflows,
+    acts, after_read, after_write, counted, counting, finished, has_read_effect, is_gated,
+    is_interrupt, is_latching, is_on, is_storage, keeps_last, latched, loaded, loads, ones,
+    overflows, underflows,
 };

@@ -1,7 +1,7 @@
 -- A netlist, and what is known of its nodes.
 use Rattle.std.specs.Str.{bytes_eq}
 use Rattle.std.specs.List.{list_any}
-use Rattle.std.specs.Prelude.{ℕ, ◌+◌, ◌≡◌, ◌<◌, ◌≤◌, ◌^◌, Bool, true, false, IsTrue, List, [], ◌∷◌, length, slice_index, slice_get, count_by, Option, Some, None}
+use Rattle.std.specs.Prelude.{ℕ, ◌+◌, ◌≡◌, ◌<◌, ◌≤◌, ◌^◌, Bool, true, false, IsTrue, List, [], ◌∷◌, length, slice_index, slice_get, count_by, Option, Some, None, unwrap_or}
 use Rattle.rb_base.specs.declared.ports.Pin.{Pin}
 use Rattle.rtl_net.specs.Names.{clock}
 use Rattle.rtl_net.specs.Value.{At, widths_after, node_value, under}
@@ -158,3 +158,12 @@ seen v (Some i) = Some (v.node i.0)
 abbrev pub MayStand : Net → Option Id → Type 0
 MayStand net None = Unit {0}
 MayStand net (Some i) = Stands net i 1
+
+-- the value of a node that may be absent, and 0 where it is
+abbrev pub seen_or_zero : At → Option Id → ℕ
+seen_or_zero v o = unwrap_or (seen v o) 0
+
+-- a node that is absent or has this width
+abbrev pub MayHave : Net → Option Id → ℕ → Type 0
+MayHave net None w = Unit {0}
+MayHave net (Some i) w = Stands net i w

@@ -1,0 +1,4 @@
+pub mod Always
+pub mod Units
+pub mod Parts
+pub mod Ors
