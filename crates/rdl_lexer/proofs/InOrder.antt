@@ -76,7 +76,7 @@ all_give (c ∷ cs) word g = go (c.form word) refl (all_give cs word g.1)
 
 lexeme_gives : (word : List ℕ) → MeansWord (meaning_among systemrdl.classes word)
 unfolding systemrdl
-lexeme_gives word = all_give systemrdl.classes word (words_give, names_give, strings_give, (λ w h. number_gives w _), (λ w h. number_gives w _), (λ w h. number_gives w _), marks_give, (λ w h. tt), tt)
+lexeme_gives word = all_give systemrdl.classes word (words_give, (names_give, (strings_give, ((λ w h. number_gives w _), ((λ w h. number_gives w _), ((λ w h. number_gives w _), (marks_give, ((λ w h. tt), tt))))))))
 
 named : (size : ℕ) (text : List ℕ) (ts : List Token) → SpellsFrom systemrdl size text (map seen ts) → NamesAreWords ts
 named size text [] s = tt

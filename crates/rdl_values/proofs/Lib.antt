@@ -1,2 +1,3 @@
-pub mod Powers
+pub mod Count
 pub mod Paths
+pub mod Powers

@@ -2,6 +2,7 @@
 #![tactic(auto)]
 
 mod constants;
+mod laws;
 mod lookup;
 mod numbers;
 mod operators;
@@ -10,4 +11,5 @@ mod tests;
 mod wanted;
 
 pub use constants::eval;
+pub use laws::over_the_count;
 pub use wanted::{as_type, number_of, start_of};

@@ -33,7 +33,7 @@ use Rattle.rdl_tree.specs.declared.expr.Path.{roll-Path}
 use Rattle.rdl_tree.specs.declared.item.Source.{Source}
 use Rattle.rdl_props.specs.Table.{props}
 use Rattle.rdl_values.specs.Instances.{nodes}
-use Rattle.rdl_elab.specs.Phase3.{failures3}
+use Rattle.rdl_values.specs.Phase3.{failures3}
 use Rattle.rdl_layers.specs.Phase4.{failures4}
 use Rattle.rdl_addr.specs.Rules.{registers}
 use Rattle.rdl_rules.specs.Phase5.{failures5}
