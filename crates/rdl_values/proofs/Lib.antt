@@ -1,3 +1,5 @@
 pub mod Count
 pub mod Paths
 pub mod Powers
+pub mod Given
+pub mod Numbered

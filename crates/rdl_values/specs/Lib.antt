@@ -18,3 +18,4 @@ pub mod Values
 pub mod Verdict
 pub mod Views
 pub mod Visible
+pub mod Given

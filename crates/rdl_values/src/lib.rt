@@ -11,5 +11,5 @@ mod tests;
 mod wanted;
 
 pub use constants::eval;
-pub use laws::over_the_count;
+pub use laws::{nodes_are_given, nodes_are_numbered, over_the_count};
 pub use wanted::{as_type, number_of, start_of};
