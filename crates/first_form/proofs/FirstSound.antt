@@ -49,7 +49,7 @@ module _ (f : Form) where
     signals = tt;
     fields = (
       record {
-        alone = record { wide = (omega arith, omega arith); reset = n.reset; count = tt; one_kind = refl; written_by = λ h. h; pulse_alone = λ h. refl; gate_fed = refl; source_fed = λ h. h; latch_edge = refl; bus_reset = refl; shown_in_order = λ k below. absurd (omega arith); shown_counts = refl };
+        alone = record { wide = (omega arith, omega arith); reset = n.reset; count = tt; one_kind = refl; written_by = λ h. h; pulse_alone = λ h. refl; gate_fed = refl; source_fed = λ h. h; pin = λ h. h; latch_edge = refl; bus_reset = refl; shown_in_order = λ k below. absurd (omega arith); shown_counts = refl };
         refers = record { source = tt; masks = tt; bits = tt; pulses = tt; amounts = tt; levels = tt };
         in_register = (_, refl, refl);
         reset_signal = tt;

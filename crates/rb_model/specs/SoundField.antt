@@ -27,6 +27,7 @@ use Rattle.rb_model.specs.declared.block.View.{View}
 use Rattle.rb_model.specs.declared.block.Reg.{Reg}
 use Rattle.rb_model.specs.Effects.{is_gated, loads, has_read_effect}
 use Rattle.rb_model.specs.Items.{is_interrupt, is_on}
+use Rattle.rb_model.specs.Ports.{is_pin}
 use Rattle.rb_model.specs.References.{WithSome, feed_refs, gate_refs, mask_refs, level_refs, amount_refs, AreWide, AreWithin}
 
 -- Fields alone
@@ -113,6 +114,8 @@ pub record FieldIsSound (f : Field) : Type 0 where
   pub pulse_alone : IsTrue f.pulse → IsTrue (not f.hw_writes)
   pub gate_fed : IsTrue (is_gate_fed f.gate)
   pub source_fed : IsTrue (is_wire f.class || is_interrupt f.latch || loads f) → IsTrue (is_fed f.source)
+  -- a field loads its pin only where it has one
+  pub pin : IsTrue (is_pin f.source) → IsTrue (f.hw_writes && (not (is_some f.count) || is_gated f.gate))
   pub latch_edge : IsTrue (not (holds_nonsticky f.latch))
   -- PRESETn is active low and asynchronous
   pub bus_reset : IsTrue (is_some f.reset_by.signal || f.reset_by.low && not f.reset_by.sync)

@@ -44,7 +44,7 @@ module _ (w : ℕ) where
     signals = tt;
     fields = (
       record {
-        alone = record { wide = (omega arith, omega arith); reset = omega arith; count = tt; one_kind = refl; written_by = λ h. h; pulse_alone = λ h. refl; gate_fed = refl; source_fed = λ h. h; latch_edge = refl; bus_reset = refl; shown_in_order = λ k below. absurd (omega arith); shown_counts = refl };
+        alone = record { wide = (omega arith, omega arith); reset = omega arith; count = tt; one_kind = refl; written_by = λ h. h; pulse_alone = λ h. refl; gate_fed = refl; source_fed = λ h. h; pin = λ h. h; latch_edge = refl; bus_reset = refl; shown_in_order = λ k below. absurd (omega arith); shown_counts = refl };
         refers = record { source = tt; masks = tt; bits = tt; pulses = tt; amounts = tt; levels = tt };
         in_register = (_, refl, refl);
         reset_signal = tt;
@@ -110,7 +110,7 @@ module _ (edge : Edge) (hw : Bool) where
     signals = tt;
     fields = (
       record {
-        alone = record { wide = (omega arith, omega arith); reset = omega arith; count = tt; one_kind = refl; written_by = λ h. refl; pulse_alone = λ h. cc h; gate_fed = refl; source_fed = λ h. refl; latch_edge = ap not sticky; bus_reset = refl; shown_in_order = λ k below. absurd (omega arith); shown_counts = refl };
+        alone = record { wide = (omega arith, omega arith); reset = omega arith; count = tt; one_kind = refl; written_by = λ h. refl; pulse_alone = λ h. cc h; gate_fed = refl; source_fed = λ h. refl; pin = λ h. refl; latch_edge = ap not sticky; bus_reset = refl; shown_in_order = λ k below. absurd (omega arith); shown_counts = refl };
         refers = record { source = tt; masks = tt; bits = tt; pulses = tt; amounts = tt; levels = tt };
         in_register = (_, refl, refl);
         reset_signal = tt;
@@ -144,7 +144,7 @@ ordered_all : (b : Block) → Each (λ p. Each (StandsBefore b.order p.0) (refs 
 ordered_all b h k i e = Each-from_zero (λ p. Each (StandsBefore b.order p.0) (refs b p.1)) b.order k i h e
 
 plain_alone : (path : List ℕ) (reg width : ℕ) → 0 < width → width ≤ 64 → 0 < 2 ^ width → FieldIsSound (plain_field path reg width)
-plain_alone path reg width some few fits = record { wide = (some, few); reset = fits; count = tt; one_kind = refl; written_by = λ h. h; pulse_alone = λ h. refl; gate_fed = refl; source_fed = λ h. h; latch_edge = refl; bus_reset = refl; shown_in_order = λ k below. absurd (omega arith); shown_counts = refl }
+plain_alone path reg width some few fits = record { wide = (some, few); reset = fits; count = tt; one_kind = refl; written_by = λ h. h; pulse_alone = λ h. refl; gate_fed = refl; source_fed = λ h. h; pin = λ h. h; latch_edge = refl; bus_reset = refl; shown_in_order = λ k below. absurd (omega arith); shown_counts = refl }
 
 plain_refers : (b : Block) (path : List ℕ) (reg width : ℕ) → RefersWell b (plain_field path reg width)
 plain_refers b path reg width = record { source = tt; masks = tt; bits = tt; pulses = tt; amounts = tt; levels = tt }
@@ -186,7 +186,7 @@ shared_sound = record {
   signals = tt;
   fields = (
     record {
-      alone = record { wide = (omega arith, omega arith); reset = tt; count = tt; one_kind = refl; written_by = λ h. refl; pulse_alone = λ h. cc h; gate_fed = refl; source_fed = λ h. refl; latch_edge = refl; bus_reset = refl; shown_in_order = λ k below. absurd (omega arith); shown_counts = refl };
+      alone = record { wide = (omega arith, omega arith); reset = tt; count = tt; one_kind = refl; written_by = λ h. refl; pulse_alone = λ h. cc h; gate_fed = refl; source_fed = λ h. refl; pin = λ h. refl; latch_edge = refl; bus_reset = refl; shown_in_order = λ k below. absurd (omega arith); shown_counts = refl };
       refers = record { source = tt; masks = tt; bits = tt; pulses = tt; amounts = tt; levels = tt };
       in_register = (_, refl, refl);
       reset_signal = tt;
@@ -325,7 +325,7 @@ module _ (hw : Bool) where
     signals = tt;
     fields = (
       record {
-        alone = record { wide = (omega arith, omega arith); reset = omega arith; count = tt; one_kind = refl; written_by = λ h. refl; pulse_alone = λ h. cc h; gate_fed = refl; source_fed = λ h. refl; latch_edge = refl; bus_reset = refl; shown_in_order = λ k below. absurd (omega arith); shown_counts = refl };
+        alone = record { wide = (omega arith, omega arith); reset = omega arith; count = tt; one_kind = refl; written_by = λ h. refl; pulse_alone = λ h. cc h; gate_fed = refl; source_fed = λ h. refl; pin = λ h. refl; latch_edge = refl; bus_reset = refl; shown_in_order = λ k below. absurd (omega arith); shown_counts = refl };
         refers = record { source = tt; masks = tt; bits = tt; pulses = tt; amounts = tt; levels = tt };
         in_register = (_, refl, refl);
         reset_signal = tt;
@@ -368,7 +368,7 @@ module _ (high : Option Level) where
     signals = tt;
     fields = (
       record {
-        alone = record { wide = (omega arith, omega arith); reset = omega arith; count = record { up = (refl, omega arith); down = (refl, omega arith); high = fits; low = tt; above = omega arith; below = omega arith }; one_kind = refl; written_by = λ h. h; pulse_alone = λ h. refl; gate_fed = refl; source_fed = λ h. h; latch_edge = refl; bus_reset = refl; shown_in_order = λ k below. absurd (omega arith); shown_counts = refl };
+        alone = record { wide = (omega arith, omega arith); reset = omega arith; count = record { up = (refl, omega arith); down = (refl, omega arith); high = fits; low = tt; above = omega arith; below = omega arith }; one_kind = refl; written_by = λ h. h; pulse_alone = λ h. refl; gate_fed = refl; source_fed = λ h. h; pin = λ h. h; latch_edge = refl; bus_reset = refl; shown_in_order = λ k below. absurd (omega arith); shown_counts = refl };
         refers = record { source = tt; masks = tt; bits = tt; pulses = (tt, tt); amounts = (tt, tt); levels = (within, tt, tt) };
         in_register = (_, refl, refl);
         reset_signal = tt;

@@ -148,5 +148,5 @@ placed_from zero mode at n = []
 placed_from (suc k) mode at n = record { node = n; address = at; size = size_of (suc k) mode n } ∷ cond (is_a kind.Reg n) [] (flat_map (λ c. placed_from k (mode_in mode n) (at + c.1) c.0) (offsets (mode_in mode n) (groups k mode n)))
 
 -- all registers and containers, in node order; the top stands at 0
-abbrev pub layout : Option (List ℕ) → Source → List Placed
+unfoldable pub layout : Option (List ℕ) → Source → List Placed
 layout wanted s = flat_map (placed_from most_names regalign 0) (top_of wanted s)

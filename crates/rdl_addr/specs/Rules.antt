@@ -1,8 +1,9 @@
 -- Which rules on addresses and bits fail where.
-use Rattle.std.specs.Prelude.{ℕ, zero, suc, ◌+◌, ◌/◌, ◌%◌, ◌^◌, Bool, true, false, not, ◌&&◌, ◌||◌, List, [], ◌∷◌, ◌++◌, length, nat_lt, nat_le, ◌==◌, flat_map, filter, Option, option_to_list, Contains}
+use Rattle.std.specs.Prelude.{ℕ, zero, suc, ◌+◌, ◌/◌, ◌%◌, ◌^◌, Bool, true, false, not, ◌&&◌, ◌||◌, List, [], ◌∷◌, ◌++◌, length, nat_lt, nat_le, ◌==◌, cond, map, flat_map, filter, Option, option_to_list, Contains}
 use Rattle.std.specs.List.{list_any}
 use Rattle.rb_base.specs.declared.fault.Fault.{Fault}
 use Rattle.rb_base.specs.declared.keyword.Keyword.TheVariants as word
+use Rattle.rb_base.specs.declared.place.Place.{Place}
 use Rattle.rb_base.specs.declared.rule.Rule.TheVariants as rules
 use Rattle.rdl_tree.specs.declared.item.Kind.TheVariants as kind
 use Rattle.rdl_tree.specs.declared.item.Source.{Source}
@@ -25,7 +26,7 @@ abbrev pub with_groups : ℕ → Mode → Instance → List (Mode × Group)
 with_groups zero mode n = []
 with_groups (suc k) mode n = flat_map (λ g. (mode_in mode n, g) ∷ flat_map (with_groups k (mode_in mode n)) (g.first ∷ g.others)) (groups k mode n)
 
-abbrev pub all_groups : Option (List ℕ) → Source → List (Mode × Group)
+unfoldable pub all_groups : Option (List ℕ) → Source → List (Mode × Group)
 all_groups wanted s = flat_map (with_groups most_names regalign) (top_of wanted s)
 
 -- A1: an array of two elements or more whose stride is below an element's size
@@ -44,7 +45,7 @@ misaligned p = when (not (p.address % (number_at p.node prop.Accesswidth / 8) ==
 abbrev pub too_large : Placed → List Fault
 too_large p = when (nat_lt (2 ^ 32) (p.address + p.size)) (at_ rules.A4 p.node.use_.name.place)
 
--- A5: its bytes meet those of a register before it, unless one is read and the other written in its place
+-- A5: its bytes meet those of a register before it, unless one is only read and the other only written in its place
 
 -- software reads some field of it, and writes none
 abbrev pub is_read_only : Instance → Bool
@@ -54,17 +55,49 @@ is_read_only r = list_any reads (fields_of r) && not (list_any writes (fields_of
 abbrev pub is_write_only : Instance → Bool
 is_write_only r = list_any writes (fields_of r) && not (list_any (λ f. reads f || has_on_read f) (fields_of r))
 
-abbrev pub have_one_shape : Placed → Placed → Bool
-have_one_shape p q = p.address == q.address && number_at p.node prop.Regwidth == number_at q.node prop.Regwidth && number_at p.node prop.Accesswidth == number_at q.node prop.Accesswidth
+-- what software does with a register that may share its address
+pub data Side : Type 0 where
+  reads_alone : Side
+  writes_alone : Side
+  other : Side
 
-abbrev pub may_share_address : Placed → Placed → Bool
-may_share_address p q = have_one_shape p q && ((is_read_only p.node && is_write_only q.node) || (is_write_only p.node && is_read_only q.node))
+-- Where a register stands, and what counts for sharing it.
+pub record Footprint : Type 0 where
+  pub address : ℕ
+  pub size : ℕ
+  pub regwidth : ℕ
+  pub accesswidth : ℕ
+  pub side : Side
 
-abbrev pub meets : Placed → Placed → Bool
-meets p q = nat_lt p.address (q.address + q.size) && nat_lt q.address (p.address + p.size)
+abbrev pub side_of : Instance → Side
+side_of r = cond (is_read_only r) reads_alone (cond (is_write_only r) writes_alone other)
+
+abbrev pub footprint : Placed → Footprint
+footprint p = record { address = p.address; size = p.size; regwidth = number_at p.node prop.Regwidth; accesswidth = number_at p.node prop.Accesswidth; side = side_of p.node }
+
+abbrev pub are_opposite : Side → Side → Bool
+are_opposite reads_alone writes_alone = true
+are_opposite writes_alone reads_alone = true
+are_opposite _ _ = false
+
+abbrev pub have_one_shape : Footprint → Footprint → Bool
+have_one_shape f g = f.address == g.address && f.regwidth == g.regwidth && f.accesswidth == g.accesswidth
+
+abbrev pub may_share_address : Footprint → Footprint → Bool
+may_share_address f g = have_one_shape f g && are_opposite f.side g.side
+
+abbrev pub meets : Footprint → Footprint → Bool
+meets f g = nat_lt f.address (g.address + g.size) && nat_lt g.address (f.address + f.size)
+
+abbrev pub clashes_with : Footprint → Footprint → Bool
+clashes_with f g = meets f g && not (may_share_address f g)
+
+-- the places of those that one before them clashes with
+abbrev pub overlaps_of : List (Place × Footprint) → List Fault
+overlaps_of fs = flat_map (λ f. when (list_any (λ g. clashes_with f.1.1 g.1) f.0) (at_ rules.A5 f.1.0)) (standing fs)
 
 abbrev pub overlaps : List Placed → List Fault
-overlaps ps = flat_map (λ p. when (list_any (λ q. meets p.1 q && not (may_share_address p.1 q)) p.0) (at_ rules.A5 p.1.node.use_.name.place)) (standing ps)
+overlaps ps = overlaps_of (map (λ p. (p.node.use_.name.place, footprint p)) ps)
 
 -- A6: more registers than the limit
 abbrev pub most_registers : ℕ
@@ -99,7 +132,7 @@ of_bits r b =
     ++ when (list_any (clashes b.1) b.0) (at_ rules.B2 b.1.node.use_.name.place)
 
 -- all failures of the A and B rules
-abbrev pub failures_ab : Option (List ℕ) → Source → List Fault
+unfoldable pub failures_ab : Option (List ℕ) → Source → List Fault
 failures_ab wanted s =
     flat_map small_stride (all_groups wanted s)
     ++ flat_map no_alignment (nodes wanted s)

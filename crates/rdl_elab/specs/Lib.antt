@@ -1,2 +1,1 @@
-pub mod Phase3
-pub mod Elaboration
+pub mod Answers

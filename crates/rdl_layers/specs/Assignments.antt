@@ -64,24 +64,29 @@ dynamic_in b i = go (item_is i.1)
 abbrev pub dynamics : Body → List Dynamic
 dynamics b = flat_map (dynamic_in b) (standing b.items)
 
--- all indices of an array are given, or none, which means every element
-abbrev pub is_index : Around → List Expr → List ℕ → Bool
-is_index env [] is = true
-is_index env (e ∷ es) is = go (values env (e ∷ es))
-  where
-    go : Outcome (List ℕ) → Bool
-    go (Ok ns) = bytes_eq ns is
-    go (Err f) = false
+-- The indices given are those of the element. Of an array an assignment may leave all out, which means every element, and a
+-- reference none.
+abbrev pub is_index : Outcome (List ℕ) → List ℕ → Bool
+is_index (Ok ns) index = bytes_eq ns index
+is_index (Err f) index = false
+
+abbrev pub is_index_or_none : Around → List Expr → List ℕ → Bool
+is_index_or_none env [] index = true
+is_index_or_none env (e ∷ es) index = is_index (values env (e ∷ es)) index
+
+-- the instance has the name of the step, and its indices, if any are given
+abbrev pub is_step : Around → Step → Instance → Bool
+is_step env t n = same_name t.name n.use_.name && is_index_or_none env t.index.now (index_of n.path)
 
 -- the instance has the name of the step, and its indices
-abbrev pub is_step : Around → Step → Instance → Bool
-is_step env t n = same_name t.name n.use_.name && is_index env t.index.now (index_of n.path)
+abbrev pub is_step_exactly : Around → Step → Instance → Bool
+is_step_exactly env t n = same_name t.name n.use_.name && is_index (values env t.index.now) (index_of n.path)
 
--- the nodes that a path leads to from these
-abbrev pub led_from : List Instance → Around → List Step → List Instance
-led_from ns env [] = []
-led_from ns env (t ∷ []) = filter (is_step env t) ns
-led_from ns env (t ∷ u ∷ ts) = led_from (flat_map children (filter (is_step env t) ns)) env (u ∷ ts)
+-- the nodes that a path leads to from these, each step by this test
+abbrev pub led_down : (Step → Instance → Bool) → List Instance → List Step → List Instance
+led_down is ns [] = []
+led_down is ns (t ∷ []) = filter (is t) ns
+led_down is ns (t ∷ u ∷ ts) = led_down is (flat_map children (filter (is t) ns)) (u ∷ ts)
 
 -- A body, behind those that it stands in, the top's first.
 abbrev pub Nested : Type 0
@@ -93,12 +98,15 @@ members b = flat_map given_by (seen (b.0 ++ (b.1 ∷ [])) b.1)
 
 -- A target starts at an instance of its own body.
 abbrev pub targets : Nested → Dynamic → List Instance
-targets b d = led_from (members b) (around d.assigns.scope) d.steps
+targets b d = led_down (is_step (around d.assigns.scope)) (members b) d.steps
 
--- the same names and indices
+-- the same name and indices
+abbrev pub same_step : bodies.Step → bodies.Step → Bool
+same_step s t = bytes_eq s.name t.name && bytes_eq s.index t.index
+
 abbrev pub same_steps : List bodies.Step → List bodies.Step → Bool
 same_steps [] [] = true
-same_steps (s ∷ ss) (t ∷ ts) = bytes_eq s.name t.name && bytes_eq s.index t.index && same_steps ss ts
+same_steps (s ∷ ss) (t ∷ ts) = same_step s t && same_steps ss ts
 same_steps _ _ = false
 
 -- the same node

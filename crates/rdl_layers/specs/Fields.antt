@@ -20,6 +20,10 @@ use Rattle.rdl_layers.specs.Settings.{setting}
 abbrev pub is_a : Kind → Instance → Bool
 is_a k n = same_kind k (kind_of n)
 
+-- address maps and register files
+abbrev pub is_container : Instance → Bool
+is_container n = is_a kind.Addrmap n || is_a kind.Regfile n
+
 -- the fields of a register, in text order
 abbrev pub fields_of : Instance → List Instance
 fields_of r = filter (is_a kind.Field) (children r)

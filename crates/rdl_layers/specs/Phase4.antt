@@ -125,7 +125,7 @@ of_node n = go (kind_of n)
     go _ = []
 
 -- All failures of the phase: in the root's body, and of each node and in its body.
-abbrev pub failures4 : Option (List ℕ) → Source → List Fault
+unfoldable pub failures4 : Option (List ℕ) → Source → List Fault
 failures4 wanted s = of_body ([], root s) ++ flat_map (λ n. of_locals n ++ of_body (n.above, body n) ++ of_node n) (nodes wanted s)
 
 -- a rule of the settings phase fails at a place

@@ -100,6 +100,6 @@ abbrev pub setting_or : Meaning → Instance → Prop → Meaning
 setting_or default n p = settled_if p (deciding_of p (applied_to n ++ (applied rank.Table p default ∷ [])))
 
 -- The table's default of accesswidth is the register's regwidth.
-abbrev pub setting : Instance → Prop → Meaning
+unfoldable pub setting : Instance → Prop → Meaning
 setting n prop.Accesswidth = setting_or (setting_or (meaning_of_default (default_of prop.Regwidth)) n prop.Regwidth) n prop.Accesswidth
 setting n p = setting_or (meaning_of_default (default_of p)) n p

@@ -2,11 +2,15 @@
 #![tactic(auto)]
 
 mod candidate;
+mod error;
+mod props;
 mod rank;
 mod related;
 mod setting;
 
 pub use candidate::{Candidate, deciding};
+pub use error::LayerError;
+pub use props::Props;
 pub use rank::Rank;
 pub use related::is_related;
 pub use setting::Setting;

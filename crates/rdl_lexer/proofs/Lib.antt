@@ -5,3 +5,4 @@ pub mod Fronts
 pub mod Sizes
 pub mod NumberFronts
 pub mod Steps
+pub mod InOrder

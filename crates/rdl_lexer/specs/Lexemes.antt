@@ -1,6 +1,6 @@
 -- The lexemes of a source (SystemRDL 2.0, clause 4).
-use Rattle.std.specs.Char.{is_ascii_digit, is_ascii_alphabetic}
-use Rattle.std.specs.List.{list_all, before_first, after_first}
+use Rattle.std.specs.Char.{is_ascii_digit}
+use Rattle.std.specs.List.{before_first, after_first}
 use Rattle.std.specs.Option.{option_map, option_map_or}
 use Rattle.std.specs.Str.{bytes_eq}
 use Rattle.std.specs.Str.Parse.{digits_value}
@@ -11,7 +11,8 @@ use Rattle.rdl_tree.specs.declared.token.TokenKind.{TokenKind}
 use Rattle.rdl_tree.specs.declared.token.TokenKind.TheVariants as kinds
 use Rattle.rdl_tree.specs.declared.token.Token.{Token}
 use Rattle.rdl_tree.specs.Tokens.{mark_of, keyword_of}
-use Rattle.rdl_lexer.specs.Numbers.{underscore, is_quote, is_decimal, is_hexadecimal, is_sized, digits_of, value_of, value_of_size, decimal_value}
+use Rattle.rdl_lexer.specs.Numbers.{is_quote, is_decimal, is_hexadecimal, is_sized, digits_of, value_of, value_of_size, decimal_value}
+pub use Rattle.rdl_tree.specs.Words.{is_letter, is_in_word, is_word}
 
 -- a token apart from its place
 pub record Lexeme : Type 0 where
@@ -20,17 +21,6 @@ pub record Lexeme : Type 0 where
 
 abbrev pub seen : Token → At Lexeme
 seen t = record { token = record { kind = t.kind; text = t.text.now }; place = t.place.0 }
-
-abbrev pub is_letter : ℕ → Bool
-is_letter b = is_ascii_alphabetic b || b == underscore
-
-abbrev pub is_in_word : ℕ → Bool
-is_in_word b = is_letter b || is_ascii_digit b
-
--- a letter or _, then letters, digits and _
-abbrev pub is_word : List ℕ → Bool
-is_word [] = false
-is_word (b ∷ bs) = is_letter b && list_all is_in_word bs
 
 abbrev pub is_backslash : ℕ → Bool
 is_backslash b = b == 92

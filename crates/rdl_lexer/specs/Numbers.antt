@@ -4,9 +4,7 @@ use Rattle.std.specs.List.{list_all, list_any, before_first, after_first}
 use Rattle.std.specs.Option.{option_map_or}
 use Rattle.std.specs.Str.Parse.{digits_value}
 use Rattle.std.specs.Prelude.{ℕ, ◌^◌, Bool, true, false, not, ◌&&◌, ◌||◌, ◌==◌, nat_lt, nat_le, if◌then◌else◌, Option, Some, None, option_and_then, List, [], ◌∷◌, length, filter, drop}
-
-abbrev pub underscore : ℕ
-underscore = 95
+pub use Rattle.rdl_tree.specs.Words.{underscore}
 
 abbrev pub is_in_decimal : ℕ → Bool
 is_in_decimal b = is_ascii_digit b || b == underscore

@@ -2,9 +2,11 @@
 #![tactic(auto)]
 
 mod lexeme;
+mod laws;
 mod lexer;
 mod marks;
 mod numbers;
 mod runs;
 
+pub use laws::spelled_in_order;
 pub use lexer::Lexer;

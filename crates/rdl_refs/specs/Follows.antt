@@ -1,17 +1,19 @@
 -- What an item's value is made from, and where references can be followed for ever.
-use Rattle.std.specs.Prelude.{◌≡◌, ℕ, zero, suc, Bool, false, not, ◌&&◌, ◌||◌, cond, List, [], ◌∷◌, length, flat_map, filter, Some, Contains, All, AllPairs, IsPermutation, slice_get}
-use Rattle.std.specs.List.{list_any}
+use Rattle.std.specs.Prelude.{◌≡◌, ℕ, Bool, true, false, not, ◌&&◌, ◌||◌, cond, List, [], ◌∷◌, map, flat_map, filter, Some, slice_get}
+use Rattle.std.specs.List.{list_any, position_or_len}
 use Rattle.rb_base.specs.declared.place.Place.{Place}
 use Rattle.rdl_tree.specs.declared.item.Kind.TheVariants as kind
 use Rattle.rdl_props.specs.declared.prop.Prop.{Prop}
 use Rattle.rdl_props.specs.declared.prop.Prop.TheVariants as prop
 use Rattle.rdl_values.specs.Bodies as bodies
-use Rattle.rdl_values.specs.Instances.{Instance, upto}
+use Rattle.rdl_values.specs.Instances.{Instance}
+use Rattle.rdl_layers.specs.Assignments.{same_path}
 use Rattle.rdl_layers.specs.Settings.{setting}
 use Rattle.rdl_layers.specs.Fields.{is_a, fields_of, is_alias, same_steps, steps_up, views, is_wire, is_counter, is_interrupt, has_one_of}
 use Rattle.rdl_refs.specs.declared.item.What.{What}
 use Rattle.rdl_refs.specs.declared.item.What.TheVariants as what
-use Rattle.rdl_refs.specs.Items.{Item, items, target}
+use Rattle.rdl_refs.specs.Graph.{Edges, ForEver}
+use Rattle.rdl_refs.specs.Items.{Item, items, target, same_what}
 
 -- the items that settings of a node name
 abbrev pub given_items : List Instance → Instance → List Prop → List Item
@@ -76,35 +78,19 @@ made_from all i = go i.what
 abbrev pub refers_to : List Instance → Item → List Item
 refers_to all i = cond (is_missing i || is_in_alias all i) [] (made_from all i)
 
--- References can be followed for so many steps.
-abbrev pub GoesOn : List Instance → ℕ → Item → Type 0
-GoesOn all zero i = Unit {0}
-GoesOn all (suc k) i = (j : Item) × Contains (refers_to all i) j × GoesOn all k j
+-- Items by their numbers.
 
-abbrev pub ForEver : List Instance → Item → Type 0
-ForEver all i = (k : ℕ) → GoesOn all k i
+abbrev pub is_item : Item → Item → Bool
+is_item i j = same_path i.node.path j.node.path && same_what i.what j.what
+
+-- an item's number is its position among all
+abbrev pub item_number : List Instance → Item → ℕ
+item_number all i = position_or_len (is_item i) (items all)
+
+-- the numbers of the items that each item refers to
+unfoldable pub edges_of : List Instance → Edges
+edges_of all = map (λ i. map (item_number all) (refers_to all i)) (items all)
 
 -- R7: at the instance of a field or register from one of whose items references can be followed for ever
 abbrev pub FailsR7 : List Instance → Place → Type 0
-FailsR7 all p = (i : Item) × Contains (items all) i × ForEver all i × (p ≡ i.node.use_.name.place)
-
--- One item, by its number, refers to another.
-abbrev pub Refers : List Instance → ℕ → ℕ → Type 0
-Refers all a b = (i : Item) × (j : Item) × (slice_get (items all) a ≡ Some i) × (slice_get (items all) b ≡ Some j) × Contains (refers_to all i) j
-
--- Numbers of all items, each once, each after those that it refers to.
-pub record IsOrder (all : List Instance) (order : List ℕ) : Type 0 where
-  pub each_once : IsPermutation order (upto (length (items all)))
-  pub after_its_own : AllPairs (λ a b. ¬ (Refers all a b)) order
-  pub not_to_itself : All (λ a. ¬ (Refers all a a)) order
-
--- each refers to the next, and the last to the first
-abbrev pub GoesRound : List Instance → ℕ → List ℕ → Type 0
-GoesRound all first [] = Unit {0}
-GoesRound all first (a ∷ []) = Refers all a first
-GoesRound all first (a ∷ b ∷ more) = Refers all a b × GoesRound all first (b ∷ more)
-
--- Different items that refer to one another in a circle.
-pub record IsCircle (all : List Instance) (first : ℕ) (others : List ℕ) : Type 0 where
-  pub differ : AllPairs (λ a b. ¬ (a ≡ b)) (first ∷ others)
-  pub round : GoesRound all first (first ∷ others)
+FailsR7 all p = (k : ℕ) × (i : Item) × (slice_get (items all) k ≡ Some i) × ForEver (edges_of all) k × (p ≡ i.node.use_.name.place)

@@ -1,5 +1,5 @@
 -- What a reference may mean: a field, a signal, or an item of a field or register (SystemRDL 2.0, 9.4 to 9.10).
-use Rattle.std.specs.Prelude.{ℕ, Bool, true, false, not, ◌&&◌, ◌||◌, cond, List, [], ◌∷◌, ◌++◌, bytes_eq, map, flat_map, Option, None, Some, option_to_list, Contains, codes}
+use Rattle.std.specs.Prelude.{ℕ, Bool, true, false, not, ◌&&◌, ◌||◌, cond, ◌==◌, List, [], ◌∷◌, ◌++◌, bytes_eq, map, flat_map, Option, None, Some, option_to_list, Contains, codes}
 use Rattle.std.specs.List.{list_any}
 use Rattle.rb_base.specs.declared.fault.Fault.{Fault}
 use Rattle.rb_base.specs.declared.rule.Rule.TheVariants as rules
@@ -19,6 +19,23 @@ use Rattle.rdl_refs.specs.declared.item.What.{What}
 use Rattle.rdl_refs.specs.declared.item.What.TheVariants as what
 use Rattle.rdl_refs.specs.Leads.{led_to}
 
+abbrev pub same_what : What → What → Bool
+same_what a b = rank a == rank b
+  where
+    rank : What → ℕ
+    rank what.Value = 0
+    rank what.Anded = 1
+    rank what.Ored = 2
+    rank what.Xored = 3
+    rank what.IncrThreshold = 4
+    rank what.DecrThreshold = 5
+    rank what.Overflow = 6
+    rank what.Underflow = 7
+    rank what.SwMod = 8
+    rank what.SwAcc = 9
+    rank what.Intr = 10
+    rank what.Halt = 11
+
 -- An item of a node.
 pub record Item : Type 0 where
   pub node : Instance
@@ -37,7 +54,7 @@ abbrev pub items_of : Instance → List Item
 items_of n = map (λ w. record { node = n; what = w }) (whats (kind_of n))
 
 -- every item, in node order; an item's number is its position here
-abbrev pub items : List Instance → List Item
+unfoldable pub items : List Instance → List Item
 items all = flat_map items_of all
 
 -- the word behind '->'
@@ -88,7 +105,7 @@ bad_reference all p (reference path item scope place) =
 bad_reference all p _ = []
 
 -- all failures of R1 and R2, of the settings that are references
-abbrev pub failures_r : Option (List ℕ) → Source → List Fault
+unfoldable pub failures_r : Option (List ℕ) → Source → List Fault
 failures_r wanted s = flat_map (λ n. flat_map (λ p. bad_reference (nodes wanted s) p (setting n p)) props) (nodes wanted s)
 
 abbrev pub fails_r : Option (List ℕ) → Source → Fails

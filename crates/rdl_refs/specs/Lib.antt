@@ -1,3 +1,5 @@
+pub mod Answers
 pub mod Follows
+pub mod Graph
 pub mod Items
 pub mod Leads

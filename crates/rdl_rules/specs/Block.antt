@@ -1,10 +1,10 @@
 -- The register block that a source describes, where it breaks no rule.
-use Rattle.std.specs.Prelude.{◌≡◌, ℕ, Bool, true, false, not, ◌&&◌, List, [], ◌∷◌, map, flat_map, Option}
+use Rattle.std.specs.Prelude.{◌≡◌, ℕ, Bool, not, ◌&&◌, List, [], ◌∷◌, map, flat_map, Option}
 use Rattle.std.specs.List.{list_any}
 use Rattle.std.specs.List.Sorted.{IsPermutation}
 use Rattle.rdl_tree.specs.declared.item.Source.{Source}
 use Rattle.rdl_props.specs.declared.prop.Prop.TheVariants as prop
-use Rattle.rdl_values.specs.Bodies.{Path, of_signal, below_top}
+use Rattle.rdl_refs.specs.Leads.{is_at_root}
 use Rattle.rdl_values.specs.Uses.{path_text}
 use Rattle.rdl_values.specs.Instances.{Instance, nodes, top_of}
 use Rattle.rdl_layers.specs.Phase4.{width_of}
@@ -20,10 +20,6 @@ use Rattle.rb_model.specs.References.{IsOrdered}
 use Rattle.rdl_rules.specs.Numbers.{all_signals, registers, primaries}
 use Rattle.rdl_rules.specs.Fields.{field_of, view_of}
 use Rattle.rdl_rules.specs.Words.{read_words, write_words, AreByAddress}
-
-abbrev pub is_at_root : Path → Bool
-is_at_root (of_signal s) = true
-is_at_root (below_top ss) = false
 
 abbrev pub signal_of : Instance → Signal
 signal_of n = record { path = path_text n.path; width = width_of n; root = is_at_root n.path }

@@ -1,5 +1,5 @@
 -- The fields and views of a block, read off a source that breaks no rule.
-use Rattle.std.specs.Prelude.{ℕ, Bool, true, false, not, ◌&&◌, cond, List, [], ◌∷◌, ◌++◌, map, flat_map, filter, reverse, Option, None, Some, is_some}
+use Rattle.std.specs.Prelude.{ℕ, Bool, true, false, not, ◌&&◌, cond, List, [], ◌∷◌, ◌++◌, map, flat_map, filter, reverse, Option, None, Some}
 use Rattle.std.specs.List.{list_any}
 use Rattle.rb_base.specs.declared.edge.Edge.TheVariants as edge
 use Rattle.rb_base.specs.declared.keyword.Keyword.{Keyword}
@@ -8,13 +8,13 @@ use Rattle.rdl_tree.specs.declared.item.Source.{Source}
 use Rattle.rdl_tree.specs.declared.item.Kind.TheVariants as kind
 use Rattle.rdl_props.specs.declared.prop.Prop.{Prop}
 use Rattle.rdl_props.specs.declared.prop.Prop.TheVariants as prop
-use Rattle.rdl_values.specs.Bodies.{Path, below_top}
+use Rattle.rdl_values.specs.Bodies.{Path, Step, below_top}
 use Rattle.rdl_values.specs.Uses.{path_text, same_name}
 use Rattle.rdl_values.specs.Instances.{Instance, children, signals}
 use Rattle.rdl_layers.specs.Settings.{Meaning, number, named, hard, intr, setting}
 use Rattle.rdl_layers.specs.Phase4.{width_of}
 use Rattle.rdl_layers.specs.Fields.{is_a, fields_of, has, reads, writes, is_once, hardware_writes, hardware_reads, is_alias, is_alias_of, views, is_wire, is_storage, is_counter}
-use Rattle.rdl_refs.specs.Leads.{behind}
+use Rattle.rdl_layers.specs.Assignments.{same_step}
 use Rattle.rdl_refs.specs.Items.{target}
 use Rattle.rb_model.specs.declared.kinds.Class.{Class}
 use Rattle.rb_model.specs.declared.kinds.Class.TheVariants as class
@@ -37,11 +37,17 @@ use Rattle.rdl_rules.specs.Feeds.{feed_at, gate_at, mask_at, source_of, count_of
 abbrev pub is_field_reset : Instance → Bool
 is_field_reset n = is_a kind.Signal n && has prop.FieldReset n
 
+-- the path goes on below this one
+abbrev pub goes_on : List Step → List Step → Bool
+goes_on [] ts = true
+goes_on (s ∷ ss) [] = false
+goes_on (s ∷ ss) (t ∷ ts) = same_step s t && goes_on ss ts
+
 abbrev pub encloses : Instance → Instance → Bool
 encloses n f = go n.path f.path
   where
     go : Path → Path → Bool
-    go (below_top ss) (below_top ts) = is_some (behind ss ts)
+    go (below_top ss) (below_top ts) = goes_on ss ts
     go _ _ = false
 
 -- the signals of the bodies round a field from the nearest on, the root's last

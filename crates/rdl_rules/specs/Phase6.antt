@@ -12,10 +12,10 @@ use Rattle.rdl_rules.specs.RegisterRules.{of_register, empty_container, too_many
 use Rattle.rdl_rules.specs.ReferenceRules.{of_references, second_reset}
 
 -- all failures of the phase but those of R7
-abbrev pub failures6 : Option (List ℕ) → Source → List Fault
+unfoldable pub failures6 : Option (List ℕ) → Source → List Fault
 failures6 wanted s =
     flat_map (of_register (nodes wanted s)) (registers (nodes wanted s))
-    ++ flat_map (empty_container (nodes wanted s)) (nodes wanted s)
+    ++ flat_map empty_container (nodes wanted s)
     ++ too_many_fields (top_of wanted s) (nodes wanted s)
     ++ flat_map (of_references (nodes wanted s)) (nodes wanted s)
     ++ flat_map (λ n. second_reset (children n)) (nodes wanted s)

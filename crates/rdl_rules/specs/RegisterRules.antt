@@ -7,12 +7,11 @@ use Rattle.rdl_tree.specs.declared.item.Kind.TheVariants as kind
 use Rattle.rdl_props.specs.declared.prop.Prop.{Prop}
 use Rattle.rdl_props.specs.declared.prop.Prop.TheVariants as prop
 use Rattle.rdl_values.specs.Uses.{same_name}
-use Rattle.rdl_values.specs.Instances.{Instance, is_empty}
+use Rattle.rdl_values.specs.Instances.{Instance, with_below, most_names, is_empty}
 use Rattle.rdl_layers.specs.Phase4.{number_at}
-use Rattle.rdl_layers.specs.Fields.{is_a, fields_of, is_alias, is_alias_of, views}
+use Rattle.rdl_layers.specs.Fields.{is_a, is_container, fields_of, is_alias, is_alias_of, views}
 use Rattle.rdl_addr.specs.Bits.{Bits, bits_of}
 use Rattle.rdl_rules.specs.Numbers.{registers}
-use Rattle.rdl_rules.specs.Fields.{encloses}
 use Rattle.rdl_rules.specs.FieldRules.{at_node, of_view, of_primary, without_reset}
 
 -- F12: an alias's field that its primary has not at the same bits, or an alias of another width
@@ -41,11 +40,8 @@ of_register all r =
     ++ at_node rules.F14 r (is_empty (fields_of r))
 
 -- F14: an address map or register file without a register at any depth
-abbrev pub is_container : Instance → Bool
-is_container n = is_a kind.Addrmap n || is_a kind.Regfile n
-
-abbrev pub empty_container : List Instance → Instance → List Fault
-empty_container all n = at_node rules.F14 n (is_container n && not (list_any (encloses n) (registers all)))
+abbrev pub empty_container : Instance → List Fault
+empty_container n = at_node rules.F14 n (is_container n && not (list_any (is_a kind.Reg) (with_below most_names n)))
 
 -- F15: more fields than the limit
 abbrev pub most_fields : ℕ

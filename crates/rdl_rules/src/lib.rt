@@ -1,2 +1,6 @@
-//! The rules on meaning, and the register block.
+//! The rules on meaning, and the register block. What the call answers is defined in `specs/`; it is still to be written.
 #![tactic(auto)]
+
+mod error;
+
+pub use error::CheckError;

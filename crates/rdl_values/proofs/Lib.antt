@@ -1,2 +1,5 @@
-pub mod Powers
+pub mod Count
 pub mod Paths
+pub mod Powers
+pub mod Given
+pub mod Numbered

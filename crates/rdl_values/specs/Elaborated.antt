@@ -1,12 +1,13 @@
 -- What the tree of nodes says: the instances of the source, with the numbers of their order.
-use Rattle.std.specs.Prelude.{◌≡◌, ℕ, ◌+◌, min, List, [], ◌∷◌, ◌++◌, length, bytes_eq, find, flat_map, Option, option_map, option_and_then}
+use Rattle.std.specs.Prelude.{◌≡◌, ℕ, ◌+◌, min, List, [], ◌∷◌, length, bytes_eq, find, Option, Some, option_map, option_and_then, All, Contains, slice_get}
 use Rattle.std.specs.Option.{option_copied}
 use Rattle.rdl_tree.specs.declared.expr.Name.{Name}
 use Rattle.rdl_tree.specs.declared.item.Source.{Source}
 use Rattle.rdl_tree.specs.declared.node.Elab.{Elab}
-use Rattle.rdl_tree.specs.declared.node.Node.{Node, out-Node, Node', Row_of-Node, end_of-Node, more_of-Node}
+use Rattle.rdl_tree.specs.declared.node.Node.{Node, out-Node}
+use Rattle.rdl_tree.specs.Words.{IsWordName}
 use Rattle.rdl_values.specs.Bodies.{Step, Path, of_signal, below_top, around}
-use Rattle.rdl_values.specs.Instances.{Instance, body, kind_of, children, signals, top_of, upto, nodes, most_nodes}
+use Rattle.rdl_values.specs.Instances.{Instance, body, kind_of, children, signals, top_of, nodes, most_nodes}
 use Rattle.rdl_values.specs.Seen.{around_of}
 use Rattle.rdl_values.specs.Values.{Around}
 
@@ -40,30 +41,45 @@ pub record Says (beside : List Node) (r : Node) (n : Instance) : Type 0 where
   pub place : (out-Node r).place ≡ n.use_.name.place
 
 mutual
-  -- a node, with those beside it, and those below it are an instance and those below it
-  pub data IsTreeOf : List Node → Node → Instance → Type 0 where
-    node : {beside : List Node} {r : Node} {n : Instance} → Says beside r n → AreTreesOf (out-Node r).children.now (out-Node r).children.now (children n) → IsTreeOf beside r n
+  -- A node of this number, with those beside it, and those below it are an instance and those below it. They are numbered in
+  -- order, each before those in its body; the last number is that of the next node.
+  pub data IsTreeOf : List Node → ℕ → Node → Instance → ℕ → Type 0 where
+    node : {beside : List Node} {r : Node} {n : Instance} {at after : ℕ} → (out-Node r).id ≡ at → Says beside r n → AreTreesOf (out-Node r).children.now (at + 1) (out-Node r).children.now (children n) after
+        → IsTreeOf beside at r n after
 
-  -- so are some nodes of a body, one by one
-  pub data AreTreesOf : List Node → List Node → List Instance → Type 0 where
-    none : {beside : List Node} → AreTreesOf beside [] []
-    more : {beside : List Node} {r : Node} {n : Instance} {rs : List Node} {ns : List Instance} → IsTreeOf beside r n → AreTreesOf beside rs ns → AreTreesOf beside (r ∷ rs) (n ∷ ns)
-
--- the numbers of a node and of those below it, each node before those in it
-abbrev mutual
-  pub ids : Node → List ℕ
-  ids (Node' id name index kind def inst alias env p shape rows place) = id ∷ ids_of rows
-
-  pub ids_of : {m : _} → Row_of-Node m → List ℕ
-  ids_of end_of-Node = []
-  ids_of (more_of-Node n rest) = ids n ++ ids_of rest
+  -- so are some nodes of a body, one by one, from this number on
+  pub data AreTreesOf : List Node → ℕ → List Node → List Instance → ℕ → Type 0 where
+    none : {beside : List Node} {at : ℕ} → AreTreesOf beside at [] [] at
+    more : {beside : List Node} {r : Node} {n : Instance} {rs : List Node} {ns : List Instance} {at next after : ℕ} → IsTreeOf beside at r n next → AreTreesOf beside next rs ns after → AreTreesOf beside at (r ∷ rs) (n ∷ ns) after
 
 -- The tree of a source: its signals and its top are the source's, and a node's number is its position in the order of nodes.
 pub record IsElab (wanted : Option (List ℕ)) (s : Source) (e : Elab) : Type 0 where
   pub source : e.source.now ≡ s
-  pub signals_ : AreTreesOf e.signals.now e.signals.now (signals s)
-  pub top : AreTreesOf [] (e.top.now ∷ []) (top_of wanted s)
-  pub numbers : flat_map ids e.signals.now ++ ids e.top.now ≡ upto e.count
+  pub between : ℕ
+  pub signals_ : AreTreesOf e.signals.now 0 e.signals.now (signals s) between
+  pub top : AreTreesOf [] between (e.top.now ∷ []) (top_of wanted s) e.count
+
+-- The name of the top. It determines which definition is the top, where no other at the root has it.
+abbrev pub top_name : Elab → List ℕ
+top_name e = (out-Node e.top.now).name.now
+
+-- the instances of a tree, by the source and the top's name
+abbrev pub nodes_of : Elab → List Instance
+nodes_of e = nodes (Some (top_name e)) e.source.now
+
+-- A node of the tree, with those beside it in its body.
+pub data IsNodeOf (e : Elab) : List Node → Node → Type 0 where
+  signal : {r : Node} → Contains e.signals.now r → IsNodeOf e e.signals.now r
+  top : IsNodeOf e [] e.top.now
+  below : {beside : List Node} {p r : Node} → IsNodeOf e beside p → Contains (out-Node p).children.now r → IsNodeOf e (out-Node p).children.now r
+
+-- The node says what the instance at its number is.
+abbrev pub IsNumbered : Elab → List Node → Node → Type 0
+IsNumbered e beside r = (n : Instance) × (slice_get (nodes_of e) (out-Node r).id ≡ Some n) × Says beside r n
+
+-- the names of all instances are words
+abbrev pub HasWords : Option (List ℕ) → Source → Type 0
+HasWords wanted s = All (λ n. IsWordName n.use_.name) (nodes wanted s)
 
 -- how many nodes a source has, counted no further than the first that is one too many
 abbrev pub measured : Option (List ℕ) → Source → ℕ

@@ -74,7 +74,7 @@ with_below (suc k) n = n ∷ flat_map (with_below k) (children n)
 -- All nodes in order: the root's signals, then the top and what is below it. As no path has more than 32 names (E8), 32
 -- levels are all. A node's number is its position here, which is the count of paths before its own. The list may be of any
 -- length: `q[2**40]` has that many nodes, which no program lists.
-abbrev pub nodes : Option (List ℕ) → Source → List Instance
+unfoldable pub nodes : Option (List ℕ) → Source → List Instance
 nodes wanted s = signals s ++ flat_map (with_below most_names) (top_of wanted s)
 
 -- The nodes that are judged: the first 65,536. Where there is one more, E9 fails.

@@ -18,6 +18,7 @@ use Rattle.rdl_tree.specs.declared.value.Value.TheVariants as value
 use Rattle.rdl_values.specs.Elaborated.{node, none, more, IsElab}
 use Rattle.rdl_worked.proofs.InstancesSources.{alias_beside}
 use Rattle.rdl_worked.proofs.Trees.{lend, at, name, inst, insts_of, component}
+use Rattle.rdl_values.specs.Instances.{nodes}
 
 -- signal {} g; addrmap k { reg P #(longint n = 4) { field {} e; }; P p[1]; P q; alias q P s; };
 
@@ -81,5 +82,5 @@ elab = record {
 
 -- s is an alias of the node 4, which is q; an element of an array stands between
 tree_with_alias : IsElab None alias_beside elab
-unfolding digits roll-Path denote.Hole.Carrier.roll Rattle.rdl_tree.specs.declared.expr.Expr.TheBlock.hidden-the_row-Step-1 denote.Hole.Carrier.hidden Rattle.rdl_tree.specs.declared.item.Item.TheBlock.hidden-the_row-Item-0 roll-Node roll-Env out-Node denote.Hole.Carrier.out denote.Hole.Carrier.shown Rattle.rdl_tree.specs.declared.node.Node.TheBlock.shown-the_row-Node-0 Rattle.rdl_tree.specs.declared.node.Node.TheBlock.hidden-the_row-Node-0
-tree_with_alias = record { source = refl; signals_ = more (node (record { name = refl; index = refl; kind = refl; def = refl; inst = refl; alias = refl; env = refl; place = refl }) none) none; top = more (node (record { name = refl; index = refl; kind = refl; def = refl; inst = refl; alias = refl; env = refl; place = refl }) (more (node (record { name = refl; index = refl; kind = refl; def = refl; inst = refl; alias = refl; env = refl; place = refl }) (more (node (record { name = refl; index = refl; kind = refl; def = refl; inst = refl; alias = refl; env = refl; place = refl }) none) none)) (more (node (record { name = refl; index = refl; kind = refl; def = refl; inst = refl; alias = refl; env = refl; place = refl }) (more (node (record { name = refl; index = refl; kind = refl; def = refl; inst = refl; alias = refl; env = refl; place = refl }) none) none)) (more (node (record { name = refl; index = refl; kind = refl; def = refl; inst = refl; alias = refl; env = refl; place = refl }) (more (node (record { name = refl; index = refl; kind = refl; def = refl; inst = refl; alias = refl; env = refl; place = refl }) none) none)) none)))) none; numbers = refl }
+unfolding nodes digits roll-Path denote.Hole.Carrier.roll Rattle.rdl_tree.specs.declared.expr.Expr.TheBlock.hidden-the_row-Step-1 denote.Hole.Carrier.hidden Rattle.rdl_tree.specs.declared.item.Item.TheBlock.hidden-the_row-Item-0 roll-Node roll-Env out-Node denote.Hole.Carrier.out denote.Hole.Carrier.shown Rattle.rdl_tree.specs.declared.node.Node.TheBlock.shown-the_row-Node-0 Rattle.rdl_tree.specs.declared.node.Node.TheBlock.hidden-the_row-Node-0
+tree_with_alias = record { source = refl; between = 1; signals_ = more (node refl (record { name = refl; index = refl; kind = refl; def = refl; inst = refl; alias = refl; env = refl; place = refl }) none) none; top = more (node refl (record { name = refl; index = refl; kind = refl; def = refl; inst = refl; alias = refl; env = refl; place = refl }) (more (node refl (record { name = refl; index = refl; kind = refl; def = refl; inst = refl; alias = refl; env = refl; place = refl }) (more (node refl (record { name = refl; index = refl; kind = refl; def = refl; inst = refl; alias = refl; env = refl; place = refl }) none) none)) (more (node refl (record { name = refl; index = refl; kind = refl; def = refl; inst = refl; alias = refl; env = refl; place = refl }) (more (node refl (record { name = refl; index = refl; kind = refl; def = refl; inst = refl; alias = refl; env = refl; place = refl }) none) none)) (more (node refl (record { name = refl; index = refl; kind = refl; def = refl; inst = refl; alias = refl; env = refl; place = refl }) (more (node refl (record { name = refl; index = refl; kind = refl; def = refl; inst = refl; alias = refl; env = refl; place = refl }) none) none)) none)))) none }

@@ -1,5 +1,5 @@
 -- What the definitions give for references.
-use Rattle.std.proofs.Common.{get_or, ◌≡◌, ℕ, zero, suc, ◌<◌, Bool, true, false, List, [], ◌∷◌, refl, map, None, codes, arith}
+use Rattle.std.proofs.Common.{get_or, slice_get, Some, ◌≡◌, ℕ, zero, suc, ◌<◌, Bool, true, false, List, [], ◌∷◌, refl, map, None, codes, arith}
 use Rattle.std.specs.Prelude.{Contains}
 use Rattle.std.specs.Fmt.{digits}
 use Rattle.rb_base.specs.declared.rule.Rule.TheVariants as rules
@@ -16,10 +16,12 @@ use Rattle.rdl_values.specs.Top.{top_use}
 use Rattle.rdl_layers.specs.Settings.{setting}
 use Rattle.rdl_refs.specs.declared.item.What.{What}
 use Rattle.rdl_refs.specs.declared.item.What.TheVariants as what
-use Rattle.rdl_refs.specs.Follows.{refers_to, GoesOn, FailsR7, IsCircle, is_missing, is_in_alias}
-use Rattle.rdl_refs.specs.Items.{Item, items_of, target, failures_r}
+use Rattle.rdl_refs.specs.Follows.{edges_of, refers_to, FailsR7, is_missing, is_in_alias}
+use Rattle.rdl_refs.specs.Items.{items, Item, items_of, target, failures_r}
 use Rattle.rdl_worked.proofs.Trees.{at, name, component}
 use Rattle.rdl_worked.proofs.ReferencesSources.{two_fields, two_counters, many_references, nearest_name, many_items, alias_items}
+use Rattle.rdl_refs.specs.Graph.{Edges, Refers, GoesOn, IsCircle}
+use Rattle.rdl_refs.specs.Leads.{led_to}
 
 -- what stands for a node at a position that has none
 abbrev nobody : Instance
@@ -45,57 +47,57 @@ made_at s k = map (λ i. map shown (refers_to (nodes None s) i)) (items_of (node
 
 -- a name is looked up outwards, at the root last
 signal_at_the_root : shown_at many_references 4 prop.Next ≡ (codes "s", what.Value) ∷ []
-unfolding digits props roll-Path denote.Hole.Carrier.roll Rattle.rdl_tree.specs.declared.expr.Expr.TheBlock.hidden-the_row-Step-1 denote.Hole.Carrier.hidden Rattle.rdl_tree.specs.declared.item.Item.TheBlock.hidden-the_row-Item-0
+unfolding nodes setting items led_to failures_r edges_of digits props roll-Path denote.Hole.Carrier.roll Rattle.rdl_tree.specs.declared.expr.Expr.TheBlock.hidden-the_row-Step-1 denote.Hole.Carrier.hidden Rattle.rdl_tree.specs.declared.item.Item.TheBlock.hidden-the_row-Item-0
 signal_at_the_root = refl
 
 -- in an array of registers a name means the field beside it
 field_of_the_same_element : shown_at many_references 9 prop.Next ≡ (codes "v$1$f", what.Value) ∷ []
-unfolding digits props roll-Path denote.Hole.Carrier.roll Rattle.rdl_tree.specs.declared.expr.Expr.TheBlock.hidden-the_row-Step-1 denote.Hole.Carrier.hidden Rattle.rdl_tree.specs.declared.item.Item.TheBlock.hidden-the_row-Item-0
+unfolding nodes setting items led_to failures_r edges_of digits props roll-Path denote.Hole.Carrier.roll Rattle.rdl_tree.specs.declared.expr.Expr.TheBlock.hidden-the_row-Step-1 denote.Hole.Carrier.hidden Rattle.rdl_tree.specs.declared.item.Item.TheBlock.hidden-the_row-Item-0
 field_of_the_same_element = refl
 
 -- all indices are given
 field_of_an_element : shown_at many_references 11 prop.Next ≡ (codes "v$1$f", what.Value) ∷ []
-unfolding digits props roll-Path denote.Hole.Carrier.roll Rattle.rdl_tree.specs.declared.expr.Expr.TheBlock.hidden-the_row-Step-1 denote.Hole.Carrier.hidden Rattle.rdl_tree.specs.declared.item.Item.TheBlock.hidden-the_row-Item-0
+unfolding nodes setting items led_to failures_r edges_of digits props roll-Path denote.Hole.Carrier.roll Rattle.rdl_tree.specs.declared.expr.Expr.TheBlock.hidden-the_row-Step-1 denote.Hole.Carrier.hidden Rattle.rdl_tree.specs.declared.item.Item.TheBlock.hidden-the_row-Item-0
 field_of_an_element = refl
 
 -- the word behind the arrow names an item
 item_of_a_field : shown_at many_references 11 prop.We ≡ (codes "v$0$g", what.Ored) ∷ []
-unfolding digits props roll-Path denote.Hole.Carrier.roll Rattle.rdl_tree.specs.declared.expr.Expr.TheBlock.hidden-the_row-Step-1 denote.Hole.Carrier.hidden Rattle.rdl_tree.specs.declared.item.Item.TheBlock.hidden-the_row-Item-0
+unfolding nodes setting items led_to failures_r edges_of digits props roll-Path denote.Hole.Carrier.roll Rattle.rdl_tree.specs.declared.expr.Expr.TheBlock.hidden-the_row-Step-1 denote.Hole.Carrier.hidden Rattle.rdl_tree.specs.declared.item.Item.TheBlock.hidden-the_row-Item-0
 item_of_a_field = refl
 
 -- a reset signal that is a field; the name of the map itself; an index left out; a word that names no item
 bad_references : failures_r None many_references ≡ at_ rules.R2 (at 317) ∷ at_ rules.R1 (at 254) ∷ at_ rules.R1 (at 239) ∷ at_ rules.R2 (at 288) ∷ []
-unfolding digits props roll-Path denote.Hole.Carrier.roll Rattle.rdl_tree.specs.declared.expr.Expr.TheBlock.hidden-the_row-Step-1 denote.Hole.Carrier.hidden Rattle.rdl_tree.specs.declared.item.Item.TheBlock.hidden-the_row-Item-0
+unfolding nodes setting items led_to failures_r edges_of digits props roll-Path denote.Hole.Carrier.roll Rattle.rdl_tree.specs.declared.expr.Expr.TheBlock.hidden-the_row-Step-1 denote.Hole.Carrier.hidden Rattle.rdl_tree.specs.declared.item.Item.TheBlock.hidden-the_row-Item-0
 bad_references = refl
 
 -- the nearest body with the name decides
 outer_name_hidden : shown_at nearest_name 7 prop.Next ≡ (codes "u$a$f", what.Value) ∷ []
-unfolding digits props roll-Path denote.Hole.Carrier.roll Rattle.rdl_tree.specs.declared.expr.Expr.TheBlock.hidden-the_row-Step-1 denote.Hole.Carrier.hidden Rattle.rdl_tree.specs.declared.item.Item.TheBlock.hidden-the_row-Item-0
+unfolding nodes setting items led_to failures_r edges_of digits props roll-Path denote.Hole.Carrier.roll Rattle.rdl_tree.specs.declared.expr.Expr.TheBlock.hidden-the_row-Step-1 denote.Hole.Carrier.hidden Rattle.rdl_tree.specs.declared.item.Item.TheBlock.hidden-the_row-Item-0
 outer_name_hidden = refl
 
 -- and where it leads nowhere no body further out is asked
 no_way_back : failures_r None nearest_name ≡ at_ rules.R1 (at 179) ∷ []
-unfolding digits props roll-Path denote.Hole.Carrier.roll Rattle.rdl_tree.specs.declared.expr.Expr.TheBlock.hidden-the_row-Step-1 denote.Hole.Carrier.hidden Rattle.rdl_tree.specs.declared.item.Item.TheBlock.hidden-the_row-Item-0
+unfolding nodes setting items led_to failures_r edges_of digits props roll-Path denote.Hole.Carrier.roll Rattle.rdl_tree.specs.declared.expr.Expr.TheBlock.hidden-the_row-Step-1 denote.Hole.Carrier.hidden Rattle.rdl_tree.specs.declared.item.Item.TheBlock.hidden-the_row-Item-0
 no_way_back = refl
 
 -- a register's intr refers to its interrupt fields and their enables, its halt to those with a halt mask
 interrupt_refers : made_at many_items 1 ≡ ((codes "a$ev", what.Value) ∷ (codes "a$en", what.Value) ∷ (codes "a$lv", what.Value) ∷ []) ∷ ((codes "a$ev", what.Value) ∷ (codes "a$en", what.Value) ∷ []) ∷ []
-unfolding digits props roll-Path denote.Hole.Carrier.roll Rattle.rdl_tree.specs.declared.expr.Expr.TheBlock.hidden-the_row-Step-1 denote.Hole.Carrier.hidden Rattle.rdl_tree.specs.declared.item.Item.TheBlock.hidden-the_row-Item-0
+unfolding nodes setting items led_to failures_r edges_of digits props roll-Path denote.Hole.Carrier.roll Rattle.rdl_tree.specs.declared.expr.Expr.TheBlock.hidden-the_row-Step-1 denote.Hole.Carrier.hidden Rattle.rdl_tree.specs.declared.item.Item.TheBlock.hidden-the_row-Item-0
 interrupt_refers = refl
 
 -- a wire refers to what its next names; an item that it lacks to nothing
 wire_refers : made_at many_items 4 ≡ ((codes "a$en", what.Xored) ∷ []) ∷ ((codes "a$lv", what.Value) ∷ []) ∷ ((codes "a$lv", what.Value) ∷ []) ∷ ((codes "a$lv", what.Value) ∷ []) ∷ [] ∷ [] ∷ [] ∷ [] ∷ [] ∷ [] ∷ []
-unfolding digits props roll-Path denote.Hole.Carrier.roll Rattle.rdl_tree.specs.declared.expr.Expr.TheBlock.hidden-the_row-Step-1 denote.Hole.Carrier.hidden Rattle.rdl_tree.specs.declared.item.Item.TheBlock.hidden-the_row-Item-0
+unfolding nodes setting items led_to failures_r edges_of digits props roll-Path denote.Hole.Carrier.roll Rattle.rdl_tree.specs.declared.expr.Expr.TheBlock.hidden-the_row-Step-1 denote.Hole.Carrier.hidden Rattle.rdl_tree.specs.declared.item.Item.TheBlock.hidden-the_row-Item-0
 wire_refers = refl
 
 -- a counter's thresholds refer to its value, its overflow to what it counts by
 counter_refers : made_at many_items 6 ≡ [] ∷ ((codes "a$c", what.Value) ∷ []) ∷ ((codes "a$c", what.Value) ∷ []) ∷ ((codes "a$c", what.Value) ∷ []) ∷ ((codes "a$c", what.Value) ∷ (codes "a$n", what.Value) ∷ []) ∷ ((codes "a$c", what.Value) ∷ []) ∷ ((codes "a$ev", what.Ored) ∷ (codes "a$n", what.Value) ∷ []) ∷ ((codes "a$ev", what.Ored) ∷ (codes "a$n", what.Value) ∷ []) ∷ [] ∷ [] ∷ []
-unfolding digits props roll-Path denote.Hole.Carrier.roll Rattle.rdl_tree.specs.declared.expr.Expr.TheBlock.hidden-the_row-Step-1 denote.Hole.Carrier.hidden Rattle.rdl_tree.specs.declared.item.Item.TheBlock.hidden-the_row-Item-0
+unfolding nodes setting items led_to failures_r edges_of digits props roll-Path denote.Hole.Carrier.roll Rattle.rdl_tree.specs.declared.expr.Expr.TheBlock.hidden-the_row-Step-1 denote.Hole.Carrier.hidden Rattle.rdl_tree.specs.declared.item.Item.TheBlock.hidden-the_row-Item-0
 counter_refers = refl
 
 -- the items of an alias refer to nothing
 alias_refers_to_nothing : made_at alias_items 5 ≡ [] ∷ [] ∷ [] ∷ [] ∷ [] ∷ [] ∷ [] ∷ [] ∷ [] ∷ [] ∷ []
-unfolding digits props roll-Path denote.Hole.Carrier.roll Rattle.rdl_tree.specs.declared.expr.Expr.TheBlock.hidden-the_row-Step-1 denote.Hole.Carrier.hidden Rattle.rdl_tree.specs.declared.item.Item.TheBlock.hidden-the_row-Item-0
+unfolding nodes setting items led_to failures_r edges_of digits props roll-Path denote.Hole.Carrier.roll Rattle.rdl_tree.specs.declared.expr.Expr.TheBlock.hidden-the_row-Step-1 denote.Hole.Carrier.hidden Rattle.rdl_tree.specs.declared.item.Item.TheBlock.hidden-the_row-Item-0
 alias_refers_to_nothing = refl
 
 -- which items are missing, and which an alias has
@@ -104,45 +106,71 @@ judged_at p = map {B = Bool × Bool} (λ i. (is_missing i, is_in_alias (nodes No
 
 -- an alias is judged by its own settings, in which it has no interrupt
 alias_without_interrupt : judged_at prop.Hwset ≡ (true, true) ∷ []
-unfolding digits props roll-Path denote.Hole.Carrier.roll Rattle.rdl_tree.specs.declared.expr.Expr.TheBlock.hidden-the_row-Step-1 denote.Hole.Carrier.hidden Rattle.rdl_tree.specs.declared.item.Item.TheBlock.hidden-the_row-Item-0
+unfolding nodes setting items led_to failures_r edges_of digits props roll-Path denote.Hole.Carrier.roll Rattle.rdl_tree.specs.declared.expr.Expr.TheBlock.hidden-the_row-Step-1 denote.Hole.Carrier.hidden Rattle.rdl_tree.specs.declared.item.Item.TheBlock.hidden-the_row-Item-0
 alias_without_interrupt = refl
 
 -- and here a counter
 alias_with_counter : judged_at prop.Hwclr ≡ (false, true) ∷ []
-unfolding digits props roll-Path denote.Hole.Carrier.roll Rattle.rdl_tree.specs.declared.expr.Expr.TheBlock.hidden-the_row-Step-1 denote.Hole.Carrier.hidden Rattle.rdl_tree.specs.declared.item.Item.TheBlock.hidden-the_row-Item-0
+unfolding nodes setting items led_to failures_r edges_of digits props roll-Path denote.Hole.Carrier.roll Rattle.rdl_tree.specs.declared.expr.Expr.TheBlock.hidden-the_row-Step-1 denote.Hole.Carrier.hidden Rattle.rdl_tree.specs.declared.item.Item.TheBlock.hidden-the_row-Item-0
 alias_with_counter = refl
 
 -- a register without halt
 register_without_halt : judged_at prop.We ≡ (true, false) ∷ []
-unfolding digits props roll-Path denote.Hole.Carrier.roll Rattle.rdl_tree.specs.declared.expr.Expr.TheBlock.hidden-the_row-Step-1 denote.Hole.Carrier.hidden Rattle.rdl_tree.specs.declared.item.Item.TheBlock.hidden-the_row-Item-0
+unfolding nodes setting items led_to failures_r edges_of digits props roll-Path denote.Hole.Carrier.roll Rattle.rdl_tree.specs.declared.expr.Expr.TheBlock.hidden-the_row-Step-1 denote.Hole.Carrier.hidden Rattle.rdl_tree.specs.declared.item.Item.TheBlock.hidden-the_row-Item-0
 register_without_halt = refl
 
 -- two items that refer to each other can be followed for ever
-round : (all : List Instance) (i j : Item) → Contains (refers_to all i) j → Contains (refers_to all j) i → (k : ℕ) → GoesOn all k i
-round all i j a b zero = tt
-round all i j a b (suc zero) = (j, a, tt)
-round all i j a b (suc (suc k)) = (j, a, (i, b, round all i j a b k))
+round : (edges : Edges) (a b : ℕ) → Refers edges a b → Refers edges b a → (k : ℕ) → GoesOn edges k a
+round edges a b there back zero = tt
+round edges a b there back (suc zero) = (b, there, tt)
+round edges a b there back (suc (suc k)) = (b, there, (a, back, round edges a b there back k))
 
 abbrev item_at : Source → ℕ → What → Item
 item_at s k w = record { node = node_at s k; what = w }
 
+-- one item refers to another alone
+one_edge : (edges : Edges) (a b : ℕ) → slice_get edges a ≡ Some (b ∷ []) → Refers edges a b
+one_edge edges a b e = (b ∷ [], e, (0, omega arith, refl))
+
+abbrev field_edges : Edges
+field_edges = edges_of (nodes None two_fields)
+
+abbrev counter_edges : Edges
+counter_edges = edges_of (nodes None two_counters)
+
+field_there : Refers field_edges 2 12
+unfolding nodes setting items led_to failures_r edges_of digits props roll-Path denote.Hole.Carrier.roll Rattle.rdl_tree.specs.declared.expr.Expr.TheBlock.hidden-the_row-Step-1 denote.Hole.Carrier.hidden Rattle.rdl_tree.specs.declared.item.Item.TheBlock.hidden-the_row-Item-0
+field_there = one_edge field_edges 2 12 refl
+
+field_back : Refers field_edges 12 2
+unfolding nodes setting items led_to failures_r edges_of digits props roll-Path denote.Hole.Carrier.roll Rattle.rdl_tree.specs.declared.expr.Expr.TheBlock.hidden-the_row-Step-1 denote.Hole.Carrier.hidden Rattle.rdl_tree.specs.declared.item.Item.TheBlock.hidden-the_row-Item-0
+field_back = one_edge field_edges 12 2 refl
+
+counter_there : Refers counter_edges 8 18
+unfolding nodes setting items led_to failures_r edges_of digits props roll-Path denote.Hole.Carrier.roll Rattle.rdl_tree.specs.declared.expr.Expr.TheBlock.hidden-the_row-Step-1 denote.Hole.Carrier.hidden Rattle.rdl_tree.specs.declared.item.Item.TheBlock.hidden-the_row-Item-0
+counter_there = one_edge counter_edges 8 18 refl
+
+counter_back : Refers counter_edges 18 8
+unfolding nodes setting items led_to failures_r edges_of digits props roll-Path denote.Hole.Carrier.roll Rattle.rdl_tree.specs.declared.expr.Expr.TheBlock.hidden-the_row-Step-1 denote.Hole.Carrier.hidden Rattle.rdl_tree.specs.declared.item.Item.TheBlock.hidden-the_row-Item-0
+counter_back = one_edge counter_edges 18 8 refl
+
 -- both ends of a circle fail
 two_fields_first : FailsR7 (nodes None two_fields) (at 40)
-unfolding digits props roll-Path denote.Hole.Carrier.roll Rattle.rdl_tree.specs.declared.expr.Expr.TheBlock.hidden-the_row-Step-1 denote.Hole.Carrier.hidden Rattle.rdl_tree.specs.declared.item.Item.TheBlock.hidden-the_row-Item-0
-two_fields_first = (item_at two_fields 2 what.Value, (2, omega arith, refl), round (nodes None two_fields) (item_at two_fields 2 what.Value) (item_at two_fields 3 what.Value) (0, omega arith, refl) (0, omega arith, refl), refl)
+unfolding nodes setting items led_to failures_r edges_of digits props roll-Path denote.Hole.Carrier.roll Rattle.rdl_tree.specs.declared.expr.Expr.TheBlock.hidden-the_row-Step-1 denote.Hole.Carrier.hidden Rattle.rdl_tree.specs.declared.item.Item.TheBlock.hidden-the_row-Item-0
+two_fields_first = (2, item_at two_fields 2 what.Value, refl, round field_edges 2 12 field_there field_back, refl)
 
 two_fields_second : FailsR7 (nodes None two_fields) (at 68)
-unfolding digits props roll-Path denote.Hole.Carrier.roll Rattle.rdl_tree.specs.declared.expr.Expr.TheBlock.hidden-the_row-Step-1 denote.Hole.Carrier.hidden Rattle.rdl_tree.specs.declared.item.Item.TheBlock.hidden-the_row-Item-0
-two_fields_second = (item_at two_fields 3 what.Value, (12, omega arith, refl), round (nodes None two_fields) (item_at two_fields 3 what.Value) (item_at two_fields 2 what.Value) (0, omega arith, refl) (0, omega arith, refl), refl)
+unfolding nodes setting items led_to failures_r edges_of digits props roll-Path denote.Hole.Carrier.roll Rattle.rdl_tree.specs.declared.expr.Expr.TheBlock.hidden-the_row-Step-1 denote.Hole.Carrier.hidden Rattle.rdl_tree.specs.declared.item.Item.TheBlock.hidden-the_row-Item-0
+two_fields_second = (12, item_at two_fields 3 what.Value, refl, round field_edges 12 2 field_back field_there, refl)
 
 -- both ends of a circle fail
 two_counters_first : FailsR7 (nodes None two_counters) (at 49)
-unfolding digits props roll-Path denote.Hole.Carrier.roll Rattle.rdl_tree.specs.declared.expr.Expr.TheBlock.hidden-the_row-Step-1 denote.Hole.Carrier.hidden Rattle.rdl_tree.specs.declared.item.Item.TheBlock.hidden-the_row-Item-0
-two_counters_first = (item_at two_counters 2 what.Overflow, (8, omega arith, refl), round (nodes None two_counters) (item_at two_counters 2 what.Overflow) (item_at two_counters 3 what.Overflow) (0, omega arith, refl) (0, omega arith, refl), refl)
+unfolding nodes setting items led_to failures_r edges_of digits props roll-Path denote.Hole.Carrier.roll Rattle.rdl_tree.specs.declared.expr.Expr.TheBlock.hidden-the_row-Step-1 denote.Hole.Carrier.hidden Rattle.rdl_tree.specs.declared.item.Item.TheBlock.hidden-the_row-Item-0
+two_counters_first = (8, item_at two_counters 2 what.Overflow, refl, round counter_edges 8 18 counter_there counter_back, refl)
 
 two_counters_second : FailsR7 (nodes None two_counters) (at 83)
-unfolding digits props roll-Path denote.Hole.Carrier.roll Rattle.rdl_tree.specs.declared.expr.Expr.TheBlock.hidden-the_row-Step-1 denote.Hole.Carrier.hidden Rattle.rdl_tree.specs.declared.item.Item.TheBlock.hidden-the_row-Item-0
-two_counters_second = (item_at two_counters 3 what.Overflow, (18, omega arith, refl), round (nodes None two_counters) (item_at two_counters 3 what.Overflow) (item_at two_counters 2 what.Overflow) (0, omega arith, refl) (0, omega arith, refl), refl)
+unfolding nodes setting items led_to failures_r edges_of digits props roll-Path denote.Hole.Carrier.roll Rattle.rdl_tree.specs.declared.expr.Expr.TheBlock.hidden-the_row-Step-1 denote.Hole.Carrier.hidden Rattle.rdl_tree.specs.declared.item.Item.TheBlock.hidden-the_row-Item-0
+two_counters_second = (18, item_at two_counters 3 what.Overflow, refl, round counter_edges 18 8 counter_back counter_there, refl)
 
 apart : (i j d : ℕ) → i < j → j < 2 → ¬ (get_or (2 ∷ 12 ∷ []) i d ≡ get_or (2 ∷ 12 ∷ []) j d)
 apart zero zero d lt below e = absurd (omega (arith, lt))
@@ -153,9 +181,5 @@ apart (suc i) (suc zero) d lt below e = absurd (omega (arith, lt))
 apart (suc i) (suc (suc j)) d lt below e = absurd (omega (arith, below))
 
 -- the values of two fields that are each other's next are a circle of two items
-circle_of_two : IsCircle (nodes None two_fields) 2 (12 ∷ [])
-unfolding digits props roll-Path denote.Hole.Carrier.roll Rattle.rdl_tree.specs.declared.expr.Expr.TheBlock.hidden-the_row-Step-1 denote.Hole.Carrier.hidden Rattle.rdl_tree.specs.declared.item.Item.TheBlock.hidden-the_row-Item-0
-circle_of_two = record {
-  differ = apart;
-  round = ((item_at two_fields 2 what.Value, item_at two_fields 3 what.Value, refl, refl, (0, omega arith, refl)), (item_at two_fields 3 what.Value, item_at two_fields 2 what.Value, refl, refl, (0, omega arith, refl)));
-}
+circle_of_two : IsCircle field_edges 2 (12 ∷ [])
+circle_of_two = record { differ = apart; round = (field_there, field_back) }

@@ -1,5 +1,5 @@
 -- Which rules on instances fail where: E1 to E14, and V rules in enumerations, arguments, defaults of parameters and parts of
--- instances. Each rule is a list of failures, over the bodies and the uses that are judged.
+-- instances. Each rule is a list of failures, over the bodies and the uses that are judged. The uses are those that give nodes.
 use Rattle.std.specs.Prelude.{ℕ, Bool, true, false, not, ◌&&◌, ◌||◌, List, [], ◌∷◌, ◌++◌, length, nat_lt, ◌==◌, map, flat_map, drop, Option, None, Some, is_some, option_to_list, Contains}
 use Rattle.std.specs.List.{list_any}
 use Rattle.rb_base.specs.declared.fault.Fault.{Fault}
@@ -12,7 +12,7 @@ use Rattle.rdl_tree.specs.declared.item.Source.{Source}
 use Rattle.rdl_values.specs.Bodies.{Body, Closure, same_name, standing}
 use Rattle.rdl_values.specs.Enums.{Judged, judged, around_enum}
 use Rattle.rdl_values.specs.Faults.{at_, when}
-use Rattle.rdl_values.specs.Instances.{Instance, body, nodes, judged_nodes, most_nodes}
+use Rattle.rdl_values.specs.Instances.{Instance, body, seen_in, nodes, judged_nodes, most_nodes}
 use Rattle.rdl_values.specs.NoNode.{no_node}
 use Rattle.rdl_values.specs.Parts.{is_unit, is_empty}
 use Rattle.rdl_values.specs.Top.{root, top_use_of, top_seen}
@@ -21,15 +21,6 @@ use Rattle.rdl_values.specs.Values.{Around}
 use Rattle.rdl_values.specs.Verdict.{Fails}
 use Rattle.rdl_values.specs.Views as view
 use Rattle.rdl_values.specs.Views.{ItemIs, item_is}
-
--- What is judged: the root's body and those of the first nodes, each whole; the uses in these, and the top's. So a definition
--- that no path uses is not.
-
-abbrev pub judged_bodies : Option (List ℕ) → Source → List Body
-judged_bodies wanted s = root s ∷ map body (judged_nodes wanted s)
-
-abbrev pub judged_uses : Option (List ℕ) → Source → List Seen
-judged_uses wanted s = map top_seen (option_to_list (top_use_of wanted s)) ++ flat_map (seen []) (judged_bodies wanted s)
 
 -- E1: no top
 abbrev pub no_top : Option Use → List Fault
@@ -106,14 +97,25 @@ of_enum env _ = []
 abbrev pub of_enums : Body → List Fault
 of_enums b = flat_map (λ i. of_enum (around_enum b i.0) (item_is i.1)) (standing b.items)
 
--- all failures of the phase, rule by rule
-abbrev pub failures3 : Option (List ℕ) → Source → List Fault
+-- What is judged: the root's body and those of the first nodes, each whole; the uses in these, and the top's. So a definition
+-- that no path uses is not.
+
+-- of a body and of the uses in it
+abbrev pub of_judged : List Seen → Body → List Fault
+of_judged uses b = twice_defined b ++ of_enums b ++ flat_map of_use uses
+
+-- of the body of a node
+abbrev pub of_node : Instance → List Fault
+of_node n = of_judged (seen_in n) (body n)
+
+-- all failures of the phase
+unfoldable pub failures3 : Option (List ℕ) → Source → List Fault
 failures3 wanted s =
     no_top (top_use_of wanted s)
     ++ bare_assignments s
-    ++ flat_map twice_defined (judged_bodies wanted s)
-    ++ flat_map of_enums (judged_bodies wanted s)
-    ++ flat_map of_use (judged_uses wanted s)
+    ++ flat_map of_use (map top_seen (option_to_list (top_use_of wanted s)))
+    ++ of_judged (seen [] (root s)) (root s)
+    ++ flat_map of_node (judged_nodes wanted s)
     ++ too_many_nodes wanted s
 
 abbrev pub fails3 : Option (List ℕ) → Source → Fails

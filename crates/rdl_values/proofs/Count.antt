@@ -4,7 +4,7 @@ use Rattle.rb_base.specs.declared.fault.Fault.{Fault}
 use Rattle.rdl_tree.specs.declared.item.Source.{Source}
 use Rattle.rdl_values.specs.Elaborated.{measured}
 use Rattle.rdl_values.specs.Instances.{Instance, nodes, most_nodes}
-use Rattle.rdl_elab.specs.Phase3.{first_over, too_many_nodes}
+use Rattle.rdl_values.specs.Phase3.{first_over, too_many_nodes}
 
 -- no node stands behind the first k where there are no more
 

@@ -1,0 +1,35 @@
+//! Why a source has no tree of instances.
+
+use rb_base::Fault;
+use std::alloc::{AllocError, AllocFailed};
+
+/// Why there is no tree of instances: rules E1 to E14, or V rules in what instances are given.
+#[derive(Debug, Drop)]
+pub enum ElabError {
+    /// All failures of the phase, by place, and at one place in the order of the table of rules.
+    Faults(Vec<Fault>),
+    /// Memory was refused.
+    NoMemory,
+}
+
+impl From<AllocError> for ElabError {
+    ghost use Rattle.std.specs.Prelude.{◌≡◌};
+    ghost use Rattle.rdl_elab.specs.declared.error.ElabError.TheVariants.{NoMemory};
+
+    ghost from_gives = { λ _ e. e ≡ NoMemory };
+
+    fn from(_: AllocError) -> Self {
+        ElabError::NoMemory
+    }
+}
+
+impl<T: Drop> From<AllocFailed<T>> for ElabError {
+    ghost use Rattle.std.specs.Prelude.{◌≡◌};
+    ghost use Rattle.rdl_elab.specs.declared.error.ElabError.TheVariants.{NoMemory};
+
+    ghost from_gives = { λ _ e. e ≡ NoMemory };
+
+    fn from(_: AllocFailed<T>) -> Self {
+        ElabError::NoMemory
+    }
+}

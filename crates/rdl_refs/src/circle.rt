@@ -1,0 +1,34 @@
+//! Why items have no order.
+
+use std::alloc::{AllocError, AllocFailed};
+
+/// Why the items have no order.
+#[derive(Debug, Drop)]
+pub enum OrderError {
+    /// Numbers of different items, each referring to the next and the last to the first.
+    Loop(Vec<u32>),
+    /// Memory was refused.
+    NoMemory,
+}
+
+impl From<AllocError> for OrderError {
+    ghost use Rattle.std.specs.Prelude.{◌≡◌};
+    ghost use Rattle.rdl_refs.specs.declared.circle.OrderError.TheVariants.{NoMemory};
+
+    ghost from_gives = { λ _ e. e ≡ NoMemory };
+
+    fn from(_: AllocError) -> Self {
+        OrderError::NoMemory
+    }
+}
+
+impl<T: Drop> From<AllocFailed<T>> for OrderError {
+    ghost use Rattle.std.specs.Prelude.{◌≡◌};
+    ghost use Rattle.rdl_refs.specs.declared.circle.OrderError.TheVariants.{NoMemory};
+
+    ghost from_gives = { λ _ e. e ≡ NoMemory };
+
+    fn from(_: AllocFailed<T>) -> Self {
+        OrderError::NoMemory
+    }
+}
