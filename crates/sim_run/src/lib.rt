@@ -11,4 +11,3 @@ mod tests;
 
 pub use answer::simulate;
 pub use error::SimError;
-pub use printed::{push_names, push_numbers};
