@@ -1,7 +1,7 @@
 //! What the words ask for, answered.
 
-ghost use Rattle.std.specs.Prelude.{IfOk};
-ghost use Rattle.regblock.specs.Words.{texts};
+ghost use Rattle.std.specs.Prelude.{◌≡◌, ◌≤◌, ℕ, List, IfOk};
+ghost use Rattle.regblock.specs.Words.{AsksNothing, texts};
 ghost use Rattle.regblock.specs.Outcome.{FailedRead, Outcome};
 ghost use Rattle.regblock.specs.Answer.{texts_of};
 
@@ -13,13 +13,16 @@ use rb_base::NoMemory;
 use rb_edge::Shelf;
 use std::alloc::Global;
 
-/// What the words ask for. It reads the files and writes nothing.
+/// What the words ask for. It reads the files and writes nothing. Words that ask for nothing read none.
 pub(crate) fn answer_words<S: Shelf>(
     alloc: Global,
     words: &[String],
     shelf: &mut S,
 ) -> Result<Answer, NoMemory>
-    ensures { IfOk result (λ answer. Outcome (texts words.now) (S.contents shelf.old) (FailedRead S.faults shelf.old shelf.new) answer.status (texts_of answer)) }
+    ensures outcome { IfOk result (λ answer. Outcome (texts words.now) (S.contents shelf.old) (FailedRead S.faults shelf.old shelf.new) answer.status (texts_of answer)) }
+    ensures unchanged { S.contents shelf.new ≡ S.contents shelf.old }
+    ensures later { (any : List ℕ) → S.faults shelf.old any ≤ S.faults shelf.new any }
+    ensures idle { AsksNothing (texts words.now) → shelf.new ≡ shelf.old }
 {
     match command_of(words) {
         Some(Command::Compile { source }) => Ok(compile_file(alloc, shelf, source)?),

@@ -1,6 +1,6 @@
 //! A source, from its bytes to the text of its module.
 
-ghost use Rattle.std.specs.Prelude.{◌≡◌, ◌≢◌, ◌≤◌, ◌∷◌, [], length, IfOk, OnOk};
+ghost use Rattle.std.specs.Prelude.{◌≡◌, ◌≢◌, ◌≤◌, ◌∷◌, [], ℕ, List, length, IfOk, OnOk};
 ghost use Rattle.regblock.specs.Words.{compile};
 ghost use Rattle.regblock.specs.Text.{rule_line};
 ghost use Rattle.rdl_parser.specs.Verdicts.{IsAccepted};
@@ -100,7 +100,9 @@ pub(crate) fn compile_file<S: Shelf>(
     shelf: &mut S,
     file: &str,
 ) -> Result<Answer, NoMemory>
-    ensures { IfOk result (λ answer. Answers (S.contents shelf.old) (FailedRead S.faults shelf.old shelf.new) (compile file.now) answer.status (texts_of answer)) }
+    ensures answers { IfOk result (λ answer. Answers (S.contents shelf.old) (FailedRead S.faults shelf.old shelf.new) (compile file.now) answer.status (texts_of answer)) }
+    ensures unchanged { S.contents shelf.new ≡ S.contents shelf.old }
+    ensures later { (any : List ℕ) → S.faults shelf.old any ≤ S.faults shelf.new any }
 {
     match load_file(alloc, shelf, file, SOURCE_LIMIT)? {
         Loaded::Bytes(source) => {

@@ -1,6 +1,6 @@
 //! A module and a table, from their files to a run.
 
-ghost use Rattle.std.specs.Prelude.{◌≡◌, ◌≢◌, ◌≤◌, ◌∷◌, [], length, IfOk};
+ghost use Rattle.std.specs.Prelude.{◌≡◌, ◌≢◌, ◌≤◌, ◌∷◌, [], ℕ, List, length, IfOk};
 ghost use Rattle.v_reader.specs.Reading.{place_number};
 ghost use Rattle.regblock.specs.Words.{sim};
 ghost use Rattle.regblock.specs.Text.{kind_of as kind, verilog_line, stimulus_line};
@@ -109,7 +109,9 @@ pub(crate) fn simulate_files<S: Shelf>(
     file: &str,
     table: &str,
 ) -> Result<Answer, NoMemory>
-    ensures { IfOk result (λ answer. Answers (S.contents shelf.old) (FailedRead S.faults shelf.old shelf.new) (sim file.now table.now) answer.status (texts_of answer)) }
+    ensures answers { IfOk result (λ answer. Answers (S.contents shelf.old) (FailedRead S.faults shelf.old shelf.new) (sim file.now table.now) answer.status (texts_of answer)) }
+    ensures unchanged { S.contents shelf.new ≡ S.contents shelf.old }
+    ensures later { (any : List ℕ) → S.faults shelf.old any ≤ S.faults shelf.new any }
 {
     let verilog = match load_file(alloc, shelf, file, VERILOG_LIMIT)? {
         Loaded::Bytes(verilog) => verilog,

@@ -1,6 +1,6 @@
 //! The top call.
 
-ghost use Rattle.std.specs.Prelude.{◌≡◌, ◌⊎◌, List, ℕ};
+ghost use Rattle.std.specs.Prelude.{◌≡◌, ◌⊎◌, ◌≤◌, List, ℕ};
 ghost use Rattle.rb_edge.specs.Count.{Rose};
 ghost use Rattle.rb_edge.specs.Shelf.{IsLonger};
 ghost use Rattle.regblock.specs.Words.{texts, Command, compile, sim, Asks, AsksNothing};
@@ -54,6 +54,11 @@ pub fn run<S: Shelf, O: Sink, E: Sink>(
     // Where it can be done it is, unless memory runs out.
     ensures complete { IsComplete (texts words.now) (S.contents shelf.old) (FailedRead S.faults shelf.old shelf.new)
         (passage E.told E.faults err.old err.new) (passage O.told O.faults out.old out.new) result }
+
+    // Words that ask for nothing read no file. In any case the files stay as they were, and no count of faults falls.
+    ensures idle { AsksNothing (texts words.now) → shelf.new ≡ shelf.old }
+    ensures unchanged { S.contents shelf.new ≡ S.contents shelf.old }
+    ensures later { (any : List ℕ) → S.faults shelf.old any ≤ S.faults shelf.new any }
 
     // Without memory nothing is written.
     ensures no_memory { result ≡ Status.NoMemory → (out.new ≡ out.old) × (err.new ≡ err.old) }

@@ -9,4 +9,3 @@ mod stimulus;
 
 pub use answer::simulate;
 pub use error::SimError;
-pub use printed::{push_names, push_numbers};

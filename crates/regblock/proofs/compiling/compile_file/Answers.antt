@@ -6,8 +6,8 @@ use Rattle.regblock.specs.Answer.{texts_of}
 use Rattle.regblock.proofs.Rows.{Answers-judged}
 use Rattle.regblock.proofs.compiling.compile_file.Goals as goal
 
-pub returns-in_ok-answer-in-Bytes : goal.returns-in_ok-answer-in-Bytes
-returns-in_ok-answer-in-Bytes g c =
+pub returns-in_ok-answer-in-Bytes-clause-answers : goal.returns-in_ok-answer-in-Bytes-clause-answers
+returns-in_ok-answer-in-Bytes-clause-answers g c =
     let answer = c.in_ok-answer-in-Bytes.answer in
     let contents = g.S.Shelf.contents c.args.shelf.now in
     let failed = FailedRead g.S.Shelf.faults c.args.shelf.now c.load_file.new.shelf in

@@ -6,8 +6,8 @@ use Rattle.regblock.specs.Answer.{texts_of}
 use Rattle.regblock.proofs.Rows.{Answers-judged}
 use Rattle.regblock.proofs.simulating.simulate_files.Goals as goal
 
-pub returns : goal.returns
-returns g c =
+pub returns-clause-answers : goal.returns-clause-answers
+returns-clause-answers g c =
     let answer = c.in_ok-answer.answer in
     let contents = g.S.Shelf.contents c.args.shelf.now in
     let later = g.S.Shelf.contents c.load_file.new.shelf in

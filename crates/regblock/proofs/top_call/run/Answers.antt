@@ -9,7 +9,7 @@ use Rattle.first_form.proofs.Named.{named}
 use Rattle.regblock.proofs.top_call.run.Goals as goal
 
 pub returns-in-Ok-clause-ends : goal.returns-in-Ok-clause-ends
-returns-in-Ok-clause-ends g c = Ends-written _ _ _ _ _ _ _ _ c.in-Ok.ensures c.write.ensures
+returns-in-Ok-clause-ends g c = Ends-written _ _ _ _ _ _ _ _ c.in-Ok.ensures.outcome c.write.ensures
 
 pub returns-in-Ok-clause-done : goal.returns-in-Ok-clause-done
 returns-in-Ok-clause-done g c = done _ _ _ _ _ _ (returns-in-Ok-clause-ends g c) (λ source f is. sound f (named source f is))
