@@ -1,6 +1,8 @@
 -- A parser's steps where one token doesn't decide: two forms that go on alike are read together. And its steps over forms that
 -- are no rule of their own.
-use Rattle.std.proofs.Common.{◌≡◌, ℕ, zero, suc, true, false, not, List, [], ◌∷◌, ◌++◌, sym, subst, append_assoc, arith, inl, inr}
+use Rattle.std.proofs.Common.{◌≡◌, ℕ, zero, suc, ◌<◌, ◌≤◌, true, false, not, Result, Ok, Err, IfOk, IfErr, OnOk, List, [], ◌∷◌, ◌++◌, length, sym, ◌∙◌, subst, append_assoc, arith, inl, inr}
+use Rattle.rb_grammar.specs.declared.stop.Stop.{Stop}
+use Rattle.rb_grammar.specs.declared.stop.Stop.TheVariants.{Syntax, NoMemory}
 use Rattle.std.proofs.lemmas.Bool.{and_parts, not-true}
 use Rattle.rb_grammar.specs.Forms.{Form, Tok, Non, ◌or◌, Opt, Many, ◌then◌, Grammar}
 use Rattle.rb_grammar.specs.Readings.{Upto, behind_next, Reads, first, second, both, Avoids, Same, Stops}
@@ -97,3 +99,25 @@ module _ {T N K : Type 0} {G : Grammar T N K} {S : Table T N} (R : IsTableOf G S
 
   pub second_chosen : {ms : List T} {f h : Form T N} {fs : List (Form T N)} {ts : List K} (s : Sight T) → can S s ms (f ∷ fs) ≡ false → Holds G S R s ts → Same G ms ((f or h) ∷ fs) ts (h ∷ fs) ts
   second_chosen {ms = ms} {f = f} {h = h} {fs = fs} {ts = ts} s e k = same_second G ms f h fs ts (λ hs av. barred G S R s ms (f ∷ fs) hs ts k av e)
+
+-- What a function returns as another one left it.
+
+pub then_reads : {T N K X : Type 0} {G : Grammar T N K} {ms : List T} {fs gs : List (Form T N)} {ts us : List K} (vs : List K) (r : Result X Stop) → Same G ms fs ts gs us → OnOk r (Same G ms gs us [] vs) → OnOk r (Same G ms fs ts [] vs)
+then_reads vs (Ok x) p q = p ⟫ q
+then_reads vs (Err e) p q = tt
+
+pub then_shorter : {K X : Type 0} (ts us vs : List K) (r : Result X Stop) → length us ≤ length vs → OnOk r (length ts < length us) → OnOk r (length ts < length vs)
+then_shorter ts us vs (Ok x) l h = omega (arith, l, h)
+then_shorter ts us vs (Err e) l h = tt
+
+pub then_tree : {X : Type 0} {P Q : X → Type 0} (r : Result X Stop) → ((x : X) → P x → Q x) → IfOk r P → IfOk r Q
+then_tree (Ok x) f h = f x h
+then_tree (Err e) f h = tt
+
+pub in_any_case : {X P : Type 0} (r : Result X Stop) → P → OnOk r P
+in_any_case (Ok x) h = h
+in_any_case (Err e) h = tt
+
+pub no_syntax : {X : Type 0} (r : Result X Stop) → IfErr r (λ stop. stop ≡ NoMemory) → r ≡ Err Syntax → ⊥
+no_syntax (Ok x) h e = cc
+no_syntax (Err stop) h e = let f : stop ≡ Syntax = cc in let g : NoMemory ≡ Syntax = sym h ∙ f in cc

@@ -1,6 +1,6 @@
 //! A whole source: its tokens, its tree, and why it has none.
 
-ghost use Rattle.std.specs.Prelude.{◌≡◌, ◌≢◌, ◌-◌, ◌^◌, ◌<◌, ℕ, List, [], length, drop, IfOk, IfErr};
+ghost use Rattle.std.specs.Prelude.{◌≡◌, ◌≢◌, ◌-◌, ◌^◌, ◌<◌, ℕ, List, [], length, drop, IfOk, IfErr, OnOk};
 ghost use Rattle.rdl_tree.specs.Tree.{DerivesItems};
 ghost use Rattle.rdl_parser.specs.Depth.{StaysWithin, IsFirstTooDeep};
 ghost use Rattle.rdl_parser.specs.Verdicts.{SpellsTokens, place_of, mark_rule, word_rule, rule_of, Reads, IsAccepted, HasError};
@@ -151,6 +151,22 @@ fn read_cut<'a>(arena: &'a Bump, tokens: &'a [Token<'a>], deep: usize, end: Plac
     }
 }
 
+// The items of tokens, or their error.
+fn items<'a>(
+    arena: &'a Bump,
+    tokens: &'a [Token<'a>],
+    end: Place,
+) -> Result<&'a [Item<'a>], ParseError>
+    ensures tree { IfOk result (λ is. DerivesItems tokens.now [] is.now) }
+    ensures within { OnOk result (StaysWithin tokens.now) }
+    ensures error { IfErr result (IsJudged tokens.now end) }
+{
+    match first_too_deep(arena, tokens)? {
+        None => read_all(arena, tokens, end),
+        Some(deep) => Err(read_cut(arena, tokens, deep, end)),
+    }
+}
+
 // The tree of a source, or its error.
 fn tree<'a>(arena: &'a Bump, src: &'a [u8]) -> Result<&'a Source<'a>, ParseError>
     requires { length src.now < 2 ^ 32 - 1 }
@@ -158,11 +174,7 @@ fn tree<'a>(arena: &'a Bump, src: &'a [u8]) -> Result<&'a Source<'a>, ParseError
     ensures error { IfErr result (λ e. e ≢ ParseError.NoMemory → HasError src.now e) }
 {
     let tokens = tokens(arena, src)?;
-    let end = Place(src.len() as u32);
-    let items = match first_too_deep(arena, tokens)? {
-        None => read_all(arena, tokens, end)?,
-        Some(deep) => return Err(read_cut(arena, tokens, deep, end)),
-    };
+    let items = items(arena, tokens, Place(src.len() as u32))?;
     let source = arena.try_alloc(Source { items })?;
     Ok(source)
 }
