@@ -9,7 +9,7 @@ use Rattle.rb_grammar.specs.Forms.{Non, Opt, Many}
 use Rattle.rb_grammar.specs.Readings.{at, Takes, Misses, Same}
 use Rattle.rb_grammar.proofs.Following.{◌⟫◌}
 use Rattle.rb_grammar.proofs.Barring.{Here, Without, AreOff}
-use Rattle.rb_grammar.proofs.Steps.{entering, opening, taking, missing}
+use Rattle.rb_grammar.proofs.Steps.{entering, opening, taking, missing, seen}
 use Rattle.rdl_tree.specs.declared.expr.Name.{Name}
 use Rattle.rdl_tree.specs.declared.expr.Path.{Path}
 use Rattle.rdl_tree.specs.declared.item.Def.{roll-Def, out-roll-Def}
@@ -36,8 +36,7 @@ use Rattle.rdl_parser.specs.declared.parser.Sort.TheVariants as sorts
 use Rattle.rdl_parser.specs.Following.{has, role, kind_role, mark_role, named_or_bare, alias, of_type, behind_internal, simple_item, item_behind_name, assignment, more_steps, Sets, EndsDef}
 use Rattle.rdl_parser.specs.Following as following
 use Rattle.rdl_parser.proofs.Firsts.{table, right}
-use Rattle.rdl_parser.proofs.Factoring.{splitting, packing, either, first_chosen, second_chosen}
-use Rattle.rdl_parser.proofs.Operators.{seen}
+use Rattle.rb_grammar.proofs.Factoring.{splitting, packing, either, first_chosen, second_chosen}
 use Rattle.rdl_parser.proofs.Phrases.{set_is_local}
 
 pub moved : (a : Terminal) {ts us : List Token} → ts ≡ us → at grammar a ts ≡ false → at grammar a us ≡ false

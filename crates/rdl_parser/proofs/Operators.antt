@@ -1,20 +1,19 @@
 -- Operators: what they are in the grammar, and that operands are joined as tightly as they bind.
-use Rattle.std.proofs.Common.{◌≡◌, ℕ, ◌+◌, ◌≤◌, true, Some, Result, Ok, Err, OnOk, List, [], ◌∷◌, refl, sym, subst, arith, inl, inr, lit≤}
+use Rattle.std.proofs.Common.{◌≡◌, ℕ, ◌+◌, ◌≤◌, Some, Result, Ok, Err, OnOk, List, [], ◌∷◌, refl, sym, subst, arith, inl, inr, lit≤}
 use Rattle.std.proofs.lemmas.Bool.{both_ways, cases_lt}
 use Rattle.rb_base.specs.declared.place.Place.{Place}
 use Rattle.rb_grammar.specs.declared.stop.Stop.{Stop}
 use Rattle.rb_grammar.specs.Forms.{Non}
-use Rattle.rb_grammar.specs.Readings.{at, Takes, Same}
+use Rattle.rb_grammar.specs.Readings.{at, Same}
 use Rattle.rb_grammar.proofs.Following.{◌⟫◌}
 use Rattle.rb_grammar.proofs.Barring.{Here, Without, AreOff}
-use Rattle.rb_grammar.proofs.Steps.{entering, opening, taking}
+use Rattle.rb_grammar.proofs.Steps.{entering, opening, taking, seen}
 use Rattle.rdl_tree.specs.declared.expr.Expr.{Expr}
 use Rattle.rdl_tree.specs.declared.expr.Expr.TheVariants as expr
 use Rattle.rdl_tree.specs.declared.expr.Op.{Op}
 use Rattle.rdl_tree.specs.declared.expr.Op.TheVariants as ops
 use Rattle.rdl_tree.specs.declared.token.Mark.{Mark}
 use Rattle.rdl_tree.specs.declared.token.Mark.TheVariants as marks
-use Rattle.rdl_tree.specs.declared.token.Terminal.{Terminal}
 use Rattle.rdl_tree.specs.declared.token.Terminal.TheVariants as terminals
 use Rattle.rdl_tree.specs.declared.token.Token.{Token}
 use Rattle.rdl_tree.specs.Grammar.{Rule, grammar}
@@ -22,10 +21,6 @@ use Rattle.rdl_tree.specs.Grammar as rules
 use Rattle.rdl_tree.specs.Tree.{IsMark, operator_of, level, DerivesBinary, operand, joined}
 use Rattle.rdl_parser.specs.Following.{after_binary, operands, operators, IsPair, TakesOperator, IsLooser}
 use Rattle.rdl_parser.proofs.Firsts.{table, right}
-
--- a token that is taken was next
-pub seen : {a : Terminal} {t : Token} {ts us : List Token} → Takes grammar a ts t us → at grammar a ts ≡ true
-seen {a = a} i = subst (λ z. at grammar a z ≡ true) (sym i.list) i.token
 
 pub operator_step : {least : ℕ} {ts us : List Token} {op : Op} {place : Place} → TakesOperator least ts us op place → Same grammar after_binary (operands ∷ []) ts (Non rules.Prefix ∷ operands ∷ []) us
 operator_step {ts = ts} {us = us} {op = op} h = go h.mark op h.is h.stands

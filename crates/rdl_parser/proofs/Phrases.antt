@@ -8,7 +8,7 @@ use Rattle.rb_grammar.specs.Forms.{Form, Non, Opt, Many, ◌or◌, ◌then◌}
 use Rattle.rb_grammar.specs.Readings.{Goal, IsReached, Reads, reached, token, at, Takes, Misses, IsBarred, Same, Stops}
 use Rattle.rb_grammar.proofs.Following.{◌⟫◌, ◌⟫|◌, read_both, same_some, same_none, same_both, same_token, before, stops_before}
 use Rattle.rb_grammar.proofs.Barring.{Here}
-use Rattle.rb_grammar.proofs.Steps.{entering, staying, opening, taking, calling, calling_stops}
+use Rattle.rb_grammar.proofs.Steps.{entering, staying, opening, taking, calling, calling_stops, seen}
 use Rattle.rdl_tree.specs.declared.expr.Expr.{Expr}
 use Rattle.rdl_tree.specs.declared.expr.Expr.TheVariants as expr
 use Rattle.rdl_tree.specs.declared.expr.Name.{Name}
@@ -25,8 +25,7 @@ use Rattle.rdl_tree.specs.Grammar as rules
 use Rattle.rdl_tree.specs.Tree.{IsMark, IsName, DerivesExpr, DerivesBinary, DerivesPrefix, DerivesPrimary, DerivesPath, DerivesSteps, DerivesIndices, DerivesProp, StartsAt, DerivesLocal, DerivesSet, pick, plain, not, steps, next_step, step, next_index, assigned}
 use Rattle.rdl_parser.specs.Following.{after_indices, after_primary, after_expr, after_behind, item_of, brackets_or_name, flag_or_other, behind_name, shape, dims_or_range, Adds, AddsStep, ClosesIndex, IsPick, Sets}
 use Rattle.rdl_parser.proofs.Firsts.{right}
-use Rattle.rdl_parser.proofs.Factoring.{splitting, packing, either, either_stops}
-use Rattle.rdl_parser.proofs.Operators.{seen}
+use Rattle.rb_grammar.proofs.Factoring.{splitting, packing, either, either_stops}
 
 -- a name begins an entry of an enumeration or a path
 pub name_step : {t : Token} {ts us : List Token} → Takes grammar terminals.Name ts t us

@@ -4,7 +4,8 @@ use Rattle.rb_grammar.proofs.Steps.{entering, taking, missing, calling, calling_
 use Rattle.rdl_tree.specs.Tree as tree
 use Rattle.rdl_parser.specs.Following.{more_steps, item_of, ClosesIndex}
 use Rattle.rdl_parser.proofs.Firsts.{right}
-use Rattle.rdl_parser.proofs.Factoring.{reading, reading_stops, then_reads, then_tree, in_any_case, no_syntax}
+use Rattle.rb_grammar.proofs.Factoring.{reading, reading_stops}
+use Rattle.rb_grammar.proofs.Returning.{then_reads, if_ok, in_any_case, no_syntax}
 use Rattle.rdl_parser.proofs.Operators.{operator_step, binary_returns, looser_all, loosen, join}
 use Rattle.rdl_parser.proofs.Phrases.{name_step, index_step, index_more, pick_tree, plain_returns, not_tree, path_start, path_more, path_end, adding, adding_step}
 use Rattle.rdl_parser.proofs.parser.Parser.+expr.Goals as goal
@@ -42,7 +43,7 @@ choice-returns-in_err-no-clause-stops t c = λ h.
     calling right c.in_ok-yes.ensures.reads refl ⟫ taking right c.in_ok-_colon.ensures.ok refl ⟫| calling_stops right (c.in_err-no.ensures.stops (ap Err (passed _ _ c.from_residual-in_err-no.ensures.1 h))) refl
 
 pub choice-returns-clause-tree : goal.choice-returns-clause-tree
-choice-returns-clause-tree t c = λ u ts us d i at. then_tree _ (λ e p. pick_tree p at d i c.in_ok-yes.ensures.tree c.in_ok-_colon.ensures.ok c.in_ok-no.ensures.tree) c.pick.ensures.is
+choice-returns-clause-tree t c = λ u ts us d i at. if_ok _ (λ e p. pick_tree p at d i c.in_ok-yes.ensures.tree c.in_ok-_colon.ensures.ok c.in_ok-no.ensures.tree) c.pick.ensures.is
 
 pub choice-returns-clause-reads : goal.choice-returns-clause-reads
 choice-returns-clause-reads t c = in_any_case _ (calling right c.in_ok-yes.ensures.reads refl ⟫ taking right c.in_ok-_colon.ensures.ok refl ⟫ calling right c.in_ok-no.ensures.reads refl)

@@ -5,7 +5,8 @@ use Rattle.rb_grammar.proofs.Steps.{entering, staying, opening, taking, missing,
 use Rattle.rdl_tree.specs.declared.token.Terminal.TheVariants as terminals
 use Rattle.rdl_tree.specs.Tree as tree
 use Rattle.rdl_parser.proofs.Firsts.{right}
-use Rattle.rdl_parser.proofs.Factoring.{reading, reading_stops, then_reads, then_shorter, in_any_case, no_syntax}
+use Rattle.rb_grammar.proofs.Factoring.{reading, reading_stops}
+use Rattle.rb_grammar.proofs.Returning.{then_reads, then_shorter, in_any_case, no_syntax}
 use Rattle.rb_base.specs.declared.keyword.Keyword.TheVariants as words
 use Rattle.rdl_parser.specs.Following.{kinds}
 use Rattle.rdl_parser.proofs.Words.{no_kind}

@@ -1,6 +1,6 @@
 use Rattle.std.proofs.Common.{ap, Err}
 use Rattle.rb_grammar.proofs.Steps.{passed}
-use Rattle.rdl_parser.proofs.Factoring.{in_any_case, no_syntax}
+use Rattle.rb_grammar.proofs.Returning.{in_any_case, no_syntax}
 use Rattle.rdl_parser.proofs.Phrases.{adding}
 use Rattle.rdl_parser.proofs.parser.Parser.add_arg.Goals as goal
 

@@ -1,13 +1,12 @@
 use Rattle.std.proofs.Common.{refl, ap, Err}
 use Rattle.rb_grammar.proofs.Following.{◌⟫◌, ◌⟫|◌}
 use Rattle.rb_grammar.proofs.Barring.{Here}
-use Rattle.rb_grammar.proofs.Steps.{entering, opening, taking, missing, halting, passed}
+use Rattle.rb_grammar.proofs.Steps.{entering, opening, taking, missing, halting, passed, seen}
 use Rattle.rdl_tree.specs.declared.token.Mark.TheVariants as marks
 use Rattle.rdl_tree.specs.declared.token.Terminal.TheVariants as terminals
 use Rattle.rdl_tree.specs.Tree as tree
 use Rattle.rdl_parser.proofs.Firsts.{right}
-use Rattle.rdl_parser.proofs.Factoring.{reading, reading_stops}
-use Rattle.rdl_parser.proofs.Operators.{seen}
+use Rattle.rb_grammar.proofs.Factoring.{reading, reading_stops}
 use Rattle.rdl_parser.proofs.parser.Parser.args.Goals as goal
 
 pub returns-in_default-clause-tree : goal.returns-in_default-clause-tree

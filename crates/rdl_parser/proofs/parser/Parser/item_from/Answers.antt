@@ -1,7 +1,7 @@
 use Rattle.std.proofs.Common.{sym}
 use Rattle.rb_grammar.proofs.Following.{◌⟫|◌}
 use Rattle.rdl_tree.specs.Tree as tree
-use Rattle.rdl_parser.proofs.Factoring.{then_reads}
+use Rattle.rb_grammar.proofs.Returning.{then_reads}
 use Rattle.rdl_parser.proofs.Items.{local_step, dynamic_step, made_step}
 use Rattle.rdl_parser.proofs.parser.Parser.item_from.Goals as goal
 

@@ -4,7 +4,7 @@ use Rattle.rb_grammar.proofs.Barring.{Without}
 use Rattle.rb_grammar.proofs.Steps.{entering, staying, opening, taking, calling, calling_stops, halting, passed}
 use Rattle.rdl_tree.specs.Tree as tree
 use Rattle.rdl_parser.proofs.Firsts.{right}
-use Rattle.rdl_parser.proofs.Factoring.{then_reads, then_shorter, then_tree}
+use Rattle.rb_grammar.proofs.Returning.{then_reads, then_shorter, if_ok}
 use Rattle.rdl_parser.specs.Following.{edges}
 use Rattle.rdl_parser.proofs.Words.{no_edge, edge_step}
 use Rattle.rdl_parser.proofs.Phrases.{set_is_local, set_place}
@@ -26,7 +26,7 @@ pub returns-in_err-prop-2-clause-stops : goal.returns-in_err-prop-2-clause-stops
 returns-in_err-prop-2-clause-stops c = λ h. entering ⟫ opening right (Without edges) refl (no_edge c.in_default.ensures) ⟫ staying c.in_default.ensures.list ⟫| calling_stops right (c.in_err-prop-2.ensures.stops (ap Err (passed _ _ c.from_residual-in_err-prop-2.ensures.1 h))) refl
 
 pub returns-clause-tree : goal.returns-clause-tree
-returns-clause-tree c = then_tree _ (λ s h. set_is_local (rw c.in_default.ensures.list at c.in_ok-prop-2.ensures.tree) h) c.set_from.ensures.tree
+returns-clause-tree c = if_ok _ (λ s h. set_is_local (rw c.in_default.ensures.list at c.in_ok-prop-2.ensures.tree) h) c.set_from.ensures.tree
 
 pub returns-clause-place : goal.returns-clause-place
 returns-clause-place c = set_place _ _ _ _ _ c.set_from.ensures.tree

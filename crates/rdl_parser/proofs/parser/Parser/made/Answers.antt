@@ -2,7 +2,8 @@ use Rattle.std.proofs.Common.{refl, ap, length, arith, Err}
 use Rattle.rb_grammar.proofs.Following.{◌⟫◌, ◌⟫|◌}
 use Rattle.rb_grammar.proofs.Steps.{taking, halting, passed}
 use Rattle.rdl_parser.proofs.Firsts.{right}
-use Rattle.rdl_parser.proofs.Factoring.{reading, reading_stops, then_reads, then_shorter}
+use Rattle.rb_grammar.proofs.Factoring.{reading, reading_stops}
+use Rattle.rb_grammar.proofs.Returning.{then_reads, then_shorter}
 use Rattle.rdl_parser.proofs.parser.Parser.made.Goals as goal
 
 pub returns-in_err-alias-clause-stops : goal.returns-in_err-alias-clause-stops

@@ -1,7 +1,7 @@
 use Rattle.std.proofs.Common.{◌∷◌, ◌++◌, refl}
 use Rattle.rdl_tree.specs.declared.token.Terminal.TheVariants as terminals
 use Rattle.rdl_parser.proofs.Firsts.{right}
-use Rattle.rdl_parser.proofs.Factoring.{refusing}
+use Rattle.rb_grammar.proofs.Factoring.{refusing}
 use Rattle.rdl_parser.specs.Following.{edges, prop_words}
 use Rattle.rdl_parser.proofs.Words.{no_token}
 use Rattle.rdl_parser.proofs.Phrases.{set_returns}

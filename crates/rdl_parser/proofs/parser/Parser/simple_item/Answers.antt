@@ -1,13 +1,13 @@
 use Rattle.std.proofs.Common.{[], ◌∷◌, refl, ap, sym, ◌∙◌, length, arith}
 use Rattle.rb_grammar.proofs.Following.{◌⟫◌, ◌⟫|◌}
 use Rattle.rb_grammar.proofs.Barring.{Here, Without}
-use Rattle.rb_grammar.proofs.Steps.{entering, staying, opening, taking}
+use Rattle.rb_grammar.proofs.Steps.{entering, staying, opening, taking, seen}
 use Rattle.rdl_tree.specs.declared.token.Terminal.TheVariants as terminals
 use Rattle.rdl_tree.specs.Tree as tree
 use Rattle.rdl_parser.proofs.Firsts.{right}
 use Rattle.rb_base.specs.declared.keyword.Keyword.TheVariants as words
-use Rattle.rdl_parser.proofs.Factoring.{packing, then_reads, then_shorter}
-use Rattle.rdl_parser.proofs.Operators.{seen}
+use Rattle.rb_grammar.proofs.Factoring.{packing}
+use Rattle.rb_grammar.proofs.Returning.{then_reads, then_shorter}
 use Rattle.rdl_parser.proofs.Items.{moved, moved_item, item_name_step}
 use Rattle.rdl_parser.proofs.parser.Parser.simple_item.Goals as goal
 
