@@ -6,6 +6,8 @@ pub mod Lexing
 pub mod Following
 pub mod Barring
 pub mod Steps
+pub mod Factoring
+pub mod Returning
 pub mod Bridge
 pub mod OneReading
 pub mod Beginnings

@@ -7,7 +7,7 @@ use Rattle.std.specs.Result.{IsErrAnd}
 use Rattle.rb_grammar.specs.declared.stop.Stop.{Stop}
 use Rattle.rb_grammar.specs.declared.stop.Stop.TheVariants.{Syntax}
 use Rattle.rb_grammar.specs.Forms.{Form, Tok, Non, ◌or◌, Opt, Many, ◌then◌, Grammar}
-use Rattle.rb_grammar.specs.Readings.{Takes, Misses, Avoids, Same, Stops}
+use Rattle.rb_grammar.specs.Readings.{at, Takes, Misses, Avoids, Same, Stops}
 use Rattle.rb_grammar.specs.Firsts.{Table, IsTableOf}
 use Rattle.rb_grammar.proofs.Following.{◌⟫◌, same, same_rule, same_both, same_first, same_second, same_some, same_none, same_turn, same_no_turn, same_token, before, stops_before, stops_here}
 use Rattle.rb_grammar.proofs.Barring.{Sight, Here, Without, can, Holds, barred}
@@ -46,7 +46,7 @@ parts [] = []
 parts (f ∷ fs) = apart f fs
 
 module _ {T N K : Type 0} (G : Grammar T N K) where
-  same_apart : (ms : List T) (f : Form T N) (fs : List (Form T N)) (ts : List K) → Same G ms (f ∷ fs) ts (apart f fs) ts
+  pub same_apart : (ms : List T) (f : Form T N) (fs : List (Form T N)) (ts : List K) → Same G ms (f ∷ fs) ts (apart f fs) ts
   same_apart ms (Tok a) fs ts = same G ms (Tok a ∷ fs) ts
   same_apart ms (Non x) fs ts = same G ms (Non x ∷ fs) ts
   same_apart ms (f or g) fs ts = same G ms ((f or g) ∷ fs) ts
@@ -54,7 +54,7 @@ module _ {T N K : Type 0} (G : Grammar T N K) where
   same_apart ms (Many f) fs ts = same G ms (Many f ∷ fs) ts
   same_apart ms (f then g) fs ts = same_both G ms f g fs ts ⟫ same_apart ms f (g ∷ fs) ts
 
-  same_parts : (ms : List T) (fs : List (Form T N)) (ts : List K) → Same G ms fs ts (parts fs) ts
+  pub same_parts : (ms : List T) (fs : List (Form T N)) (ts : List K) → Same G ms fs ts (parts fs) ts
   same_parts ms [] ts = same G ms [] ts
   same_parts ms (f ∷ fs) ts = same_apart ms f fs ts
 
@@ -84,7 +84,7 @@ module _ {T N K : Type 0} (G : Grammar T N K) (S : Table T N) (R : IsTableOf G S
       (λ e. same_turn G ms f fs ts (λ hs av. barred G S R s ms fs hs ts h av e) ⟫ open_by n s ms (f ∷ Many f ∷ fs) ts h)
   open_by (suc n) s ms ((f then g) ∷ fs) ts h = same_both G ms f g fs ts ⟫ open_by n s ms (f ∷ g ∷ fs) ts h
 
-  avoiding : (ns ms : List T) (fs : List (Form T N)) → avoids S ns ms fs ≡ true → (hs : List (Form T N)) → Avoids G ms hs → Avoids G ns (fs ++ hs)
+  pub avoiding : (ns ms : List T) (fs : List (Form T N)) → avoids S ns ms fs ≡ true → (hs : List (Form T N)) → Avoids G ms hs → Avoids G ns (fs ++ hs)
   avoiding [] ms fs e hs av = tt
   avoiding (a ∷ ns) ms fs e hs av =
       let p = and_parts (not (can S (Here a) ms fs)) (avoids S ns ms fs) e in
@@ -100,6 +100,10 @@ entering {G = G} {ms = ms} {x = x} {fs = fs} {ts = ts} = same_rule G ms x fs ts 
 pub staying : {T N K : Type 0} {G : Grammar T N K} {ms : List T} {fs : List (Form T N)} {ts us : List K} → us ≡ ts → Same G ms fs ts fs us
 staying {G = G} {ms = ms} {fs = fs} {ts = ts} e = subst (λ z. Same G ms fs ts fs z) (sym e) (same G ms fs ts)
 
+-- a token that is taken was next
+pub seen : {T N K : Type 0} {G : Grammar T N K} {a : T} {t : K} {ts us : List K} → Takes G a ts t us → at G a ts ≡ true
+seen {G = G} {a = a} i = subst (λ z. at G a z ≡ true) (sym i.list) i.token
+
 module _ {T N K : Type 0} {G : Grammar T N K} {S : Table T N} (R : IsTableOf G S) where
   -- what was seen opens the stack
   pub opening : {ms : List T} {fs gs : List (Form T N)} {ts : List K} (s : Sight T) → opened S 32 s ms fs ≡ gs → Holds G S R s ts → Same G ms fs ts gs ts
@@ -114,11 +118,11 @@ module _ {T N K : Type 0} {G : Grammar T N K} {S : Table T N} (R : IsTableOf G S
   pub missing : {ms : List T} {fs gs : List (Form T N)} {a : T} {ts us : List K} → Misses G a ts us → opened S 32 (Without (a ∷ [])) ms fs ≡ gs → Same G ms fs ts gs us
   missing {a = a} k e = opening (Without (a ∷ [])) e (k.token, tt) ⟫ staying k.list
 
-  -- a rule that another function reads
-  pub calling : {ms ns : List T} {x : N} {fs : List (Form T N)} {ts us : List K} → Same G ns (Non x ∷ []) ts [] us → avoids S ns ms fs ≡ true → Same G ms (Non x ∷ fs) ts (parts fs) us
+  -- a rule, or any form, that another function reads
+  pub calling : {ms ns : List T} {f : Form T N} {fs : List (Form T N)} {ts us : List K} → Same G ns (f ∷ []) ts [] us → avoids S ns ms fs ≡ true → Same G ms (f ∷ fs) ts (parts fs) us
   calling {ms = ms} {ns = ns} {fs = fs} {us = us} p e = before G fs (avoiding G S R ns ms fs e) p ⟫ same_parts G ms fs us
 
-  pub calling_stops : {ms ns : List T} {x : N} {fs : List (Form T N)} {ts us : List K} → Stops G ns (Non x ∷ []) ts us → avoids S ns ms fs ≡ true → Stops G ms (Non x ∷ fs) ts us
+  pub calling_stops : {ms ns : List T} {f : Form T N} {fs : List (Form T N)} {ts us : List K} → Stops G ns (f ∷ []) ts us → avoids S ns ms fs ≡ true → Stops G ms (f ∷ fs) ts us
   calling_stops {ms = ms} {ns = ns} {fs = fs} p e = stops_before G fs (avoiding G S R ns ms fs e) p
 
   -- a token that is not there, and without which the stack does not go on

@@ -1,14 +1,15 @@
 -- Steps and trees of items.
-use Rattle.std.proofs.Common.{◌≡◌, true, false, Option, Some, None, MatchOption, List, [], ◌∷◌, refl, ap, sym, ◌∙◌, subst}
+use Rattle.std.proofs.Common.{◌≡◌, true, false, Result, Ok, Err, IfOk, Option, Some, None, MatchOption, List, [], ◌∷◌, refl, ap, sym, ◌∙◌, subst}
 use Rattle.std.specs.Borrow.{Bor}
 use Rattle.rb_base.specs.declared.keyword.Keyword.{Keyword}
 use Rattle.rb_base.specs.declared.keyword.Keyword.TheVariants as words
 use Rattle.rb_base.specs.declared.place.Place.{Place}
+use Rattle.rb_grammar.specs.declared.stop.Stop.{Stop}
 use Rattle.rb_grammar.specs.Forms.{Non, Opt, Many}
 use Rattle.rb_grammar.specs.Readings.{at, Takes, Misses, Same}
 use Rattle.rb_grammar.proofs.Following.{◌⟫◌}
 use Rattle.rb_grammar.proofs.Barring.{Here, Without, AreOff}
-use Rattle.rb_grammar.proofs.Steps.{entering, opening, taking, missing}
+use Rattle.rb_grammar.proofs.Steps.{entering, opening, taking, missing, seen}
 use Rattle.rdl_tree.specs.declared.expr.Name.{Name}
 use Rattle.rdl_tree.specs.declared.expr.Path.{Path}
 use Rattle.rdl_tree.specs.declared.item.Def.{roll-Def, out-roll-Def}
@@ -29,21 +30,24 @@ use Rattle.rdl_tree.specs.Tokens.{same, terminal_of}
 use Rattle.rdl_tree.specs.Grammar.{Rule, grammar, mark, name, word}
 use Rattle.rdl_tree.specs.Grammar as rules
 use Rattle.rdl_tree.specs.Tree as tree
-use Rattle.rdl_tree.specs.Tree.{IsMark, IsWord, IsName, StartsAt, SkipsInternal, DerivesHashed, DerivesParam, DerivesBody, DerivesMade, DerivesListed, DerivesInst, DerivesPath, DerivesProp, DerivesLocal, DerivesSet, DerivesDef, DerivesItem, kind_of, assigned, dynamic, local, named, bare}
+use Rattle.rdl_tree.specs.Tree.{IsMark, IsWord, IsName, StartsAt, SkipsInternal, DerivesHashed, DerivesParam, DerivesBody, DerivesMade, DerivesListed, DerivesInst, DerivesPath, DerivesProp, DerivesLocal, DerivesSet, DerivesItem, kind_of, assigned, component, dynamic, local, named, bare}
 use Rattle.rdl_parser.specs.declared.components.Role.TheVariants as roles
 use Rattle.rdl_parser.specs.declared.parser.Sort.TheVariants as sorts
 use Rattle.rdl_parser.specs.Following.{has, role, kind_role, mark_role, named_or_bare, alias, of_type, behind_internal, simple_item, item_behind_name, assignment, more_steps, Sets, EndsDef}
 use Rattle.rdl_parser.specs.Following as following
 use Rattle.rdl_parser.proofs.Firsts.{table, right}
-use Rattle.rdl_parser.proofs.Factoring.{splitting, packing, either, first_chosen, second_chosen}
-use Rattle.rdl_parser.proofs.Operators.{seen}
+use Rattle.rb_grammar.proofs.Factoring.{splitting, packing, either, first_chosen, second_chosen}
 use Rattle.rdl_parser.proofs.Phrases.{set_is_local}
 
 pub moved : (a : Terminal) {ts us : List Token} → ts ≡ us → at grammar a ts ≡ false → at grammar a us ≡ false
 moved a e h = subst (λ z. at grammar a z ≡ false) e h
 
-pub default_tree : {t : Token} {ts us vs : List Token} {s : Set} → IsWord words.Default ts t us → DerivesLocal t.place us vs s → s.place ≡ t.place → DerivesItem ts vs (items.Default s)
-default_tree {us = us} {vs = vs} {s = s} i d e = tree.default i e (subst (λ z. DerivesLocal z us vs s) (sym e) d)
+pub moved_item : {ts us : List Token} (vs : List Token) (r : Result Item Stop) → us ≡ ts → IfOk r (DerivesItem us vs) → IfOk r (DerivesItem ts vs)
+moved_item vs (Ok x) e h = subst (λ z. DerivesItem z vs x) e h
+moved_item vs (Err stop) e h = tt
+
+pub default_tree : {t : Token} {ts us vs : List Token} {place : Place} {s : Set} → IsWord words.Default ts t us → place ≡ t.place → DerivesLocal place us vs s → s.place ≡ place → DerivesItem ts vs (items.Default s)
+default_tree {us = us} {vs = vs} {s = s} i at d e = tree.default i (e ∙ at) (subst (λ z. DerivesLocal z us vs s) (sym e) d)
 
 pub skip_tree : {ts us : List Token} (o : Option Token) → MatchOption o (Misses grammar (terminals.Reserved words.Internal) ts us) (λ t. IsWord words.Internal ts t us) → SkipsInternal ts us
 skip_tree {ts = ts} None m = subst (λ z. SkipsInternal ts z) (sym m.list) tree.none
@@ -159,15 +163,15 @@ pub dynamic_tree : {p : Path} {prop : Name} {place : Place} {t : Token} {ts us v
 dynamic_tree {p = p} {ts = ts} {xs = xs} a d i e h = subst (λ z. DerivesItem ts xs (items.Dynamic p z)) (sym h.is) (dynamic a d i e h.assigned h.ends)
 
 pub named_tree : {k : Keyword} {t : Token} {ts us vs ws xs ys zs : List Token} (kind : Kind) (n : Name) (params : Bor (List Param)) (body : Bor (List Item)) (insts : Option Insts) → SkipsInternal ts us → kind_of k ≡ Some kind → IsWord k us t vs → IsName vs ws n
-    → DerivesHashed DerivesParam ws xs params.now → DerivesBody xs ys body.now → EndsDef ys zs insts → DerivesDef ts zs (roll-Def record { kind = kind; name = Some n; params = params; items = body; insts = insts; place = n.place })
+    → DerivesHashed DerivesParam ws xs params.now → DerivesBody xs ys body.now → EndsDef ys zs insts → DerivesItem ts zs (items.Def (roll-Def record { kind = kind; name = Some n; params = params; items = body; insts = insts; place = n.place }))
 named_tree {ws = ws} {xs = xs} {ys = ys} kind n params body insts s e i m p b h =
     let o = out-roll-Def record { kind = kind; name = Some n; params = params; items = body; insts = insts; place = n.place } in
-    named s e i m (subst (λ z. DerivesHashed DerivesParam ws xs z.params.now) (sym o) p) (subst (λ z. DerivesBody xs ys z.items.now) (sym o) b) (subst (λ z. DerivesMade ys h.middle z.insts) (sym o) h.made) h.ends
-    (ap (λ z. z.kind) o) (ap (λ z. z.name) o) (ap (λ z. z.place) o)
+    component (named s e i m (subst (λ z. DerivesHashed DerivesParam ws xs z.params.now) (sym o) p) (subst (λ z. DerivesBody xs ys z.items.now) (sym o) b) (subst (λ z. DerivesMade ys h.middle z.insts) (sym o) h.made) h.ends
+    (ap (λ z. z.kind) o) (ap (λ z. z.name) o) (ap (λ z. z.place) o))
 
 pub bare_tree : {k : Keyword} {t u : Token} {ts us vs ws xs ys zs : List Token} (kind : Kind) (params : Bor (List Param)) (body : Bor (List Item)) (insts : Insts) (place : Place) → SkipsInternal ts us → kind_of k ≡ Some kind → IsWord k us t vs → place ≡ t.place → DerivesBody vs ws body.now
     → SkipsInternal ws xs → DerivesListed DerivesInst xs ys insts.list.now → IsMark marks.Semicolon ys u zs → params.now ≡ [] → insts.args.now ≡ []
-    → DerivesDef ts zs (roll-Def record { kind = kind; name = None; params = params; items = body; insts = Some insts; place = place })
+    → DerivesItem ts zs (items.Def (roll-Def record { kind = kind; name = None; params = params; items = body; insts = Some insts; place = place }))
 bare_tree {vs = vs} {ws = ws} kind params body insts place s e i at b r l m np na =
     let o = out-roll-Def record { kind = kind; name = None; params = params; items = body; insts = Some insts; place = place } in
-    bare s e i (subst (λ z. DerivesBody vs ws z.items.now) (sym o) b) r l m (ap (λ z. z.kind) o) (ap (λ z. z.name) o) (ap (λ z. z.params.now) o ∙ np) (ap (λ z. z.insts) o) na (ap (λ z. z.place) o ∙ at)
+    component (bare s e i (subst (λ z. DerivesBody vs ws z.items.now) (sym o) b) r l m (ap (λ z. z.kind) o) (ap (λ z. z.name) o) (ap (λ z. z.params.now) o ∙ np) (ap (λ z. z.insts) o) na (ap (λ z. z.place) o ∙ at))

@@ -1,5 +1,4 @@
 pub mod Firsts
-pub mod Factoring
 pub mod Words
 pub mod Operators
 pub mod Phrases

@@ -1,31 +1,26 @@
 -- Operators: what they are in the grammar, and that operands are joined as tightly as they bind.
-use Rattle.std.proofs.Common.{◌≡◌, ℕ, ◌+◌, ◌≤◌, true, Some, List, [], ◌∷◌, refl, sym, subst, arith, inl, inr, lit≤}
+use Rattle.std.proofs.Common.{◌≡◌, ℕ, ◌+◌, ◌≤◌, Some, Result, Ok, Err, OnOk, List, [], ◌∷◌, refl, sym, subst, arith, inl, inr, lit≤}
 use Rattle.std.proofs.lemmas.Bool.{both_ways, cases_lt}
-use Rattle.std.specs.Borrow.{Bor}
 use Rattle.rb_base.specs.declared.place.Place.{Place}
+use Rattle.rb_grammar.specs.declared.stop.Stop.{Stop}
 use Rattle.rb_grammar.specs.Forms.{Non}
-use Rattle.rb_grammar.specs.Readings.{at, Takes, Same}
+use Rattle.rb_grammar.specs.Readings.{at, Same}
 use Rattle.rb_grammar.proofs.Following.{◌⟫◌}
 use Rattle.rb_grammar.proofs.Barring.{Here, Without, AreOff}
-use Rattle.rb_grammar.proofs.Steps.{entering, opening, taking}
+use Rattle.rb_grammar.proofs.Steps.{entering, opening, taking, seen}
 use Rattle.rdl_tree.specs.declared.expr.Expr.{Expr}
 use Rattle.rdl_tree.specs.declared.expr.Expr.TheVariants as expr
 use Rattle.rdl_tree.specs.declared.expr.Op.{Op}
 use Rattle.rdl_tree.specs.declared.expr.Op.TheVariants as ops
 use Rattle.rdl_tree.specs.declared.token.Mark.{Mark}
 use Rattle.rdl_tree.specs.declared.token.Mark.TheVariants as marks
-use Rattle.rdl_tree.specs.declared.token.Terminal.{Terminal}
 use Rattle.rdl_tree.specs.declared.token.Terminal.TheVariants as terminals
 use Rattle.rdl_tree.specs.declared.token.Token.{Token}
 use Rattle.rdl_tree.specs.Grammar.{Rule, grammar}
 use Rattle.rdl_tree.specs.Grammar as rules
 use Rattle.rdl_tree.specs.Tree.{IsMark, operator_of, level, DerivesBinary, operand, joined}
-use Rattle.rdl_parser.specs.Following.{after_binary, operands, operators, TakesOperator, IsLooser}
+use Rattle.rdl_parser.specs.Following.{after_binary, operands, operators, IsPair, TakesOperator, IsLooser}
 use Rattle.rdl_parser.proofs.Firsts.{table, right}
-
--- a token that is taken was next
-pub seen : {a : Terminal} {t : Token} {ts us : List Token} → Takes grammar a ts t us → at grammar a ts ≡ true
-seen {a = a} i = subst (λ z. at grammar a z ≡ true) (sym i.list) i.token
 
 pub operator_step : {least : ℕ} {ts us : List Token} {op : Op} {place : Place} → TakesOperator least ts us op place → Same grammar after_binary (operands ∷ []) ts (Non rules.Prefix ∷ operands ∷ []) us
 operator_step {ts = ts} {us = us} {op = op} h = go h.mark op h.is h.stands
@@ -59,6 +54,10 @@ no_operator ts h = (h marks.OrOr ops.OrElse refl (omega arith), (h marks.AndAnd 
 pub binary_step : {ts us : List Token} → Same grammar after_binary (Non rules.Prefix ∷ operands ∷ []) ts (operands ∷ []) us → IsLooser 0 us → Same grammar after_binary (Non rules.Binary ∷ []) ts [] us
 binary_step p h = entering ⟫ p ⟫ opening right (Without operators) refl (no_operator _ h)
 
+pub binary_returns : {X : Type 0} (ts us : List Token) (r : Result X Stop) → OnOk r (Same grammar after_binary (Non rules.Prefix ∷ operands ∷ []) ts (operands ∷ []) us) → OnOk r (IsLooser 0 us) → OnOk r (Same grammar after_binary (Non rules.Binary ∷ []) ts [] us)
+binary_returns ts us (Ok x) p h = binary_step p h
+binary_returns ts us (Err stop) p h = tt
+
 level_most : (o : Op) → level o ≤ 10
 level_most ops.OrElse = lit≤ tt
 level_most ops.AndAlso = lit≤ tt
@@ -88,9 +87,9 @@ loosen l (operand d) = operand d
 loosen l (joined e m a i b) = joined e (omega (arith, l, m)) a i b
 
 -- an operator joins what is read so far to what binds more tightly than it does
-pub join : (least most : ℕ) (ts us vs ws : List Token) (op : Op) (place : Place) (a b : Bor Expr) (x y : Expr) → (k : ℕ) × (least ≤ k) × DerivesBinary k ts us x × IsLooser (k + 1) us → TakesOperator least us vs op place
-    → most ≡ level op → a.now ≡ x → b.now ≡ y → DerivesBinary (most + 1) vs ws y → IsLooser (most + 1) ws → (k : ℕ) × (least ≤ k) × DerivesBinary k ts ws (expr.Binary op a b place) × IsLooser (k + 1) ws
-join least most ts us vs ws op place a b x y l h m ea eb d n = (level op, h.tight, tree, subst (λ (z : ℕ). IsLooser (z + 1) ws) m n)
+pub join : (least most : ℕ) (ts us vs ws : List Token) (op : Op) (place : Place) (x y e : Expr) → (k : ℕ) × (least ≤ k) × DerivesBinary k ts us x × IsLooser (k + 1) us → TakesOperator least us vs op place
+    → most ≡ level op → IsPair op x y place e → DerivesBinary (most + 1) vs ws y → IsLooser (most + 1) ws → (k : ℕ) × (least ≤ k) × DerivesBinary k ts ws e × IsLooser (k + 1) ws
+join least most ts us vs ws op place x y e l h m p d n = (level op, h.tight, subst (λ z. DerivesBinary (level op) ts ws z) (sym p.is) tree, subst (λ (z : ℕ). IsLooser (z + 1) ws) m n)
   where
     near : level op ≤ l.0
     near = elim (cases_lt l.0 (level op)) [
@@ -98,11 +97,11 @@ join least most ts us vs ws op place a b x y l h m ea eb d n = (level op, h.tigh
       | inr p ↦ p
     ]
 
-    left : DerivesBinary (level op) ts us a.now
-    left = subst (λ z. DerivesBinary (level op) ts us z) (sym ea) (loosen near l.2)
+    left : DerivesBinary (level op) ts us p.first.now
+    left = subst (λ z. DerivesBinary (level op) ts us z) (sym p.before) (loosen near l.2)
 
-    right_side : DerivesBinary (level op + 1) vs ws b.now
-    right_side = subst (λ z. DerivesBinary (level op + 1) vs ws z) (sym eb) (subst (λ (z : ℕ). DerivesBinary (z + 1) vs ws y) m d)
+    right_side : DerivesBinary (level op + 1) vs ws p.second.now
+    right_side = subst (λ z. DerivesBinary (level op + 1) vs ws z) (sym p.behind) (subst (λ (z : ℕ). DerivesBinary (z + 1) vs ws y) m d)
 
-    tree : DerivesBinary (level op) ts ws (expr.Binary op a b place)
-    tree = subst (λ z. DerivesBinary (level op) ts ws (expr.Binary op a b z)) (sym h.at) (joined h.is (omega arith) left h.stands right_side)
+    tree : DerivesBinary (level op) ts ws (expr.Binary op p.first p.second place)
+    tree = subst (λ z. DerivesBinary (level op) ts ws (expr.Binary op p.first p.second z)) (sym h.at) (joined h.is (omega arith) left h.stands right_side)

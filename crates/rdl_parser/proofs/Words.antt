@@ -6,7 +6,7 @@ use Rattle.rb_grammar.specs.Forms.{Tok, Non, Opt}
 use Rattle.rb_grammar.specs.Readings.{at, Same}
 use Rattle.rb_grammar.proofs.Following.{◌⟫◌}
 use Rattle.rb_grammar.proofs.Barring.{Here, AreOff}
-use Rattle.rb_grammar.proofs.Steps.{entering, opening, taking}
+use Rattle.rb_grammar.proofs.Steps.{entering, opening, taking, seen}
 use Rattle.rdl_tree.specs.declared.item.PType.{PType}
 use Rattle.rdl_tree.specs.declared.item.PType.TheVariants as type_kinds
 use Rattle.rdl_tree.specs.declared.token.Mark.TheVariants as marks
@@ -19,7 +19,6 @@ use Rattle.rdl_tree.specs.Tree.{IsWord, type_of}
 use Rattle.rdl_parser.specs.declared.parser.Sort.TheVariants as sorts
 use Rattle.rdl_parser.specs.Following.{has, LacksWords, prop_words, value_words, types, edges, kinds, after_type, after_expr}
 use Rattle.rdl_parser.proofs.Firsts.{table, right}
-use Rattle.rdl_parser.proofs.Operators.{seen}
 
 pub prop_word : {t : Token} {ts us : List Token} (k : Keyword) → has sorts.Prop k ≡ true → IsWord k ts t us → Same grammar [] (Non rules.Prop ∷ []) ts [] us
 prop_word words.Woset e i = entering ⟫ taking right i refl

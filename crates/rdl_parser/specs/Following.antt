@@ -1,13 +1,17 @@
 -- What a parser's functions read: the forms that are left in the middle of a rule, and the terminals with which a form that has
 -- been read could have gone on.
-use Rattle.std.specs.Prelude.{◌≡◌, ℕ, ◌≤◌, Bool, true, false, is_some, Option, Some, None, List, [], ◌∷◌}
+use Rattle.std.specs.Prelude.{◌≡◌, ℕ, ◌≤◌, Bool, true, false, is_some, Option, Some, None, List, [], ◌∷◌, ◌++◌}
+use Rattle.std.specs.Borrow.{Bor}
 use Rattle.rb_base.specs.declared.keyword.Keyword.{Keyword}
 use Rattle.rb_base.specs.declared.keyword.Keyword.TheVariants as words
 use Rattle.rb_base.specs.declared.place.Place.{Place}
 use Rattle.rb_grammar.specs.Forms.{Form, Non, ◌or◌, Opt, Many, ◌then◌}
 use Rattle.rb_grammar.specs.Readings.{at, Takes}
+use Rattle.rdl_tree.specs.declared.expr.Expr.{Expr}
+use Rattle.rdl_tree.specs.declared.expr.Expr.TheVariants as expr
 use Rattle.rdl_tree.specs.declared.expr.Name.{Name}
 use Rattle.rdl_tree.specs.declared.expr.Op.{Op}
+use Rattle.rdl_tree.specs.declared.expr.Step.{Step}
 use Rattle.rdl_tree.specs.declared.item.Entry.{Entry}
 use Rattle.rdl_tree.specs.declared.item.Given.{Given}
 use Rattle.rdl_tree.specs.declared.item.Insts.{Insts}
@@ -21,7 +25,7 @@ use Rattle.rdl_tree.specs.declared.token.TokenKind.{TokenKind}
 use Rattle.rdl_tree.specs.declared.token.TokenKind.TheVariants as tokens
 use Rattle.rdl_tree.specs.Grammar.{Rule, grammar, mark, name, word}
 use Rattle.rdl_tree.specs.Grammar as rules
-use Rattle.rdl_tree.specs.Tree.{IsMark, IsWord, operator_of, level, kind_of, type_of, edge_of, names_property, is_value, DerivesShape, DerivesAssigned, DerivesMany, DerivesEntry, DerivesMade}
+use Rattle.rdl_tree.specs.Tree.{IsMark, IsWord, operator_of, level, kind_of, type_of, edge_of, names_property, is_value, DerivesExpr, DerivesIndices, DerivesShape, DerivesAssigned, DerivesMany, DerivesEntry, DerivesMade}
 use Rattle.rdl_parser.specs.declared.components.Role.{Role}
 use Rattle.rdl_parser.specs.declared.components.Role.TheVariants as roles
 use Rattle.rdl_parser.specs.declared.instances.Shape.{Shape}
@@ -80,9 +84,50 @@ item_of = Opt (mark marks.Arrow then Non rules.Prop)
 abbrev pub brackets_or_name : Form Terminal Rule
 brackets_or_name = mark marks.OpenParen then Non rules.Expr then mark marks.CloseParen or name then mark marks.ColonColon then name or Non rules.Path then item_of
 
+-- a primary that is neither a number nor a string
+abbrev pub flag_or_other : Form Terminal Rule
+flag_or_other = word words.True or word words.False or brackets_or_name
+
 -- a primary behind its name
 abbrev pub behind_name : Form Terminal Rule
 behind_name = (mark marks.ColonColon then name) or (Many (Non rules.Index) then more_steps) then item_of
+
+-- Lists that are read one by one, and trees in the arena.
+
+-- what is derived is added to the list
+pub record Adds {X : Type 0} (Derives : List Token → List Token → X → Type 0) (ts us : List Token) (xs ys : List X) : Type 0 where
+  pub one : X
+  pub derives : Derives ts us one
+  pub list : ys ≡ xs ++ (one ∷ [])
+
+-- an index behind its bracket
+pub record ClosesIndex (ts us : List Token) (e : Expr) : Type 0 where
+  pub middle : List Token
+  pub close : Token
+  pub index : DerivesExpr ts middle e
+  pub closes : IsMark marks.CloseBracket middle close us
+
+-- a step of this name is added
+pub record AddsStep (n : Name) (ts us : List Token) (xs ys : List Step) : Type 0 where
+  pub index : Bor (List Expr)
+  pub derives : DerivesIndices ts us index.now
+  pub list : ys ≡ xs ++ (record { name = n; index = index } ∷ [])
+
+pub record IsPair (op : Op) (left right : Expr) (place : Place) (e : Expr) : Type 0 where
+  pub first : Bor Expr
+  pub second : Bor Expr
+  pub before : first.now ≡ left
+  pub behind : second.now ≡ right
+  pub is : e ≡ expr.Binary op first second place
+
+pub record IsPick (test yes no : Expr) (place : Place) (e : Expr) : Type 0 where
+  pub first : Bor Expr
+  pub second : Bor Expr
+  pub third : Bor Expr
+  pub asked : first.now ≡ test
+  pub chosen : second.now ≡ yes
+  pub other : third.now ≡ no
+  pub is : e ≡ expr.Pick first second third place
 
 -- Operators.
 
@@ -149,6 +194,12 @@ after_insts = terminals.Mark marks.Comma ∷ after_inst
 
 abbrev pub after_hashed : List Terminal
 after_hashed = terminals.Mark marks.Hash ∷ []
+
+abbrev pub after_args : List Terminal
+after_args = terminals.Mark marks.Comma ∷ []
+
+abbrev pub after_params : List Terminal
+after_params = terminals.Mark marks.Comma ∷ after_behind marks.Equals
 
 abbrev pub after_type : List Terminal
 after_type = terminals.Reserved words.Unsigned ∷ []

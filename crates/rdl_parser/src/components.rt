@@ -10,10 +10,11 @@ ghost use Rattle.rdl_tree.specs.declared.token.Terminal.TheVariants as terminals
 ghost use Rattle.rdl_tree.specs.declared.token.Token as token;
 ghost use Rattle.rdl_tree.specs.Grammar.{grammar, mark, word};
 ghost use Rattle.rdl_tree.specs.Grammar as rules;
-ghost use Rattle.rdl_tree.specs.Tree.{IsWord, IsName, SkipsInternal, DerivesAlias, DerivesBody, DerivesDef, DerivesItem, DerivesItems, kind_of};
-ghost use Rattle.rdl_parser.specs.Following.{alias, of_type, instances, named_or_bare, behind_internal, simple_item, item_behind_name, is_kind, role, EndsDef};
+ghost use Rattle.rdl_tree.specs.Tree.{IsWord, IsName, SkipsInternal, DerivesAlias, DerivesBody, DerivesItem, DerivesItems, kind_of};
+ghost use Rattle.rdl_parser.specs.Following.{Adds, alias, assigned, assignment, more_steps, of_type, instances, named_or_bare, behind_internal, simple_item, item_behind_name, is_kind, role, EndsDef};
 
-use crate::parser::{Parser, Sort};
+use crate::parser::{Parser, Sort, add};
+use bumpalo::Bump;
 use bumpalo::collections::into_bump_slice;
 use rb_base::{Keyword, Place};
 use rb_grammar::Stop;
@@ -103,9 +104,44 @@ impl<'a> Parser<'a> {
     {
         let alias = self.alias()?;
         let of = self.expect_name()?;
+        self.made_from(alias, of)
+    }
+
+    // What follows the name of a type: insts ";" .
+    fn made_from(&mut self, alias: Option<Name<'a>>, of: Name<'a>) -> Result<Item<'a>, Stop>
+        ensures tree { (ts us vs : List token.Token) → SkipsInternal ts us → DerivesAlias us vs alias.entry → IsName vs self.old of.entry → IfOk result (DerivesItem ts self.new) }
+        ensures shorter { OnOk result (length self.new < length self.old) }
+        ensures reads { OnOk result (Same grammar [] (Non rules.Insts ∷ mark marks.Semicolon ∷ []) self.old [] self.new) }
+        ensures stops { result ≡ Err Stop.Syntax → Stops grammar [] (Non rules.Insts ∷ mark marks.Semicolon ∷ []) self.old self.new }
+    {
         let insts = self.insts()?;
         let _end = self.expect(Mark::Semicolon)?;
         Ok(Item::Made { alias, of, insts })
+    }
+
+    // A local assignment behind its name.
+    fn local_from(&mut self, name: Name<'a>) -> Result<Item<'a>, Stop>
+        ensures tree { (ts : List token.Token) → IsName ts self.old name.entry → IfOk result (DerivesItem ts self.new) }
+        ensures shorter { OnOk result (length self.new < length self.old) }
+        ensures reads { OnOk result (Same grammar [] (assigned ∷ mark marks.Semicolon ∷ []) self.old [] self.new) }
+        ensures stops { result ≡ Err Stop.Syntax → Stops grammar [] (assigned ∷ mark marks.Semicolon ∷ []) self.old self.new }
+    {
+        let set = self.set_from(name, name.place)?;
+        Ok(Item::Local(set))
+    }
+
+    // An assignment to an instance below, behind the first name of its path.
+    fn dynamic_from(&mut self, name: Name<'a>) -> Result<Item<'a>, Stop>
+        ensures tree { (ts : List token.Token) → IsName ts self.old name.entry → IfOk result (DerivesItem ts self.new) }
+        ensures shorter { OnOk result (length self.new < length self.old) }
+        ensures reads { OnOk result (Same grammar [] (Many (Non rules.Index) ∷ more_steps ∷ assignment ∷ []) self.old [] self.new) }
+        ensures stops { result ≡ Err Stop.Syntax → Stops grammar [] (Many (Non rules.Index) ∷ more_steps ∷ assignment ∷ []) self.old self.new }
+    {
+        let target = self.path_from(name)?;
+        let _arrow = self.expect(Mark::Arrow)?;
+        let prop = self.prop()?;
+        let set = self.set_from(prop, name.place)?;
+        Ok(Item::Dynamic { target, set })
     }
 
     // What follows the name that an item begins with.
@@ -116,27 +152,32 @@ impl<'a> Parser<'a> {
         ensures stops { result ≡ Err Stop.Syntax → Stops grammar [] (item_behind_name ∷ []) self.old self.new }
     {
         match self.role() {
-            Role::Made => {
-                let insts = self.insts()?;
-                let _end = self.expect(Mark::Semicolon)?;
-                Ok(Item::Made {
-                    alias: None,
-                    of: name,
-                    insts,
-                })
-            }
-            Role::Local => {
-                let set = self.set_from(name, name.place)?;
-                Ok(Item::Local(set))
-            }
-            Role::Dynamic => {
-                let target = self.path_from(name)?;
-                let _arrow = self.expect(Mark::Arrow)?;
-                let prop = self.prop()?;
-                let set = self.set_from(prop, name.place)?;
-                Ok(Item::Dynamic { target, set })
-            }
+            Role::Made => self.made_from(None, name),
+            Role::Local => self.local_from(name),
+            Role::Dynamic => self.dynamic_from(name),
         }
+    }
+
+    // A default, behind its word at this place.
+    fn default_at(&mut self, place: Place) -> Result<Item<'a>, Stop>
+        ensures tree { (t : token.Token) (ts : List token.Token) → IsWord words.Default ts t self.old → place ≡ t.place → IfOk result (DerivesItem ts self.new) }
+        ensures shorter { OnOk result (length self.new < length self.old) }
+        ensures reads { OnOk result (Same grammar [] (Non rules.Local ∷ []) self.old [] self.new) }
+        ensures stops { result ≡ Err Stop.Syntax → Stops grammar [] (Non rules.Local ∷ []) self.old self.new }
+    {
+        let set = self.local(place)?;
+        Ok(Item::Default(set))
+    }
+
+    // A local assignment.
+    fn local_item(&mut self) -> Result<Item<'a>, Stop>
+        ensures tree { IfOk result (DerivesItem self.old self.new) }
+        ensures shorter { OnOk result (length self.new < length self.old) }
+        ensures reads { OnOk result (Same grammar [] (Non rules.Local ∷ []) self.old [] self.new) }
+        ensures stops { result ≡ Err Stop.Syntax → Stops grammar [] (Non rules.Local ∷ []) self.old self.new }
+    {
+        let set = self.set()?;
+        Ok(Item::Local(set))
     }
 
     // An item that is no component and is not "internal".
@@ -148,23 +189,18 @@ impl<'a> Parser<'a> {
         ensures stops { result ≡ Err Stop.Syntax → Stops grammar [] (simple_item ∷ []) self.old self.new }
     {
         if self.is_at(Terminal::Reserved(Keyword::Alias)) {
-            let made = self.made()?;
-            return Ok(made);
+            return self.made();
         }
         if let Some(_) = self.word(Keyword::Enum) {
-            let enumeration = self.enumeration()?;
-            return Ok(enumeration);
+            return self.enumeration();
         }
         if let Some(token) = self.word(Keyword::Default) {
-            let default = self.local(token.place)?;
-            return Ok(Item::Default(default));
+            return self.default_at(token.place);
         }
         if let Some(name) = self.name() {
-            let item = self.item_from(name)?;
-            return Ok(item);
+            return self.item_from(name);
         }
-        let set = self.set()?;
-        Ok(Item::Local(set))
+        self.local_item()
     }
 
     // [ [ "internal" ] insts ] ";" .
@@ -184,8 +220,8 @@ impl<'a> Parser<'a> {
 
     // A component with a name, behind it: [ params ] body [ [ "internal" ] insts ] ";" .
     #[cycle(item)]
-    fn named_def(&mut self, kind: Kind, name: Name<'a>) -> Result<Def<'a>, Stop>
-        ensures tree { (k : keyword.Keyword) (t : token.Token) (ts us vs : List token.Token) → SkipsInternal ts us → kind_of k ≡ Some kind → IsWord k us t vs → IsName vs self.old name.entry → IfOk result (DerivesDef ts self.new) }
+    fn named_def(&mut self, kind: Kind, name: Name<'a>) -> Result<Item<'a>, Stop>
+        ensures tree { (k : keyword.Keyword) (t : token.Token) (ts us vs : List token.Token) → SkipsInternal ts us → kind_of k ≡ Some kind → IsWord k us t vs → IsName vs self.old name.entry → IfOk result (DerivesItem ts self.new) }
         ensures shorter { OnOk result (length self.new < length self.old) }
         ensures reads { OnOk result (Same grammar [] (Opt (Non rules.Params) ∷ (Non rules.Body then instances) ∷ mark marks.Semicolon ∷ []) self.old [] self.new) }
         ensures stops { result ≡ Err Stop.Syntax → Stops grammar [] (Opt (Non rules.Params) ∷ (Non rules.Body then instances) ∷ mark marks.Semicolon ∷ []) self.old self.new }
@@ -193,20 +229,20 @@ impl<'a> Parser<'a> {
         let params = self.params()?;
         let items = self.body()?;
         let insts = self.end_of_def()?;
-        Ok(Def {
+        Ok(Item::Def(Def {
             kind,
             name: Some(name),
             params,
             items,
             insts,
             place: name.place,
-        })
+        }))
     }
 
     // A component without a name, behind its kind: body [ "internal" ] instlist ";" .
     #[cycle(item)]
-    fn bare_def(&mut self, kind: Kind, place: Place) -> Result<Def<'a>, Stop>
-        ensures tree { (k : keyword.Keyword) (t : token.Token) (ts us : List token.Token) → SkipsInternal ts us → kind_of k ≡ Some kind → IsWord k us t self.old → place ≡ t.place → IfOk result (DerivesDef ts self.new) }
+    fn bare_def(&mut self, kind: Kind, place: Place) -> Result<Item<'a>, Stop>
+        ensures tree { (k : keyword.Keyword) (t : token.Token) (ts us : List token.Token) → SkipsInternal ts us → kind_of k ≡ Some kind → IsWord k us t self.old → place ≡ t.place → IfOk result (DerivesItem ts self.new) }
         ensures shorter { OnOk result (length self.new < length self.old) }
         ensures reads { OnOk result (Same grammar [] (Non rules.Body ∷ (Opt (word words.Internal) then Non rules.InstList) ∷ mark marks.Semicolon ∷ []) self.old [] self.new) }
         ensures stops { result ≡ Err Stop.Syntax → Stops grammar [] (Non rules.Body ∷ (Opt (word words.Internal) then Non rules.InstList) ∷ mark marks.Semicolon ∷ []) self.old self.new }
@@ -215,30 +251,28 @@ impl<'a> Parser<'a> {
         self.skip_internal();
         let list = self.inst_list()?;
         let _end = self.expect(Mark::Semicolon)?;
-        Ok(Def {
+        Ok(Item::Def(Def {
             kind,
             name: None,
             params: &[],
             items,
             insts: Some(Insts { args: &[], list }),
             place,
-        })
+        }))
     }
 
     // A component behind its kind.
     #[cycle(item)]
-    fn def(&mut self, kind: Kind, place: Place) -> Result<Def<'a>, Stop>
-        ensures tree { (k : keyword.Keyword) (t : token.Token) (ts us : List token.Token) → SkipsInternal ts us → kind_of k ≡ Some kind → IsWord k us t self.old → place ≡ t.place → IfOk result (DerivesDef ts self.new) }
+    fn def(&mut self, kind: Kind, place: Place) -> Result<Item<'a>, Stop>
+        ensures tree { (k : keyword.Keyword) (t : token.Token) (ts us : List token.Token) → SkipsInternal ts us → kind_of k ≡ Some kind → IsWord k us t self.old → place ≡ t.place → IfOk result (DerivesItem ts self.new) }
         ensures shorter { OnOk result (length self.new < length self.old) }
         ensures reads { OnOk result (Same grammar [] (named_or_bare ∷ mark marks.Semicolon ∷ []) self.old [] self.new) }
         ensures stops { result ≡ Err Stop.Syntax → Stops grammar [] (named_or_bare ∷ mark marks.Semicolon ∷ []) self.old self.new }
     {
-        if let Some(name) = self.name() {
-            let named = self.named_def(kind, name)?;
-            return Ok(named);
-        }
-        let bare = self.bare_def(kind, place)?;
-        Ok(bare)
+        let Some(name) = self.name() else {
+            return self.bare_def(kind, place);
+        };
+        self.named_def(kind, name)
     }
 
     // body = "{" { item } "}" .
@@ -255,9 +289,20 @@ impl<'a> Parser<'a> {
             if let Some(_) = self.mark(Mark::CloseBrace) {
                 return Ok(into_bump_slice(items));
             }
-            let item = self.item()?;
-            items.push(item)?;
+            self.add_item(&mut items)?;
         }
+    }
+
+    // Adds an item to those that were read.
+    #[cycle(item)]
+    fn add_item(&mut self, items: &mut Vec<Item<'a>, &'a Bump>) -> Result<(), Stop>
+        ensures tree { OnOk result (Adds DerivesItem self.old self.new items.old.items items.new.items) }
+        ensures shorter { OnOk result (length self.new < length self.old) }
+        ensures reads { OnOk result (Same grammar [] (Non rules.Item ∷ []) self.old [] self.new) }
+        ensures stops { result ≡ Err Stop.Syntax → Stops grammar [] (Non rules.Item ∷ []) self.old self.new }
+    {
+        let item = self.item()?;
+        add(items, item)
     }
 
     // item = component | enum | made | default | local | dynamic .
@@ -269,15 +314,12 @@ impl<'a> Parser<'a> {
         ensures stops { result ≡ Err Stop.Syntax → Stops grammar [] (Non rules.Item ∷ []) self.old self.new }
     {
         if let Some(_) = self.word(Keyword::Internal) {
-            let item = self.internal_item()?;
-            return Ok(item);
+            return self.internal_item();
         }
-        if let Some((word, token)) = self.word_of(Sort::Kind) {
-            let def = self.def(kind_of(word), token.place)?;
-            return Ok(Item::Def(def));
-        }
-        let item = self.simple_item()?;
-        Ok(item)
+        let Some((word, token)) = self.word_of(Sort::Kind) else {
+            return self.simple_item();
+        };
+        self.def(kind_of(word), token.place)
     }
 
     // What follows "internal".
@@ -288,12 +330,10 @@ impl<'a> Parser<'a> {
         ensures reads { OnOk result (Same grammar [] (behind_internal ∷ []) self.old [] self.new) }
         ensures stops { result ≡ Err Stop.Syntax → Stops grammar [] (behind_internal ∷ []) self.old self.new }
     {
-        if let Some((word, token)) = self.word_of(Sort::Kind) {
-            let def = self.def(kind_of(word), token.place)?;
-            return Ok(Item::Def(def));
-        }
-        let made = self.made()?;
-        Ok(made)
+        let Some((word, token)) = self.word_of(Sort::Kind) else {
+            return self.made();
+        };
+        self.def(kind_of(word), token.place)
     }
 
     /// source = { item } .
@@ -304,8 +344,7 @@ impl<'a> Parser<'a> {
     {
         let mut items = Vec::new(self.arena);
         'more: while !self.is_done() {
-            let item = self.item()?;
-            items.push(item)?;
+            self.add_item(&mut items)?;
         }
         Ok(into_bump_slice(items))
     }

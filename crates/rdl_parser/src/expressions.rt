@@ -1,15 +1,17 @@
 //! Expressions and paths (SystemRDL 2.0, annex B).
 
-ghost use Rattle.std.specs.Prelude.{◌≡◌, ℕ, Err, ◌*◌, ◌+◌, ◌<◌, ◌≤◌, List, [], ◌∷◌, length, IfOk, OnOk, MatchOption};
+ghost use Rattle.std.specs.Prelude.{◌≡◌, ℕ, Err, ◌*◌, ◌+◌, ◌<◌, ◌≤◌, List, [], ◌∷◌, length, IfOk, IfErr, OnOk, MatchOption};
 ghost use Rattle.rb_grammar.specs.Forms.{Non, Many, ◌then◌};
 ghost use Rattle.rb_grammar.specs.Readings.{Misses, Same, Stops};
 ghost use Rattle.rdl_tree.specs.declared.token.Token as token;
-ghost use Rattle.rdl_tree.specs.Grammar.{grammar};
+ghost use Rattle.rdl_tree.specs.declared.token.Mark.TheVariants as marks;
+ghost use Rattle.rdl_tree.specs.Grammar.{grammar, mark};
 ghost use Rattle.rdl_tree.specs.Grammar as rules;
-ghost use Rattle.rdl_tree.specs.Tree.{IsName, DerivesProp, DerivesExpr, DerivesBinary, DerivesPrefix, DerivesPrimary, DerivesPath, DerivesIndices, operator_of, level};
-ghost use Rattle.rdl_parser.specs.Following.{after_indices, after_path, after_primary, after_binary, after_expr, operands, more_steps, brackets_or_name, behind_name, TakesOperator, IsLooser};
+ghost use Rattle.rdl_tree.specs.Tree.{IsMark, IsName, DerivesProp, DerivesExpr, DerivesBinary, DerivesPrefix, DerivesPrimary, DerivesPath, DerivesIndices, operator_of, level};
+ghost use Rattle.rdl_parser.specs.Following.{after_indices, after_path, after_primary, after_binary, after_expr, operands, more_steps, brackets_or_name, flag_or_other, behind_name, Adds, AddsStep, ClosesIndex, IsPair, IsPick, TakesOperator, IsLooser};
 
-use crate::parser::{Parser, Sort};
+use crate::parser::{Parser, Sort, add};
+use bumpalo::Bump;
 use bumpalo::collections::into_bump_slice;
 use rb_base::{Keyword, Place};
 use rb_grammar::Stop;
@@ -99,7 +101,42 @@ impl<'a> Parser<'a> {
         })
     }
 
-    // The number, string or boolean at the front.
+    // An expression in the arena.
+    fn lodged(&self, expr: Expr<'a>) -> Result<&'a Expr<'a>, Stop>
+        ensures is { IfOk result (λ e. e.now ≡ expr.entry) }
+        ensures memory { IfErr result (λ stop. stop ≡ Stop.NoMemory) }
+    {
+        Ok(self.arena.try_alloc(expr)?)
+    }
+
+    // An operator with its operands, which lie in the arena.
+    fn pair(&self, op: Op, left: Expr<'a>, right: Expr<'a>, place: Place) -> Result<Expr<'a>, Stop>
+        ensures is { IfOk result (IsPair op left.entry right.entry place) }
+        ensures memory { IfErr result (λ stop. stop ≡ Stop.NoMemory) }
+    {
+        let first = self.lodged(left)?;
+        let second = self.lodged(right)?;
+        Ok(Expr::Binary(op, first, second, place))
+    }
+
+    // A choice, of which the parts lie in the arena.
+    fn pick(
+        &self,
+        test: Expr<'a>,
+        yes: Expr<'a>,
+        no: Expr<'a>,
+        place: Place,
+    ) -> Result<Expr<'a>, Stop>
+        ensures is { IfOk result (IsPick test.entry yes.entry no.entry place) }
+        ensures memory { IfErr result (λ stop. stop ≡ Stop.NoMemory) }
+    {
+        let first = self.lodged(test)?;
+        let second = self.lodged(yes)?;
+        let third = self.lodged(no)?;
+        Ok(Expr::Pick(first, second, third, place))
+    }
+
+    // The number or string at the front, or the boolean.
     fn literal(&mut self) -> Option<Expr<'a>>
         ensures { MatchOption result ((self.new ≡ self.old) × Same grammar after_primary (Non rules.Primary ∷ []) self.old (brackets_or_name ∷ []) self.new)
             (λ e. DerivesPrimary self.old self.new e × Same grammar after_primary (Non rules.Primary ∷ []) self.old [] self.new) }
@@ -110,6 +147,14 @@ impl<'a> Parser<'a> {
         if let Some(string) = self.eat(Terminal::Str) {
             return Some(Expr::Str(string.text, string.place));
         }
+        self.flag()
+    }
+
+    // The boolean at the front.
+    fn flag(&mut self) -> Option<Expr<'a>>
+        ensures { MatchOption result ((self.new ≡ self.old) × Same grammar after_primary (flag_or_other ∷ []) self.old (brackets_or_name ∷ []) self.new)
+            (λ e. DerivesPrimary self.old self.new e × Same grammar after_primary (flag_or_other ∷ []) self.old [] self.new) }
+    {
         if let Some(word) = self.word(Keyword::True) {
             return Some(Expr::Flag(true, word.place));
         }
@@ -130,15 +175,20 @@ impl<'a> Parser<'a> {
         let Some(question) = self.mark(Mark::Question) else {
             return Ok(test);
         };
+        self.choice(test, question.place)
+    }
+
+    // What follows the "?" of a test: binary ":" binary .
+    #[cycle(expr)]
+    fn choice(&mut self, test: Expr<'a>, place: Place) -> Result<Expr<'a>, Stop>
+        ensures tree { (t : token.Token) (ts us : List token.Token) → DerivesBinary 0 ts us test.entry → IsMark marks.Question us t self.old → place ≡ t.place → IfOk result (DerivesExpr ts self.new) }
+        ensures reads { OnOk result (Same grammar after_expr (Non rules.Binary ∷ (mark marks.Colon then Non rules.Binary) ∷ []) self.old [] self.new) }
+        ensures stops { result ≡ Err Stop.Syntax → Stops grammar after_expr (Non rules.Binary ∷ (mark marks.Colon then Non rules.Binary) ∷ []) self.old self.new }
+    {
         let yes = self.binary()?;
         let _colon = self.expect(Mark::Colon)?;
         let no = self.binary()?;
-        Ok(Expr::Pick(
-            self.arena.try_alloc(test)?,
-            self.arena.try_alloc(yes)?,
-            self.arena.try_alloc(no)?,
-            question.place,
-        ))
+        self.pick(test, yes, no, place)
     }
 
     // binary = prefix { operator prefix } .
@@ -148,8 +198,7 @@ impl<'a> Parser<'a> {
         ensures reads { OnOk result (Same grammar after_binary (Non rules.Binary ∷ []) self.old [] self.new) }
         ensures stops { result ≡ Err Stop.Syntax → Stops grammar after_binary (Non rules.Binary ∷ []) self.old self.new }
     {
-        let joined = self.joined(0)?;
-        Ok(joined)
+        self.joined(0)
     }
 
     // The operands that operators join which bind at least so tightly.
@@ -164,12 +213,7 @@ impl<'a> Parser<'a> {
         let mut left = self.prefix()?;
         'more: while let Some((op, place)) = self.operator(least) {
             let right = self.joined(level(op) + 1)?;
-            left = Expr::Binary(
-                op,
-                self.arena.try_alloc(left)?,
-                self.arena.try_alloc(right)?,
-                place,
-            );
+            left = self.pair(op, left, right, place)?;
         }
         Ok(left)
     }
@@ -182,11 +226,10 @@ impl<'a> Parser<'a> {
         ensures stops { result ≡ Err Stop.Syntax → Stops grammar after_primary (Non rules.Prefix ∷ []) self.old self.new }
     {
         let Some(not) = self.mark(Mark::Not) else {
-            let operand = self.primary()?;
-            return Ok(operand);
+            return self.primary();
         };
         let operand = self.primary()?;
-        Ok(Expr::Not(self.arena.try_alloc(operand)?, not.place))
+        Ok(Expr::Not(self.lodged(operand)?, not.place))
     }
 
     // primary = number | string | "true" | "false" | "(" expr ")" | name "::" name | path [ "->" prop ] .
@@ -200,13 +243,22 @@ impl<'a> Parser<'a> {
             return Ok(literal);
         }
         if let Some(_) = self.mark(Mark::OpenParen) {
-            let inner = self.expr()?;
-            let _close = self.expect(Mark::CloseParen)?;
-            return Ok(inner);
+            return self.bracketed();
         }
         let name = self.expect_name()?;
-        let named = self.named(name)?;
-        Ok(named)
+        self.named(name)
+    }
+
+    // What follows a bracket that begins a primary: expr ")" .
+    #[cycle(expr)]
+    fn bracketed(&mut self) -> Result<Expr<'a>, Stop>
+        ensures tree { (t : token.Token) (ts : List token.Token) → IsMark marks.OpenParen ts t self.old → IfOk result (DerivesPrimary ts self.new) }
+        ensures reads { OnOk result (Same grammar after_primary (Non rules.Expr ∷ mark marks.CloseParen ∷ []) self.old [] self.new) }
+        ensures stops { result ≡ Err Stop.Syntax → Stops grammar after_primary (Non rules.Expr ∷ mark marks.CloseParen ∷ []) self.old self.new }
+    {
+        let inner = self.expr()?;
+        let _close = self.expect(Mark::CloseParen)?;
+        Ok(inner)
     }
 
     // What follows a name that begins a primary.
@@ -236,16 +288,25 @@ impl<'a> Parser<'a> {
         ensures stops { result ≡ Err Stop.Syntax → Stops grammar after_path (Many (Non rules.Index) ∷ more_steps ∷ []) self.old self.new }
     {
         let mut steps = Vec::new(self.arena);
-        let index = self.indices()?;
-        steps.push(Step { name: first, index })?;
+        self.add_step(&mut steps, first)?;
         'more: while let Some(_) = self.mark(Mark::Dot) {
             let name = self.expect_name()?;
-            let index = self.indices()?;
-            steps.push(Step { name, index })?;
+            self.add_step(&mut steps, name)?;
         }
         Ok(Path {
             steps: into_bump_slice(steps),
         })
+    }
+
+    // Adds the step of a name to those that were read.
+    #[cycle(expr)]
+    fn add_step(&mut self, steps: &mut Vec<Step<'a>, &'a Bump>, name: Name<'a>) -> Result<(), Stop>
+        ensures tree { OnOk result (AddsStep name.entry self.old self.new steps.old.items steps.new.items) }
+        ensures reads { OnOk result (Same grammar after_indices (Many (Non rules.Index) ∷ []) self.old [] self.new) }
+        ensures stops { result ≡ Err Stop.Syntax → Stops grammar after_indices (Many (Non rules.Index) ∷ []) self.old self.new }
+    {
+        let index = self.indices()?;
+        add(steps, Step { name, index })
     }
 
     /// { "[" expr "]" } .
@@ -257,10 +318,20 @@ impl<'a> Parser<'a> {
     {
         let mut index = Vec::new(self.arena);
         'more: while let Some(_) = self.mark(Mark::OpenBracket) {
-            let at = self.expr()?;
-            let _close = self.expect(Mark::CloseBracket)?;
-            index.push(at)?;
+            self.add_index(&mut index)?;
         }
         Ok(into_bump_slice(index))
+    }
+
+    /// Adds an index, behind its bracket, to those that were read: expr "]" .
+    #[cycle(expr)]
+    pub fn add_index(&mut self, index: &mut Vec<Expr<'a>, &'a Bump>) -> Result<(), Stop>
+        ensures tree { OnOk result (Adds ClosesIndex self.old self.new index.old.items index.new.items) }
+        ensures reads { OnOk result (Same grammar [] (Non rules.Expr ∷ mark marks.CloseBracket ∷ []) self.old [] self.new) }
+        ensures stops { result ≡ Err Stop.Syntax → Stops grammar [] (Non rules.Expr ∷ mark marks.CloseBracket ∷ []) self.old self.new }
+    {
+        let at = self.expr()?;
+        let _close = self.expect(Mark::CloseBracket)?;
+        add(index, at)
     }
 }

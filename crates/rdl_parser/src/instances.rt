@@ -1,16 +1,17 @@
 //! Instances and parameters (SystemRDL 2.0, annex B).
 
 ghost use Rattle.std.specs.Prelude.{◌≡◌, Err, Some, true, List, [], ◌∷◌, IfOk, OnOk};
-ghost use Rattle.rb_grammar.specs.Forms.{Non, Opt, Many};
+ghost use Rattle.rb_grammar.specs.Forms.{Non, Opt, Many, ◌then◌};
 ghost use Rattle.rb_grammar.specs.Readings.{Same, Stops};
 ghost use Rattle.rdl_tree.specs.declared.token.Mark.TheVariants as marks;
 ghost use Rattle.rdl_tree.specs.declared.token.Token as token;
 ghost use Rattle.rdl_tree.specs.Grammar.{grammar, mark, behind};
 ghost use Rattle.rdl_tree.specs.Grammar as rules;
 ghost use Rattle.rdl_tree.specs.Tree.{IsMark, DerivesExpr, DerivesIndices, DerivesBehind, DerivesListed, DerivesHashed, DerivesArg, DerivesInst, DerivesInsts, DerivesType, DerivesParam, type_of};
-ghost use Rattle.rdl_parser.specs.Following.{after_indices, after_behind, after_inst, after_insts, after_hashed, after_type, shape, is_type, DerivesShapeOf};
+ghost use Rattle.rdl_parser.specs.Following.{Adds, after_args, after_params, after_indices, after_behind, after_inst, after_insts, after_hashed, after_type, shape, is_type, DerivesShapeOf};
 
-use crate::parser::{Parser, Sort};
+use crate::parser::{Parser, Sort, add};
+use bumpalo::Bump;
 use bumpalo::collections::into_bump_slice;
 use rb_base::Keyword;
 use rb_grammar::Stop;
@@ -57,11 +58,9 @@ impl<'a> Parser<'a> {
     {
         let _end = self.expect(Mark::CloseBracket)?;
         let mut dims = Vec::new(self.arena);
-        dims.push(first)?;
+        add(&mut dims, first)?;
         'more: while let Some(_) = self.mark(Mark::OpenBracket) {
-            let dim = self.expr()?;
-            let _close = self.expect(Mark::CloseBracket)?;
-            dims.push(dim)?;
+            self.add_index(&mut dims)?;
         }
         Ok(into_bump_slice(dims))
     }
@@ -121,13 +120,21 @@ impl<'a> Parser<'a> {
         ensures stops { result ≡ Err Stop.Syntax → Stops grammar after_insts (Non rules.InstList ∷ []) self.old self.new }
     {
         let mut list = Vec::new(self.arena);
-        let first = self.inst()?;
-        list.push(first)?;
+        self.add_inst(&mut list)?;
         'more: while let Some(_) = self.mark(Mark::Comma) {
-            let next = self.inst()?;
-            list.push(next)?;
+            self.add_inst(&mut list)?;
         }
         Ok(into_bump_slice(list))
+    }
+
+    // Adds an instance to those that were read.
+    fn add_inst(&mut self, list: &mut Vec<Inst<'a>, &'a Bump>) -> Result<(), Stop>
+        ensures tree { OnOk result (Adds DerivesInst self.old self.new list.old.items list.new.items) }
+        ensures reads { OnOk result (Same grammar after_inst (Non rules.Inst ∷ []) self.old [] self.new) }
+        ensures stops { result ≡ Err Stop.Syntax → Stops grammar after_inst (Non rules.Inst ∷ []) self.old self.new }
+    {
+        let inst = self.inst()?;
+        add(list, inst)
     }
 
     // arg = "." name "(" expr ")" .
@@ -154,15 +161,33 @@ impl<'a> Parser<'a> {
             return Ok(&[]);
         };
         let _open = self.expect(Mark::OpenParen)?;
-        let mut args = Vec::new(self.arena);
-        let first = self.arg()?;
-        args.push(first)?;
-        'more: while let Some(_) = self.mark(Mark::Comma) {
-            let next = self.arg()?;
-            args.push(next)?;
-        }
+        let args = self.arg_list()?;
         let _close = self.expect(Mark::CloseParen)?;
-        Ok(into_bump_slice(args))
+        Ok(args)
+    }
+
+    // arg { "," arg } .
+    fn arg_list(&mut self) -> Result<&'a [Arg<'a>], Stop>
+        ensures tree { IfOk result (λ xs. DerivesListed DerivesArg self.old self.new xs.now) }
+        ensures reads { OnOk result (Same grammar after_args (Non rules.Arg ∷ Many (mark marks.Comma then Non rules.Arg) ∷ []) self.old [] self.new) }
+        ensures stops { result ≡ Err Stop.Syntax → Stops grammar after_args (Non rules.Arg ∷ Many (mark marks.Comma then Non rules.Arg) ∷ []) self.old self.new }
+    {
+        let mut list = Vec::new(self.arena);
+        self.add_arg(&mut list)?;
+        'more: while let Some(_) = self.mark(Mark::Comma) {
+            self.add_arg(&mut list)?;
+        }
+        Ok(into_bump_slice(list))
+    }
+
+    // Adds an argument to those that were read.
+    fn add_arg(&mut self, list: &mut Vec<Arg<'a>, &'a Bump>) -> Result<(), Stop>
+        ensures tree { OnOk result (Adds DerivesArg self.old self.new list.old.items list.new.items) }
+        ensures reads { OnOk result (Same grammar [] (Non rules.Arg ∷ []) self.old [] self.new) }
+        ensures stops { result ≡ Err Stop.Syntax → Stops grammar [] (Non rules.Arg ∷ []) self.old self.new }
+    {
+        let arg = self.arg()?;
+        add(list, arg)
     }
 
     /// insts = [ args ] instlist .
@@ -221,14 +246,32 @@ impl<'a> Parser<'a> {
             return Ok(&[]);
         };
         let _open = self.expect(Mark::OpenParen)?;
-        let mut params = Vec::new(self.arena);
-        let first = self.param()?;
-        params.push(first)?;
-        'more: while let Some(_) = self.mark(Mark::Comma) {
-            let next = self.param()?;
-            params.push(next)?;
-        }
+        let params = self.param_list()?;
         let _close = self.expect(Mark::CloseParen)?;
-        Ok(into_bump_slice(params))
+        Ok(params)
+    }
+
+    // param { "," param } .
+    fn param_list(&mut self) -> Result<&'a [Param<'a>], Stop>
+        ensures tree { IfOk result (λ xs. DerivesListed DerivesParam self.old self.new xs.now) }
+        ensures reads { OnOk result (Same grammar after_params (Non rules.Param ∷ Many (mark marks.Comma then Non rules.Param) ∷ []) self.old [] self.new) }
+        ensures stops { result ≡ Err Stop.Syntax → Stops grammar after_params (Non rules.Param ∷ Many (mark marks.Comma then Non rules.Param) ∷ []) self.old self.new }
+    {
+        let mut list = Vec::new(self.arena);
+        self.add_param(&mut list)?;
+        'more: while let Some(_) = self.mark(Mark::Comma) {
+            self.add_param(&mut list)?;
+        }
+        Ok(into_bump_slice(list))
+    }
+
+    // Adds a parameter to those that were read.
+    fn add_param(&mut self, list: &mut Vec<Param<'a>, &'a Bump>) -> Result<(), Stop>
+        ensures tree { OnOk result (Adds DerivesParam self.old self.new list.old.items list.new.items) }
+        ensures reads { OnOk result (Same grammar (after_behind marks.Equals) (Non rules.Param ∷ []) self.old [] self.new) }
+        ensures stops { result ≡ Err Stop.Syntax → Stops grammar (after_behind marks.Equals) (Non rules.Param ∷ []) self.old self.new }
+    {
+        let param = self.param()?;
+        add(list, param)
     }
 }

@@ -1,6 +1,6 @@
 //! The tokens that are left to a parser, and what every rule takes of them.
 
-ghost use Rattle.std.specs.Prelude.{◌≡◌, MatchOption, IfOk, OnErr, List};
+ghost use Rattle.std.specs.Prelude.{◌≡◌, ◌++◌, ◌∷◌, [], MatchOption, IfOk, IfErr, OnOk, OnErr, List};
 ghost use Rattle.rb_grammar.specs.Readings.{Takes, Misses};
 ghost use Rattle.rdl_tree.specs.Grammar.{grammar};
 ghost use Rattle.rdl_tree.specs.Tree.{IsMark, IsWord, IsName, IsNameOf};
@@ -110,6 +110,15 @@ impl<'a> Model for Parser<'a> {
     ghost Value = { List Token };
 
     ghost view = { λ p. p.rest.now };
+}
+
+/// Adds one more to a list in the arena.
+pub fn add<T: Drop>(list: &mut Vec<T, &Bump>, one: T) -> Result<(), Stop>
+    ensures items { OnOk result (list.new.items ≡ list.old.items ++ (one ∷ [])) }
+    ensures memory { IfErr result (λ stop. stop ≡ Stop.NoMemory) }
+{
+    list.push(one)?;
+    Ok(())
 }
 
 impl<'a> Parser<'a> {

@@ -9,9 +9,10 @@ ghost use Rattle.rdl_tree.specs.declared.token.Token as token;
 ghost use Rattle.rdl_tree.specs.Grammar.{grammar, mark};
 ghost use Rattle.rdl_tree.specs.Grammar as rules;
 ghost use Rattle.rdl_tree.specs.Tree.{IsWord, StartsAt, DerivesGiven, DerivesAssigned, DerivesLocal, DerivesSet, DerivesSets, DerivesEntry, DerivesItem, edge_of};
-ghost use Rattle.rdl_parser.specs.Following.{after_expr, after_behind, after_sets, assigned, sets, rest_of_enum, is_edge, Sets, DerivesEntries};
+ghost use Rattle.rdl_parser.specs.Following.{Adds, after_expr, after_behind, after_sets, assigned, sets, rest_of_enum, is_edge, Sets, DerivesEntries};
 
-use crate::parser::{Parser, Sort};
+use crate::parser::{Parser, Sort, add};
+use bumpalo::Bump;
 use bumpalo::collections::into_bump_slice;
 use rb_base::{Edge, Keyword, Place};
 use rb_grammar::Stop;
@@ -94,8 +95,7 @@ impl<'a> Parser<'a> {
             });
         }
         let prop = self.prop()?;
-        let set = self.set_from(prop, place)?;
-        Ok(set)
+        self.set_from(prop, place)
     }
 
     // The place of the next token.
@@ -116,8 +116,7 @@ impl<'a> Parser<'a> {
         let Some(place) = self.place() else {
             return Err(Stop::Syntax);
         };
-        let set = self.local(place)?;
-        Ok(set)
+        self.local(place)
     }
 
     // [ "{" { local } "}" ] .
@@ -134,9 +133,19 @@ impl<'a> Parser<'a> {
             if let Some(_) = self.mark(Mark::CloseBrace) {
                 return Ok(into_bump_slice(sets));
             }
-            let set = self.set()?;
-            sets.push(set)?;
+            self.add_set(&mut sets)?;
         }
+    }
+
+    // Adds an assignment to those that were read.
+    fn add_set(&mut self, sets: &mut Vec<Set<'a>, &'a Bump>) -> Result<(), Stop>
+        ensures tree { OnOk result (Adds DerivesSet self.old self.new sets.old.items sets.new.items) }
+        ensures shorter { OnOk result (length self.new < length self.old) }
+        ensures reads { OnOk result (Same grammar [] (Non rules.Local ∷ []) self.old [] self.new) }
+        ensures stops { result ≡ Err Stop.Syntax → Stops grammar [] (Non rules.Local ∷ []) self.old self.new }
+    {
+        let set = self.set()?;
+        add(sets, set)
     }
 
     // entry = name [ "=" expr ] [ "{" { local } "}" ] ";" .
@@ -179,8 +188,18 @@ impl<'a> Parser<'a> {
                 let _end = self.expect(Mark::Semicolon)?;
                 return Ok(into_bump_slice(entries));
             }
-            let entry = self.entry()?;
-            entries.push(entry)?;
+            self.add_entry(&mut entries)?;
         }
+    }
+
+    // Adds an entry to those that were read.
+    fn add_entry(&mut self, entries: &mut Vec<Entry<'a>, &'a Bump>) -> Result<(), Stop>
+        ensures tree { OnOk result (Adds DerivesEntry self.old self.new entries.old.items entries.new.items) }
+        ensures shorter { OnOk result (length self.new < length self.old) }
+        ensures reads { OnOk result (Same grammar [] (Non rules.Entry ∷ []) self.old [] self.new) }
+        ensures stops { result ≡ Err Stop.Syntax → Stops grammar [] (Non rules.Entry ∷ []) self.old self.new }
+    {
+        let entry = self.entry()?;
+        add(entries, entry)
     }
 }

@@ -1,6 +1,6 @@
 //! A whole source: its tokens, its tree, and why it has none.
 
-ghost use Rattle.std.specs.Prelude.{◌≡◌, ◌≢◌, ◌-◌, ◌^◌, ◌<◌, ℕ, List, [], length, drop, IfOk, IfErr};
+ghost use Rattle.std.specs.Prelude.{◌≡◌, ◌≢◌, ◌-◌, ◌^◌, ◌<◌, ℕ, List, [], length, drop, IfOk, IfErr, OnOk};
 ghost use Rattle.rdl_tree.specs.Tree.{DerivesItems};
 ghost use Rattle.rdl_parser.specs.Depth.{StaysWithin, IsFirstTooDeep};
 ghost use Rattle.rdl_parser.specs.Verdicts.{SpellsTokens, place_of, mark_rule, word_rule, rule_of, Reads, IsAccepted, HasError};
@@ -151,6 +151,30 @@ fn read_cut<'a>(arena: &'a Bump, tokens: &'a [Token<'a>], deep: usize, end: Plac
     }
 }
 
+// The items of tokens, or their error.
+fn items<'a>(
+    arena: &'a Bump,
+    tokens: &'a [Token<'a>],
+    end: Place,
+) -> Result<&'a [Item<'a>], ParseError>
+    ensures tree { IfOk result (λ is. DerivesItems tokens.now [] is.now) }
+    ensures within { OnOk result (StaysWithin tokens.now) }
+    ensures error { IfErr result (IsJudged tokens.now end) }
+{
+    match first_too_deep(arena, tokens)? {
+        None => read_all(arena, tokens, end),
+        Some(deep) => Err(read_cut(arena, tokens, deep, end)),
+    }
+}
+
+// A source with these items, in the arena.
+fn source<'a>(arena: &'a Bump, items: &'a [Item<'a>]) -> Result<&'a Source<'a>, ParseError>
+    ensures is { IfOk result (λ s. s.now.items.now ≡ items.now) }
+    ensures error { IfErr result (λ e. e ≡ ParseError.NoMemory) }
+{
+    Ok(arena.try_alloc(Source { items })?)
+}
+
 // The tree of a source, or its error.
 fn tree<'a>(arena: &'a Bump, src: &'a [u8]) -> Result<&'a Source<'a>, ParseError>
     requires { length src.now < 2 ^ 32 - 1 }
@@ -158,13 +182,8 @@ fn tree<'a>(arena: &'a Bump, src: &'a [u8]) -> Result<&'a Source<'a>, ParseError
     ensures error { IfErr result (λ e. e ≢ ParseError.NoMemory → HasError src.now e) }
 {
     let tokens = tokens(arena, src)?;
-    let end = Place(src.len() as u32);
-    let items = match first_too_deep(arena, tokens)? {
-        None => read_all(arena, tokens, end)?,
-        Some(deep) => return Err(read_cut(arena, tokens, deep, end)),
-    };
-    let source = arena.try_alloc(Source { items })?;
-    Ok(source)
+    let items = items(arena, tokens, Place(src.len() as u32))?;
+    source(arena, items)
 }
 
 /// The tree of a source of fewer than 2^32 - 1 bytes (SystemRDL 2.0, annex B), in the arena. Its names are slices of the

@@ -11,29 +11,41 @@ use Rattle.rdl_tree.specs.Tree.{IsName, DerivesBinary, DerivesPath, DerivesSteps
 use Rattle.rdl_parser.specs.Following.{after_indices, after_path, after_binary, operands, more_steps, IsLooser}
 use Rattle.rdl_parser.proofs.parser.Parser.+expr.Given as goal
 
+abbrev pub decreases-add_index : goal.decreases-add_index
+decreases-add_index l = length l.self.now * 16 + 9
+
+abbrev pub decreases-bracketed : goal.decreases-bracketed
+decreases-bracketed l = length l.self.now * 16 + 9
+
+abbrev pub decreases-choice : goal.decreases-choice
+decreases-choice l = length l.self.now * 16 + 8
+
 abbrev pub decreases-expr : goal.decreases-expr
-decreases-expr l = length l.self.now * 8 + 7
+decreases-expr l = length l.self.now * 16 + 8
 
 abbrev pub decreases-binary : goal.decreases-binary
-decreases-binary l = length l.self.now * 8 + 6
+decreases-binary l = length l.self.now * 16 + 7
 
 abbrev pub decreases-joined : goal.decreases-joined
-decreases-joined l = length l.self.now * 8 + 5
+decreases-joined l = length l.self.now * 16 + 6
 
 abbrev pub decreases-prefix : goal.decreases-prefix
-decreases-prefix l = length l.self.now * 8 + 4
+decreases-prefix l = length l.self.now * 16 + 5
 
 abbrev pub decreases-primary : goal.decreases-primary
-decreases-primary l = length l.self.now * 8 + 3
+decreases-primary l = length l.self.now * 16 + 4
 
 abbrev pub decreases-named : goal.decreases-named
-decreases-named l = length l.self.now * 8 + 2
+decreases-named l = length l.self.now * 16 + 3
 
 abbrev pub decreases-path_from : goal.decreases-path_from
-decreases-path_from l = length l.self.now * 8 + 1
+decreases-path_from l = length l.self.now * 16 + 2
+
+abbrev pub decreases-add_step : goal.decreases-add_step
+decreases-add_step l = length l.self.now * 16 + 1
 
 abbrev pub decreases-indices : goal.decreases-indices
-decreases-indices l = length l.self.now * 8
+decreases-indices l = length l.self.now * 16
 
 abbrev pub invariant-indices-more : goal.invariant-indices-more
 invariant-indices-more l = record {

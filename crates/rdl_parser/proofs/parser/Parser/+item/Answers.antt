@@ -1,15 +1,17 @@
-use Rattle.std.proofs.Common.{[], ◌∷◌, refl, ap, sym, length, arith, Err, append-nil, append_assoc}
+use Rattle.std.proofs.Common.{[], ◌∷◌, refl, ap, sym, ◌∙◌, length, arith, Err, append-nil, append_assoc}
 use Rattle.rb_grammar.proofs.Following.{◌⟫◌, ◌⟫|◌}
 use Rattle.rb_grammar.proofs.Barring.{Without}
 use Rattle.rb_grammar.proofs.Steps.{entering, staying, opening, taking, missing, calling, calling_stops, halting, passed}
 use Rattle.rdl_tree.specs.declared.token.Terminal.TheVariants as terminals
 use Rattle.rdl_tree.specs.Tree as tree
 use Rattle.rdl_parser.proofs.Firsts.{right}
-use Rattle.rdl_parser.proofs.Factoring.{reading, reading_stops}
+use Rattle.rb_grammar.proofs.Factoring.{reading, reading_stops}
+use Rattle.rb_grammar.proofs.Returning.{then_reads, then_shorter, in_any_case, no_syntax}
 use Rattle.rb_base.specs.declared.keyword.Keyword.TheVariants as words
 use Rattle.rdl_parser.specs.Following.{kinds}
 use Rattle.rdl_parser.proofs.Words.{no_kind}
-use Rattle.rdl_parser.proofs.Items.{moved, internal_step, kind_step, inner_kind_step, named_tree, bare_tree}
+use Rattle.rdl_parser.proofs.Phrases.{adding}
+use Rattle.rdl_parser.proofs.Items.{moved, moved_item, internal_step, kind_step, inner_kind_step, named_tree, bare_tree}
 use Rattle.rdl_parser.proofs.parser.Parser.+item.Goals as goal
 
 pub named_def-returns-in_err-params-clause-stops : goal.named_def-returns-in_err-params-clause-stops
@@ -42,23 +44,29 @@ bare_def-returns-clause-tree t c = λ k u ts us s e i at. bare_tree _ _ _ _ _ s 
 pub bare_def-returns-clause-reads : goal.bare_def-returns-clause-reads
 bare_def-returns-clause-reads t c = calling right c.in_ok-items.ensures.reads refl ⟫ reading right _ c.skip_internal.ensures.reads refl ⟫ calling right c.in_ok-list.ensures.reads refl ⟫ taking right c.in_ok-_end.ensures.ok refl
 
-pub def-returns-in_err-named-clause-stops : goal.def-returns-in_err-named-clause-stops
-def-returns-in_err-named-clause-stops t c = λ h. taking right c.in-Some.ensures.1 refl ⟫| c.in_err-named.ensures.stops (ap Err (passed _ _ c.from_residual.ensures.1 h))
+pub def-returns-in_default-clause-tree : goal.def-returns-in_default-clause-tree
+def-returns-in_default-clause-tree t c = λ k u ts us s e i at. c.bare_def.ensures.tree k u ts us s e (rw c.in_default.ensures.list i) at
 
-pub def-returns-in-Some-clause-tree : goal.def-returns-in-Some-clause-tree
-def-returns-in-Some-clause-tree t c = λ k u ts us s e i at. c.in_ok-named.ensures.tree k u ts us _ s e i c.in-Some.ensures
+pub def-returns-in_default-clause-shorter : goal.def-returns-in_default-clause-shorter
+def-returns-in_default-clause-shorter t c = then_shorter _ _ _ _ (omega (arith, ap length c.in_default.ensures.list)) c.bare_def.ensures.shorter
 
-pub def-returns-in-Some-clause-reads : goal.def-returns-in-Some-clause-reads
-def-returns-in-Some-clause-reads t c = taking right c.in-Some.ensures.1 refl ⟫ c.in_ok-named.ensures.reads
+pub def-returns-in_default-clause-reads : goal.def-returns-in_default-clause-reads
+def-returns-in_default-clause-reads t c = then_reads _ _ (missing right c.in_default.ensures refl) c.bare_def.ensures.reads
 
-pub def-returns-in_err-bare-clause-stops : goal.def-returns-in_err-bare-clause-stops
-def-returns-in_err-bare-clause-stops t c = λ h. missing right c.in_default.ensures refl ⟫| c.in_err-bare.ensures.stops (ap Err (passed _ _ c.from_residual-in_err-bare.ensures.1 h))
+pub def-returns-in_default-clause-stops : goal.def-returns-in_default-clause-stops
+def-returns-in_default-clause-stops t c = λ h. missing right c.in_default.ensures refl ⟫| c.bare_def.ensures.stops h
 
 pub def-returns-clause-tree : goal.def-returns-clause-tree
-def-returns-clause-tree t c = λ k u ts us s e i at. c.in_ok-bare.ensures.tree k u ts us s e (rw c.in_default.ensures.list i) at
+def-returns-clause-tree t c = λ k u ts us s e i at. c.named_def.ensures.tree k u ts us _ s e i c.in-Some.ensures
+
+pub def-returns-clause-shorter : goal.def-returns-clause-shorter
+def-returns-clause-shorter t c = then_shorter _ _ _ _ (omega (arith, ap length c.in-Some.ensures.1.list)) c.named_def.ensures.shorter
 
 pub def-returns-clause-reads : goal.def-returns-clause-reads
-def-returns-clause-reads t c = missing right c.in_default.ensures refl ⟫ c.in_ok-bare.ensures.reads
+def-returns-clause-reads t c = then_reads _ _ (taking right c.in-Some.ensures.1 refl) c.named_def.ensures.reads
+
+pub def-returns-clause-stops : goal.def-returns-clause-stops
+def-returns-clause-stops t c = λ h. taking right c.in-Some.ensures.1 refl ⟫| c.named_def.ensures.stops h
 
 pub body-returns-in_err-_open-clause-stops : goal.body-returns-in_err-_open-clause-stops
 body-returns-in_err-_open-clause-stops t c = λ h. entering ⟫| halting right c.in_err-_open.ensures.err refl
@@ -76,57 +84,87 @@ body-returns-in-Some-clause-tree t c = rw c.into_bump_slice.ensures (rw append-n
 pub body-returns-in-Some-clause-reads : goal.body-returns-in-Some-clause-reads
 body-returns-in-Some-clause-reads t c = c.more.invariant.reads ⟫ taking right c.in-Some.ensures refl
 
-pub body-returns-in_err-item-clause-stops : goal.body-returns-in_err-item-clause-stops
-body-returns-in_err-item-clause-stops t c = λ h. c.more.invariant.reads ⟫ missing right c.in_default.ensures refl ⟫| calling_stops right (c.in_err-item.ensures.stops (ap Err (passed _ _ c.from_residual-in_err-item.ensures.1 h))) refl
+pub body-returns-in_err-add_item-clause-stops : goal.body-returns-in_err-add_item-clause-stops
+body-returns-in_err-add_item-clause-stops t c = λ h. c.more.invariant.reads ⟫ missing right c.in_default.ensures refl ⟫| calling_stops right (c.in_err-add_item.ensures.stops (ap Err (passed _ _ c.from_residual-in_err-add_item.ensures.1 h))) refl
 
 pub body-more-preserved : goal.body-more-preserved
-body-more-preserved t c = record {
-  tree = λ us vs u is d i. rw (c.in_ok-push.ensures.items, append_assoc) (c.more.invariant.tree us vs u (c.in_ok-item.item ∷ is) (tree.next_item (rw c.in_default.ensures.list at c.in_ok-item.ensures.tree) d) i);
-  reads = c.more.invariant.reads ⟫ missing right c.in_default.ensures refl ⟫ calling right c.in_ok-item.ensures.reads refl;
-  shorter = omega (arith, ap length c.in_default.ensures.list, c.in_ok-item.ensures.shorter, c.more.invariant.shorter);
+body-more-preserved t c = let a = c.in_ok-add_item.ensures.tree in record {
+  tree = λ us vs u is d i. rw (a.list, append_assoc) (c.more.invariant.tree us vs u (a.one ∷ is) (tree.next_item (rw c.in_default.ensures.list at a.derives) d) i);
+  reads = c.more.invariant.reads ⟫ missing right c.in_default.ensures refl ⟫ calling right c.in_ok-add_item.ensures.reads refl;
+  shorter = omega (arith, ap length c.in_default.ensures.list, c.in_ok-add_item.ensures.shorter, c.more.invariant.shorter);
 }
 
-pub item-returns-in_err-item-clause-stops : goal.item-returns-in_err-item-clause-stops
-item-returns-in_err-item-clause-stops t c = λ h. internal_step c.in-Some.ensures ⟫| c.in_err-item.ensures.stops (ap Err (passed _ _ c.from_residual.ensures.1 h))
+pub add_item-returns-in_err-item-clause-stops : goal.add_item-returns-in_err-item-clause-stops
+add_item-returns-in_err-item-clause-stops t c = λ h. c.in_err-item.ensures.stops (ap Err (passed _ _ c.from_residual.ensures.1 h))
+
+pub add_item-returns-clause-tree : goal.add_item-returns-clause-tree
+add_item-returns-clause-tree t c = adding _ _ _ _ c.in_ok-item.ensures.tree c.add.ensures.items
+
+pub add_item-returns-clause-shorter : goal.add_item-returns-clause-shorter
+add_item-returns-clause-shorter t c = in_any_case _ c.in_ok-item.ensures.shorter
+
+pub add_item-returns-clause-reads : goal.add_item-returns-clause-reads
+add_item-returns-clause-reads t c = in_any_case _ c.in_ok-item.ensures.reads
+
+pub add_item-returns-clause-stops : goal.add_item-returns-clause-stops
+add_item-returns-clause-stops t c = λ h. absurd (no_syntax _ c.add.ensures.memory h)
 
 pub item-returns-in-Some-clause-tree : goal.item-returns-in-Some-clause-tree
-item-returns-in-Some-clause-tree t c = c.in_ok-item.ensures.tree _ _ c.in-Some.ensures
+item-returns-in-Some-clause-tree t c = c.internal_item.ensures.tree _ _ c.in-Some.ensures
+
+pub item-returns-in-Some-clause-shorter : goal.item-returns-in-Some-clause-shorter
+item-returns-in-Some-clause-shorter t c = then_shorter _ _ _ _ (omega (arith, ap length c.in-Some.ensures.list)) c.internal_item.ensures.shorter
 
 pub item-returns-in-Some-clause-reads : goal.item-returns-in-Some-clause-reads
-item-returns-in-Some-clause-reads t c = internal_step c.in-Some.ensures ⟫ c.in_ok-item.ensures.reads
+item-returns-in-Some-clause-reads t c = then_reads _ _ (internal_step c.in-Some.ensures) c.internal_item.ensures.reads
 
-pub item-returns-in_err-def-clause-stops : goal.item-returns-in_err-def-clause-stops
-item-returns-in_err-def-clause-stops t c = λ h. staying c.in_default.ensures.list ⟫ kind_step _ c.in-Some-word_of.ensures.of_sort c.in-Some-word_of.ensures.stands ⟫| c.in_err-def.ensures.stops (ap Err (passed _ _ c.from_residual-in_err-def.ensures.1 h))
+pub item-returns-in-Some-clause-stops : goal.item-returns-in-Some-clause-stops
+item-returns-in-Some-clause-stops t c = λ h. internal_step c.in-Some.ensures ⟫| c.internal_item.ensures.stops h
 
-pub item-returns-in-Some-word_of-clause-tree : goal.item-returns-in-Some-word_of-clause-tree
-item-returns-in-Some-word_of-clause-tree t c = rw (← c.in_default.ensures.list) (tree.component (c.in_ok-def.ensures.tree _ _ _ _ tree.none c.kind_of.ensures c.in-Some-word_of.ensures.stands refl))
+pub item-returns-in_default-word_of-clause-tree : goal.item-returns-in_default-word_of-clause-tree
+item-returns-in_default-word_of-clause-tree t c = moved_item _ _ (c.in_default-word_of.ensures.list ∙ c.in_default.ensures.list) c.simple_item.ensures.tree
 
-pub item-returns-in-Some-word_of-clause-reads : goal.item-returns-in-Some-word_of-clause-reads
-item-returns-in-Some-word_of-clause-reads t c = staying c.in_default.ensures.list ⟫ kind_step _ c.in-Some-word_of.ensures.of_sort c.in-Some-word_of.ensures.stands ⟫ c.in_ok-def.ensures.reads
+pub item-returns-in_default-word_of-clause-shorter : goal.item-returns-in_default-word_of-clause-shorter
+item-returns-in_default-word_of-clause-shorter t c = then_shorter _ _ _ _ (omega (arith, ap length c.in_default.ensures.list, ap length c.in_default-word_of.ensures.list)) c.simple_item.ensures.shorter
 
-pub item-returns-in_err-item-2-clause-stops : goal.item-returns-in_err-item-2-clause-stops
-item-returns-in_err-item-2-clause-stops t c = λ h. entering ⟫ staying c.in_default.ensures.list ⟫ opening right (Without (terminals.Reserved words.Internal ∷ kinds)) refl (moved (terminals.Reserved words.Internal) (sym c.in_default.ensures.list) c.in_default.ensures.token, no_kind c.in_default-word_of.ensures) ⟫ staying c.in_default-word_of.ensures.list ⟫| c.in_err-item-2.ensures.stops (ap Err (passed _ _ c.from_residual-in_err-item-2.ensures.1 h))
+pub item-returns-in_default-word_of-clause-reads : goal.item-returns-in_default-word_of-clause-reads
+item-returns-in_default-word_of-clause-reads t c = then_reads _ _ (entering ⟫ staying c.in_default.ensures.list ⟫ opening right (Without (terminals.Reserved words.Internal ∷ kinds)) refl (moved (terminals.Reserved words.Internal) (sym c.in_default.ensures.list) c.in_default.ensures.token, no_kind c.in_default-word_of.ensures) ⟫ staying c.in_default-word_of.ensures.list) c.simple_item.ensures.reads
+
+pub item-returns-in_default-word_of-clause-stops : goal.item-returns-in_default-word_of-clause-stops
+item-returns-in_default-word_of-clause-stops t c = λ h. entering ⟫ staying c.in_default.ensures.list ⟫ opening right (Without (terminals.Reserved words.Internal ∷ kinds)) refl (moved (terminals.Reserved words.Internal) (sym c.in_default.ensures.list) c.in_default.ensures.token, no_kind c.in_default-word_of.ensures) ⟫ staying c.in_default-word_of.ensures.list ⟫| c.simple_item.ensures.stops h
 
 pub item-returns-clause-tree : goal.item-returns-clause-tree
-item-returns-clause-tree t c = rw (← c.in_default.ensures.list, ← c.in_default-word_of.ensures.list) c.in_ok-item-2.ensures.tree
+item-returns-clause-tree t c = c.def.ensures.tree _ _ _ _ tree.none c.kind_of.ensures (rw c.in_default.ensures.list at c.in-Some-word_of.ensures.stands) refl
+
+pub item-returns-clause-shorter : goal.item-returns-clause-shorter
+item-returns-clause-shorter t c = then_shorter _ _ _ _ (omega (arith, ap length c.in_default.ensures.list, ap length c.in-Some-word_of.ensures.stands.list)) c.def.ensures.shorter
 
 pub item-returns-clause-reads : goal.item-returns-clause-reads
-item-returns-clause-reads t c = entering ⟫ staying c.in_default.ensures.list ⟫ opening right (Without (terminals.Reserved words.Internal ∷ kinds)) refl (moved (terminals.Reserved words.Internal) (sym c.in_default.ensures.list) c.in_default.ensures.token, no_kind c.in_default-word_of.ensures) ⟫ staying c.in_default-word_of.ensures.list ⟫ c.in_ok-item-2.ensures.reads
+item-returns-clause-reads t c = then_reads _ _ (staying c.in_default.ensures.list ⟫ kind_step _ c.in-Some-word_of.ensures.of_sort c.in-Some-word_of.ensures.stands) c.def.ensures.reads
 
-pub internal_item-returns-in_err-def-clause-stops : goal.internal_item-returns-in_err-def-clause-stops
-internal_item-returns-in_err-def-clause-stops t c = λ h. inner_kind_step _ c.in-Some.ensures.of_sort c.in-Some.ensures.stands ⟫| c.in_err-def.ensures.stops (ap Err (passed _ _ c.from_residual.ensures.1 h))
+pub item-returns-clause-stops : goal.item-returns-clause-stops
+item-returns-clause-stops t c = λ h. staying c.in_default.ensures.list ⟫ kind_step _ c.in-Some-word_of.ensures.of_sort c.in-Some-word_of.ensures.stands ⟫| c.def.ensures.stops h
 
-pub internal_item-returns-in-Some-clause-tree : goal.internal_item-returns-in-Some-clause-tree
-internal_item-returns-in-Some-clause-tree t c = λ u ts i. tree.component (c.in_ok-def.ensures.tree _ _ _ _ (tree.some i) c.kind_of.ensures c.in-Some.ensures.stands refl)
+pub internal_item-returns-in_default-clause-tree : goal.internal_item-returns-in_default-clause-tree
+internal_item-returns-in_default-clause-tree t c = λ u ts i. c.made.ensures.tree ts (rw c.in_default.ensures.list (tree.some i))
 
-pub internal_item-returns-in-Some-clause-reads : goal.internal_item-returns-in-Some-clause-reads
-internal_item-returns-in-Some-clause-reads t c = inner_kind_step _ c.in-Some.ensures.of_sort c.in-Some.ensures.stands ⟫ c.in_ok-def.ensures.reads
+pub internal_item-returns-in_default-clause-shorter : goal.internal_item-returns-in_default-clause-shorter
+internal_item-returns-in_default-clause-shorter t c = then_shorter _ _ _ _ (omega (arith, ap length c.in_default.ensures.list)) c.made.ensures.shorter
 
-pub internal_item-returns-in_err-made-clause-stops : goal.internal_item-returns-in_err-made-clause-stops
-internal_item-returns-in_err-made-clause-stops t c = λ h. opening right (Without kinds) refl (no_kind c.in_default.ensures) ⟫ staying c.in_default.ensures.list ⟫| c.in_err-made.ensures.stops (ap Err (passed _ _ c.from_residual-in_err-made.ensures.1 h))
+pub internal_item-returns-in_default-clause-reads : goal.internal_item-returns-in_default-clause-reads
+internal_item-returns-in_default-clause-reads t c = then_reads _ _ (opening right (Without kinds) refl (no_kind c.in_default.ensures) ⟫ staying c.in_default.ensures.list) c.made.ensures.reads
+
+pub internal_item-returns-in_default-clause-stops : goal.internal_item-returns-in_default-clause-stops
+internal_item-returns-in_default-clause-stops t c = λ h. opening right (Without kinds) refl (no_kind c.in_default.ensures) ⟫ staying c.in_default.ensures.list ⟫| c.made.ensures.stops h
 
 pub internal_item-returns-clause-tree : goal.internal_item-returns-clause-tree
-internal_item-returns-clause-tree t c = λ u ts i. c.in_ok-made.ensures.tree ts (rw c.in_default.ensures.list (tree.some i))
+internal_item-returns-clause-tree t c = λ u ts i. c.def.ensures.tree _ _ _ _ (tree.some i) c.kind_of.ensures c.in-Some.ensures.stands refl
+
+pub internal_item-returns-clause-shorter : goal.internal_item-returns-clause-shorter
+internal_item-returns-clause-shorter t c = then_shorter _ _ _ _ (omega (arith, ap length c.in-Some.ensures.stands.list)) c.def.ensures.shorter
 
 pub internal_item-returns-clause-reads : goal.internal_item-returns-clause-reads
-internal_item-returns-clause-reads t c = opening right (Without kinds) refl (no_kind c.in_default.ensures) ⟫ staying c.in_default.ensures.list ⟫ c.in_ok-made.ensures.reads
+internal_item-returns-clause-reads t c = then_reads _ _ (inner_kind_step _ c.in-Some.ensures.of_sort c.in-Some.ensures.stands) c.def.ensures.reads
+
+pub internal_item-returns-clause-stops : goal.internal_item-returns-clause-stops
+internal_item-returns-clause-stops t c = λ h. inner_kind_step _ c.in-Some.ensures.of_sort c.in-Some.ensures.stands ⟫| c.def.ensures.stops h

@@ -9,6 +9,9 @@ use Rattle.rdl_tree.specs.Grammar as rules
 use Rattle.rdl_tree.specs.Tree.{IsMark, DerivesBody, DerivesItems}
 use Rattle.rdl_parser.proofs.parser.Parser.+item.Given as goal
 
+abbrev pub decreases-add_item : goal.decreases-add_item
+decreases-add_item l = length l.self.now * 8 + 6
+
 abbrev pub decreases-item : goal.decreases-item
 decreases-item l = length l.self.now * 8 + 5
 

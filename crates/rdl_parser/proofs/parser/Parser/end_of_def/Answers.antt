@@ -3,7 +3,7 @@ use Rattle.rb_grammar.proofs.Following.{◌⟫◌, ◌⟫|◌}
 use Rattle.rb_grammar.proofs.Steps.{taking, missing, calling, calling_stops, halting, passed}
 use Rattle.rdl_tree.specs.Tree as tree
 use Rattle.rdl_parser.proofs.Firsts.{right}
-use Rattle.rdl_parser.proofs.Factoring.{reading}
+use Rattle.rb_grammar.proofs.Factoring.{reading}
 use Rattle.rdl_parser.proofs.parser.Parser.end_of_def.Goals as goal
 
 pub returns-in-Some-clause-tree : goal.returns-in-Some-clause-tree

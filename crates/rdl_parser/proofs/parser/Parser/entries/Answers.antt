@@ -28,11 +28,11 @@ returns-in-Some-clause-tree c = record {
 pub returns-in-Some-clause-reads : goal.returns-in-Some-clause-reads
 returns-in-Some-clause-reads c = c.more.invariant.reads ⟫ taking right c.in-Some.ensures refl ⟫ taking right c.in_ok-_end.ensures.ok refl
 
-pub returns-in_err-entry-clause-stops : goal.returns-in_err-entry-clause-stops
-returns-in_err-entry-clause-stops c = λ h. c.more.invariant.reads ⟫ missing right c.in_default.ensures refl ⟫| calling_stops right (c.in_err-entry.ensures.stops (ap Err (passed _ _ c.from_residual-in_err-entry.ensures.1 h))) refl
+pub returns-in_err-add_entry-clause-stops : goal.returns-in_err-add_entry-clause-stops
+returns-in_err-add_entry-clause-stops c = λ h. c.more.invariant.reads ⟫ missing right c.in_default.ensures refl ⟫| calling_stops right (c.in_err-add_entry.ensures.stops (ap Err (passed _ _ c.from_residual-in_err-add_entry.ensures.1 h))) refl
 
 pub more-preserved : goal.more-preserved
-more-preserved c = record {
-  tree = λ us es d. rw (c.in_ok-push.ensures.items, append_assoc) (c.more.invariant.tree us (c.in_ok-entry.entry ∷ es) (tree.one_more (rw c.in_default.ensures.list at c.in_ok-entry.ensures.tree) d));
-  reads = c.more.invariant.reads ⟫ missing right c.in_default.ensures refl ⟫ calling right c.in_ok-entry.ensures.reads refl;
+more-preserved c = let a = c.in_ok-add_entry.ensures.tree in record {
+  tree = λ us es d. rw (a.list, append_assoc) (c.more.invariant.tree us (a.one ∷ es) (tree.one_more (rw c.in_default.ensures.list at a.derives) d));
+  reads = c.more.invariant.reads ⟫ missing right c.in_default.ensures refl ⟫ calling right c.in_ok-add_entry.ensures.reads refl;
 }

@@ -3,7 +3,7 @@ use Rattle.rb_grammar.proofs.Following.{◌⟫◌, ◌⟫|◌}
 use Rattle.rb_grammar.proofs.Steps.{entering, taking, halting, passed}
 use Rattle.rdl_tree.specs.Tree as tree
 use Rattle.rdl_parser.proofs.Firsts.{right}
-use Rattle.rdl_parser.proofs.Factoring.{reading, reading_stops}
+use Rattle.rb_grammar.proofs.Factoring.{reading, reading_stops}
 use Rattle.rdl_parser.proofs.parser.Parser.inst.Goals as goal
 
 pub returns-in_err-name-clause-stops : goal.returns-in_err-name-clause-stops

@@ -5,22 +5,22 @@ use Rattle.rdl_parser.proofs.Firsts.{right}
 use Rattle.rdl_parser.proofs.Lists.{no_more, more, listed_from}
 use Rattle.rdl_parser.proofs.parser.Parser.inst_list.Goals as goal
 
-pub returns-in_err-first-clause-stops : goal.returns-in_err-first-clause-stops
-returns-in_err-first-clause-stops c = λ h. entering ⟫| calling_stops right (c.in_err-first.ensures.stops (ap Err (passed _ _ c.from_residual.ensures.1 h))) refl
+pub returns-in_err-add_inst-clause-stops : goal.returns-in_err-add_inst-clause-stops
+returns-in_err-add_inst-clause-stops c = λ h. entering ⟫| calling_stops right (c.in_err-add_inst.ensures.stops (ap Err (passed _ _ c.from_residual.ensures.1 h))) refl
 
 pub more-init : goal.more-init
-more-init c = record {
-  tree = λ us xs d. rw (c.in_ok-push.ensures.items, c.new-list.ensures.items) (listed_from c.in_ok-first.ensures.tree d);
-  reads = entering ⟫ calling right c.in_ok-first.ensures.reads refl;
+more-init c = let a = c.in_ok-add_inst.ensures.tree in record {
+  tree = λ us xs d. rw (a.list, c.new-list.ensures.items) (listed_from a.derives d);
+  reads = entering ⟫ calling right c.in_ok-add_inst.ensures.reads refl;
 }
 
-pub returns-in_err-next-clause-stops : goal.returns-in_err-next-clause-stops
-returns-in_err-next-clause-stops c = λ h. c.more.invariant.reads ⟫ taking right c.in-Some.ensures refl ⟫| calling_stops right (c.in_err-next.ensures.stops (ap Err (passed _ _ c.from_residual-in_err-next.ensures.1 h))) refl
+pub returns-in_err-add_inst-2-clause-stops : goal.returns-in_err-add_inst-2-clause-stops
+returns-in_err-add_inst-2-clause-stops c = λ h. c.more.invariant.reads ⟫ taking right c.in-Some.ensures refl ⟫| calling_stops right (c.in_err-add_inst-2.ensures.stops (ap Err (passed _ _ c.from_residual-in_err-add_inst-2.ensures.1 h))) refl
 
 pub more-preserved : goal.more-preserved
-more-preserved c = record {
-  tree = λ us xs d. rw (c.in_ok-push-2.ensures.items, append_assoc) (c.more.invariant.tree us (c.in_ok-next.next ∷ xs) (more c.in-Some.ensures c.in_ok-next.ensures.tree d));
-  reads = c.more.invariant.reads ⟫ taking right c.in-Some.ensures refl ⟫ calling right c.in_ok-next.ensures.reads refl;
+more-preserved c = let a = c.in_ok-add_inst-2.ensures.tree in record {
+  tree = λ us xs d. rw (a.list, append_assoc) (c.more.invariant.tree us (a.one ∷ xs) (more c.in-Some.ensures a.derives d));
+  reads = c.more.invariant.reads ⟫ taking right c.in-Some.ensures refl ⟫ calling right c.in_ok-add_inst-2.ensures.reads refl;
 }
 
 pub returns-clause-tree : goal.returns-clause-tree

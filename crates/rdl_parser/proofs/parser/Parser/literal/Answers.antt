@@ -3,6 +3,7 @@ use Rattle.rb_grammar.proofs.Following.{◌⟫◌}
 use Rattle.rb_grammar.proofs.Steps.{entering, taking, missing}
 use Rattle.rdl_tree.specs.Tree as tree
 use Rattle.rdl_parser.proofs.Firsts.{right}
+use Rattle.rdl_parser.proofs.Phrases.{flag_returns}
 use Rattle.rdl_parser.proofs.parser.Parser.literal.Goals as goal
 
 pub returns-in-Some : goal.returns-in-Some
@@ -11,23 +12,8 @@ returns-in-Some c = let n = c.in-Some.ensures in (rw n.at (tree.number n.stands 
 pub returns-in-Some-eat : goal.returns-in-Some-eat
 returns-in-Some-eat c = let m = c.in_default.ensures in (rw (← m.list) (tree.string c.in-Some-eat.ensures), entering ⟫ missing right m refl ⟫ taking right c.in-Some-eat.ensures refl)
 
-pub returns-in-Some-word : goal.returns-in-Some-word
-returns-in-Some-word c =
-    let m = c.in_default.ensures in
-    let n = c.in_default-eat.ensures in
-    (rw (← m.list, ← n.list) (tree.set_flag c.in-Some-word.ensures), entering ⟫ missing right m refl ⟫ missing right n refl ⟫ taking right c.in-Some-word.ensures refl)
-
-pub returns-in_default-word-2 : goal.returns-in_default-word-2
-returns-in_default-word-2 c =
-    let m = c.in_default.ensures in
-    let n = c.in_default-eat.ensures in
-    let o = c.in_default-word.ensures in
-    let p = c.in_default-word-2.ensures in
-    (p.list ∙ (o.list ∙ (n.list ∙ m.list)), entering ⟫ missing right m refl ⟫ missing right n refl ⟫ missing right o refl ⟫ missing right p refl)
-
 pub returns : goal.returns
 returns c =
     let m = c.in_default.ensures in
     let n = c.in_default-eat.ensures in
-    let o = c.in_default-word.ensures in
-    (rw (← m.list, ← n.list, ← o.list) (tree.clear_flag c.in-Some-word-2.ensures), entering ⟫ missing right m refl ⟫ missing right n refl ⟫ missing right o refl ⟫ taking right c.in-Some-word-2.ensures refl)
+    flag_returns _ _ (n.list ∙ m.list) (entering ⟫ missing right m refl ⟫ missing right n refl) c.flag.ensures

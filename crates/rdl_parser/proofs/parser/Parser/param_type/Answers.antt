@@ -3,7 +3,7 @@ use Rattle.rb_grammar.proofs.Following.{◌⟫◌, ◌⟫|◌}
 use Rattle.rb_grammar.proofs.Steps.{entering, taking, missing}
 use Rattle.rdl_tree.specs.Tree as tree
 use Rattle.rdl_parser.proofs.Firsts.{right}
-use Rattle.rdl_parser.proofs.Factoring.{refusing}
+use Rattle.rb_grammar.proofs.Factoring.{refusing}
 use Rattle.rdl_parser.specs.Following.{types}
 use Rattle.rdl_parser.proofs.Words.{no_type, number_type, other_type}
 use Rattle.rdl_parser.proofs.parser.Parser.param_type.Goals as goal

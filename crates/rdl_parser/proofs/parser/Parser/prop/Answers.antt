@@ -4,7 +4,7 @@ use Rattle.rb_grammar.proofs.Steps.{entering, staying, taking, missing}
 use Rattle.rdl_tree.specs.Tree as tree
 use Rattle.rdl_parser.specs.Following.{prop_words}
 use Rattle.rdl_parser.proofs.Firsts.{right}
-use Rattle.rdl_parser.proofs.Factoring.{refusing}
+use Rattle.rb_grammar.proofs.Factoring.{refusing}
 use Rattle.rdl_parser.proofs.Words.{prop_word, no_prop}
 use Rattle.rdl_parser.proofs.parser.Parser.prop.Goals as goal
 

@@ -2,7 +2,7 @@ use Rattle.std.proofs.Common.{refl, ap, Err}
 use Rattle.rb_grammar.proofs.Following.{◌⟫◌, ◌⟫|◌}
 use Rattle.rb_grammar.proofs.Steps.{taking, halting, passed}
 use Rattle.rdl_parser.proofs.Firsts.{right}
-use Rattle.rdl_parser.proofs.Factoring.{reading, reading_stops}
+use Rattle.rb_grammar.proofs.Factoring.{reading, reading_stops}
 use Rattle.rdl_parser.proofs.parser.Parser.set_from.Goals as goal
 
 pub returns-in_err-value-clause-stops : goal.returns-in_err-value-clause-stops

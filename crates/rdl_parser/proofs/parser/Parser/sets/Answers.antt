@@ -23,11 +23,11 @@ returns-in-Some-mark-clause-tree c = rw c.into_bump_slice.ensures (rw append-nil
 pub returns-in-Some-mark-clause-reads : goal.returns-in-Some-mark-clause-reads
 returns-in-Some-mark-clause-reads c = c.more.invariant.reads ⟫ taking right c.in-Some-mark.ensures refl
 
-pub returns-in_err-set-clause-stops : goal.returns-in_err-set-clause-stops
-returns-in_err-set-clause-stops c = λ h. c.more.invariant.reads ⟫ missing right c.in_default-mark.ensures refl ⟫| calling_stops right (c.in_err-set.ensures.stops (ap Err (passed _ _ c.from_residual.ensures.1 h))) refl
+pub returns-in_err-add_set-clause-stops : goal.returns-in_err-add_set-clause-stops
+returns-in_err-add_set-clause-stops c = λ h. c.more.invariant.reads ⟫ missing right c.in_default-mark.ensures refl ⟫| calling_stops right (c.in_err-add_set.ensures.stops (ap Err (passed _ _ c.from_residual.ensures.1 h))) refl
 
 pub more-preserved : goal.more-preserved
-more-preserved c = record {
-  tree = λ us vs t ss d i. rw (c.in_ok-push.ensures.items, append_assoc) (c.more.invariant.tree us vs t (c.in_ok-set.set ∷ ss) (tree.one_more (rw c.in_default-mark.ensures.list at c.in_ok-set.ensures.tree) d) i);
-  reads = c.more.invariant.reads ⟫ missing right c.in_default-mark.ensures refl ⟫ calling right c.in_ok-set.ensures.reads refl;
+more-preserved c = let a = c.in_ok-add_set.ensures.tree in record {
+  tree = λ us vs t ss d i. rw (a.list, append_assoc) (c.more.invariant.tree us vs t (a.one ∷ ss) (tree.one_more (rw c.in_default-mark.ensures.list at a.derives) d) i);
+  reads = c.more.invariant.reads ⟫ missing right c.in_default-mark.ensures refl ⟫ calling right c.in_ok-add_set.ensures.reads refl;
 }

@@ -10,13 +10,13 @@ more-init c = record {
   leads = leads_on _;
 }
 
-pub returns-in_err-item-clause-stops : goal.returns-in_err-item-clause-stops
-returns-in_err-item-clause-stops c = λ h. leads_stop c.more.invariant.leads c.more-test.ensures (c.in_err-item.ensures.stops (ap Err (passed _ _ c.from_residual.ensures.1 h)))
+pub returns-in_err-add_item-clause-stops : goal.returns-in_err-add_item-clause-stops
+returns-in_err-add_item-clause-stops c = λ h. leads_stop c.more.invariant.leads c.more-test.ensures (c.in_err-add_item.ensures.stops (ap Err (passed _ _ c.from_residual.ensures.1 h)))
 
 pub more-preserved : goal.more-preserved
-more-preserved c = record {
-  tree = λ us is d. rw (c.in_ok-push.ensures.items, append_assoc) (c.more.invariant.tree us (c.in_ok-item.item ∷ is) (tree.next_item c.in_ok-item.ensures.tree d));
-  leads = leads_more c.more.invariant.leads c.more-test.ensures c.in_ok-item.ensures.reads;
+more-preserved c = let a = c.in_ok-add_item.ensures.tree in record {
+  tree = λ us is d. rw (a.list, append_assoc) (c.more.invariant.tree us (a.one ∷ is) (tree.next_item a.derives d));
+  leads = leads_more c.more.invariant.leads c.more-test.ensures c.in_ok-add_item.ensures.reads;
 }
 
 pub returns-clause-tree : goal.returns-clause-tree

@@ -1,13 +1,12 @@
 -- A parser's steps where one token doesn't decide: two forms that go on alike are read together. And its steps over forms that
 -- are no rule of their own.
-use Rattle.std.proofs.Common.{◌≡◌, ℕ, zero, suc, true, false, not, List, [], ◌∷◌, ◌++◌, sym, subst, append_assoc, arith, inl, inr}
-use Rattle.std.proofs.lemmas.Bool.{and_parts, not-true}
-use Rattle.rb_grammar.specs.Forms.{Form, Tok, Non, ◌or◌, Opt, Many, ◌then◌, Grammar}
-use Rattle.rb_grammar.specs.Readings.{Upto, behind_next, Reads, first, second, both, Avoids, Same, Stops}
+use Rattle.std.proofs.Common.{◌≡◌, ℕ, zero, suc, true, false, List, [], ◌∷◌, ◌++◌, sym, subst, append_assoc, arith, inl, inr}
+use Rattle.rb_grammar.specs.Forms.{Form, ◌or◌, ◌then◌, Grammar}
+use Rattle.rb_grammar.specs.Readings.{Upto, behind_next, Reads, first, second, both, Same, Stops}
 use Rattle.rb_grammar.specs.Firsts.{Table, IsTableOf}
-use Rattle.rb_grammar.proofs.Following.{◌⟫◌, read_or, read_both, same, same_both, same_first, same_second, stops_here}
-use Rattle.rb_grammar.proofs.Barring.{Sight, Here, Without, can, Holds, barred}
-use Rattle.rb_grammar.proofs.Steps.{avoids, apart, parts}
+use Rattle.rb_grammar.proofs.Following.{◌⟫◌, read_or, read_both, same, same_first, same_second, stops_here}
+use Rattle.rb_grammar.proofs.Barring.{Sight, Without, can, Holds, barred}
+use Rattle.rb_grammar.proofs.Steps.{avoids, apart, parts, same_apart, same_parts, avoiding}
 
 -- the first forms are put together
 abbrev pub packed : {T N : Type 0} → ℕ → List (Form T N) → List (Form T N)
@@ -19,19 +18,7 @@ packed (suc n) (f ∷ g ∷ fs) = packed n ((f then g) ∷ fs)
 module _ {T N K : Type 0} {G : Grammar T N K} where
   -- the first form is taken apart
   pub splitting : {ms : List T} {f : Form T N} {fs : List (Form T N)} {ts : List K} → Same G ms (f ∷ fs) ts (apart f fs) ts
-  splitting {ms = ms} {f = f} {fs = fs} {ts = ts} = go f fs
-    where
-      go : (f : Form T N) (fs : List (Form T N)) → Same G ms (f ∷ fs) ts (apart f fs) ts
-      go (Tok a) fs = same G ms (Tok a ∷ fs) ts
-      go (Non x) fs = same G ms (Non x ∷ fs) ts
-      go (f or g) fs = same G ms ((f or g) ∷ fs) ts
-      go (Opt f) fs = same G ms (Opt f ∷ fs) ts
-      go (Many f) fs = same G ms (Many f ∷ fs) ts
-      go (f then g) fs = same_both G ms f g fs ts ⟫ go f (g ∷ fs)
-
-  split_all : (ms : List T) (fs : List (Form T N)) (ts : List K) → Same G ms fs ts (parts fs) ts
-  split_all ms [] ts = same G ms [] ts
-  split_all ms (f ∷ fs) ts = splitting
+  splitting {ms = ms} {f = f} {fs = fs} {ts = ts} = same_apart G ms f fs ts
 
   pub packing : {ms : List T} {fs : List (Form T N)} {ts : List K} (n : ℕ) → Same G ms fs ts (packed n fs) ts
   packing {ms = ms} {fs = fs} {ts = ts} n = go n fs
@@ -63,19 +50,13 @@ module _ {T N K : Type 0} {G : Grammar T N K} where
   }
 
 module _ {T N K : Type 0} {G : Grammar T N K} {S : Table T N} (R : IsTableOf G S) where
-  avoiding : (ns ms : List T) (fs : List (Form T N)) → avoids S ns ms fs ≡ true → (hs : List (Form T N)) → Avoids G ms hs → Avoids G ns (fs ++ hs)
-  avoiding [] ms fs e hs av = tt
-  avoiding (a ∷ ns) ms fs e hs av =
-      let p = and_parts (not (can S (Here a) ms fs)) (avoids S ns ms fs) e in
-      (λ ts h. barred G S R (Here a) ms fs hs ts h av (not-true (can S (Here a) ms fs) p.0), avoiding ns ms fs p.1 hs av)
-
   -- forms that another function reads
   pub reading : {ms ns : List T} {gs : List (Form T N)} {ts us : List K} (fs : List (Form T N)) → Same G ns gs ts [] us → avoids S ns ms fs ≡ true → Same G ms (gs ++ fs) ts (parts fs) us
-  reading {ms = ms} {ns = ns} {gs = gs} {ts = ts} {us = us} fs p e = read ⟫ split_all ms fs us
+  reading {ms = ms} {ns = ns} {gs = gs} {ts = ts} {us = us} fs p e = read ⟫ same_parts G ms fs us
     where
       read : Same G ms (gs ++ fs) ts fs us
       read = record {
-        there = λ g hs av ah r. p.there g (fs ++ hs) (avoiding ns ms fs e hs av) ah (subst (λ z. Reads G g z ts) (append_assoc gs fs hs) r);
+        there = λ g hs av ah r. p.there g (fs ++ hs) (avoiding G S R ns ms fs e hs av) ah (subst (λ z. Reads G g z ts) (append_assoc gs fs hs) r);
         back = λ g hs r. subst (λ z. Reads G g z ts) (sym (append_assoc gs fs hs)) (p.back g (fs ++ hs) r);
         on = p.on;
       }
@@ -83,7 +64,7 @@ module _ {T N K : Type 0} {G : Grammar T N K} {S : Table T N} (R : IsTableOf G S
   pub reading_stops : {ms ns : List T} {gs : List (Form T N)} {ts us : List K} (fs : List (Form T N)) → Stops G ns gs ts us → avoids S ns ms fs ≡ true → Stops G ms (gs ++ fs) ts us
   reading_stops {ms = ms} {ns = ns} {gs = gs} {ts = ts} {us = us} fs p e = record {
     begins = λ hs. subst (λ z. Reads G (Upto us) z ts) (sym (append_assoc gs fs hs)) (p.begins (fs ++ hs));
-    refuses = λ hs av r. p.refuses (fs ++ hs) (avoiding ns ms fs e hs av) (subst (λ z. Reads G (behind_next us) z ts) (append_assoc gs fs hs) r);
+    refuses = λ hs av r. p.refuses (fs ++ hs) (avoiding G S R ns ms fs e hs av) (subst (λ z. Reads G (behind_next us) z ts) (append_assoc gs fs hs) r);
     on = p.on;
   }
 
