@@ -1,16 +1,16 @@
 -- The tokens of a text stand at rising places, and their names are words.
-use Rattle.std.proofs.Common.{◌≡◌, ◌∙◌, ℕ, zero, ◌+◌, ◌≤◌, ◌<◌, Bool, true, false, IsTrue, if◌then◌else◌, Option, None, Some, List, [], ◌∷◌, ◌++◌, length, map, option_map, refl, sym, ap, subst, arith, length-append}
+use Rattle.std.proofs.Common.{◌≡◌, ◌∙◌, ℕ, ◌+◌, ◌≤◌, Bool, true, false, IsTrue, if◌then◌else◌, Option, None, Some, List, [], ◌∷◌, length, map, option_map, refl, ap, subst, arith, length-append}
 use Rattle.std.proofs.lemmas.Bool.{and_parts}
 use Rattle.rb_grammar.specs.Lexemes.{Class, has_form, meaning_among}
 use Rattle.rb_grammar.specs.Separators.{Skips, stay, skip}
-use Rattle.rb_grammar.specs.Spelling.{Spells, SpellsFrom, StartsWith}
+use Rattle.rb_grammar.specs.Spelling.{Spells, SpellsFrom}
 use Rattle.rdl_tree.specs.declared.token.Mark.{Mark}
 use Rattle.rdl_tree.specs.declared.token.Token.{Token}
 use Rattle.rdl_tree.specs.declared.token.TokenKind.TheVariants as kinds
 use Rattle.rdl_tree.specs.InOrder.{PlacesRiseFrom, NamesAreWords}
 use Rattle.rdl_tree.specs.Tokens.{mark_of}
 use Rattle.rdl_tree.specs.Words.{is_word}
-use Rattle.rdl_lexer.specs.Lexemes.{Lexeme, seen, is_backslash, is_escaped, number, words, names, strings, decimals, hexadecimals, sized_numbers, marks, perl, systemrdl}
+use Rattle.rdl_lexer.specs.Lexemes.{Lexeme, seen, is_backslash, number, words, names, strings, marks, systemrdl}
 
 -- what is left behind separators is no longer than the text
 no_longer : {comments : Bool} {text left : List ℕ} → Skips comments text left → length left ≤ length text

@@ -1,8 +1,8 @@
 //! The tokens of a SystemRDL source (SystemRDL 2.0, clause 4).
 #![tactic(auto)]
 
-mod lexeme;
 mod laws;
+mod lexeme;
 mod lexer;
 mod marks;
 mod numbers;

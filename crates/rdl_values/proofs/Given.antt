@@ -47,8 +47,8 @@ when_none true f h = cc
 
 -- the nodes of a use are given by it
 
-given : (s : Seen) → AllByRecursion (IsGivenBy s) (given_by s)
-given s = clean (is_empty (no_node s)) refl
+pub given-all : (s : Seen) → AllByRecursion (IsGivenBy s) (given_by s)
+given-all s = clean (is_empty (no_node s)) refl
   where
     elements_given : (c : Closure) → is_empty (no_node s) ≡ true → s.use_.closure ≡ Some c → (b : Outcome Bound) → bound_of s.use_ c ≡ b → (d : Outcome (List ℕ)) → dims_of s.use_ c.def.kind ≡ d → AllByRecursion (IsGivenBy s) (elements s c b d)
     elements_given c h e (Ok bound) p (Ok dims) q = each-map (IsGivenBy s) _ (rows dims) (λ is. record { clean = h; use_is = refl; closure_is = e; bound_is = p; above_is = refl; index = is; path_is = refl })
@@ -119,7 +119,7 @@ pub record IsChildOf (n c : Instance) : Type 0 where
   pub given_ : IsGivenBy by c
 
 pub children-given : (n : Instance) → AllByRecursion (IsChildOf n) (children n)
-children-given n = each-flat_map (IsChildOf n) given_by (seen_in n) (each-imp (λ s. s.parent ≡ parent_of (body n)) (λ s. AllByRecursion (IsChildOf n) (given_by s)) (seen_in n) (λ s e. each-imp (IsGivenBy s) (IsChildOf n) (given_by s) (λ c g. record { by = s; in_body = e; given_ = g }) (given s)) (seen-parents _ (body n)))
+children-given n = each-flat_map (IsChildOf n) given_by (seen_in n) (each-imp (λ s. s.parent ≡ parent_of (body n)) (λ s. AllByRecursion (IsChildOf n) (given_by s)) (seen_in n) (λ s e. each-imp (IsGivenBy s) (IsChildOf n) (given_by s) (λ c g. record { by = s; in_body = e; given_ = g }) (given-all s)) (seen-parents _ (body n)))
 
 pub record IsAtRoot (c : Instance) : Type 0 where
   pub by : Seen
@@ -127,11 +127,11 @@ pub record IsAtRoot (c : Instance) : Type 0 where
   pub given_ : IsGivenBy by c
 
 pub signals-given : (s : Source) → AllByRecursion IsAtRoot (signals s)
-signals-given s = each-flat_map IsAtRoot given_by (seen [] (root s)) (each-imp (λ u. u.parent ≡ parent_of (root s)) (λ u. AllByRecursion IsAtRoot (given_by u)) (seen [] (root s)) (λ u e. each-imp (IsGivenBy u) IsAtRoot (given_by u) (λ c g. record { by = u; in_body = e; given_ = g }) (given u)) (seen-parents [] (root s)))
+signals-given s = each-flat_map IsAtRoot given_by (seen [] (root s)) (each-imp (λ u. u.parent ≡ parent_of (root s)) (λ u. AllByRecursion IsAtRoot (given_by u)) (seen [] (root s)) (λ u e. each-imp (IsGivenBy u) IsAtRoot (given_by u) (λ c g. record { by = u; in_body = e; given_ = g }) (given-all u)) (seen-parents [] (root s)))
 
 pub tops-given : (wanted : Option (List ℕ)) (s : Source) → AllByRecursion (λ n. n.path ≡ below_top []) (top_of wanted s)
 tops-given wanted s = each-flat_map (λ n. n.path ≡ below_top []) _ (option_to_list (top_use_of wanted s)) (all (top_use_of wanted s))
   where
     all : (o : Option Use) → AllByRecursion (λ u. AllByRecursion (λ n. n.path ≡ below_top []) (given_by (top_seen u))) (option_to_list o)
     all None = tt
-    all (Some u) = (each-imp (IsGivenBy (top_seen u)) (λ n. n.path ≡ below_top []) (given_by (top_seen u)) (λ n g. g.path_is) (given (top_seen u)), tt)
+    all (Some u) = (each-imp (IsGivenBy (top_seen u)) (λ n. n.path ≡ below_top []) (given_by (top_seen u)) (λ n g. g.path_is) (given-all (top_seen u)), tt)

@@ -3,3 +3,5 @@ pub mod Paths
 pub mod Powers
 pub mod Given
 pub mod Numbered
+pub mod Sorted
+pub mod Clean

@@ -13,7 +13,8 @@ use Rattle.rdl_values.specs.Paths.{path_text}
 use Rattle.rdl_values.specs.Values.{Val, number, flag}
 use Rattle.rdl_values.specs.Verdict.{IsListOf}
 use Rattle.rdl_values.specs.Phase3.{failures3, fails3}
-use Rattle.rdl_worked.proofs.InOrder.{in_order, in_order-is}
+use Rattle.rdl_values.specs.Verdict.{in_order}
+use Rattle.rdl_values.proofs.Sorted.{in_order-is}
 use Rattle.rdl_worked.proofs.InstancesSources as src
 use Rattle.rdl_worked.proofs.Trees.{at}
 

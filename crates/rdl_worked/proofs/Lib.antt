@@ -2,7 +2,6 @@ pub mod Addresses
 pub mod AddressesSources
 pub mod BlockSources
 pub mod Blocks
-pub mod InOrder
 pub mod Instances
 pub mod InstancesSources
 pub mod InstancesTree

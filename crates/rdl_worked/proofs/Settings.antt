@@ -25,7 +25,7 @@ use Rattle.rdl_layers.specs.Settings.{setting, is_assigned}
 use Rattle.rdl_layers.specs.Fields.{is_a, fields_of, views, is_wire, is_storage}
 use Rattle.rdl_layers.specs.Phase4.{failures4, width_of}
 use Rattle.rdl_worked.proofs.SettingsSources.{enum_in_itself, outermost_decides, dynamic_beats_body, nearest_default_decides, root_default, default_behind, default_by_text, default_of_another_kind, instance_value, default_of_parameters, false_signal_members, false_field_members, another_member, short_names, short_and_long, sides, numbers_and_booleans, words, interrupts, accesswidths, references, default_reference, parameters_and_references, enums, elements, two_dimensions, element_twice, bodies_apart, assigned_twice, exclusive, taken_thrice, defaults_twice, unknown_properties, illegal, bad_values, not_a_reference, failing_values, failing_index, failing_value_counts, enum_names, enum_entries, register_widths, widths_left_out, widths_by_occurrence, field_widths, widths_by_default, widths_by_table, classes, alias_views}
-use Rattle.rdl_worked.proofs.InOrder.{in_order}
+use Rattle.rdl_values.specs.Verdict.{in_order}
 use Rattle.rdl_worked.proofs.Trees.{at}
 
 -- the failures of the settings phase, by place and row

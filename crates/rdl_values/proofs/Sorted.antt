@@ -1,9 +1,12 @@
 -- Failures put in order, without repeats: the list of what fails, as a verdict has it.
-use Rattle.std.proofs.Common.{◌≡◌, ◌∙◌, ◌<◌, ℕ, zero, suc, ◌⊎◌, inl, inr, List, [], ◌∷◌, length, get_or, Contains, refl, sym, ap, subst, arith}
+use Rattle.std.proofs.Common.{◌≡◌, ◌∙◌, ◌<◌, ℕ, zero, suc, ◌⊎◌, inl, inr, Bool, true, List, [], ◌∷◌, ◌++◌, length, get_or, Contains, IsPermutation, IsSorted, refl, sym, ap, subst, arith}
+use Rattle.std.specs.List.{dedup}
+use Rattle.std.proofs.lemmas.List.Kept.{IsStrictlySortedBy-dedup, Contains-from_dedup, Contains-dedup}
+use Rattle.std.proofs.lemmas.List.Sorted.{Contains-permutation, IsPermutation-sym}
 use Rattle.std.specs.List.{AllByRecursion}
 use Rattle.std.specs.List.Sorted.{IsStrictlySortedBy}
-use Rattle.std.specs.Cmp.{IsTotalOrder}
-use Rattle.std.specs.Ordering.{nat_cmp, ordering_then, ordering_reverse, MatchOrdering}
+use Rattle.std.specs.Cmp.{IsTotalOrder, IsEquivalence}
+use Rattle.std.specs.Ordering.{eq_by_cmp, is_eq, nat_cmp, ordering_then, ordering_reverse, MatchOrdering}
 use Rattle.std.specs.declared.cmp.Ordering.{Ordering}
 use Rattle.std.specs.declared.cmp.Ordering.TheVariants.{Less, Equal, Greater}
 use Rattle.std.proofs.lemmas.Cmp.{ranked, nat_cmp_total, on_total, then_total}
@@ -13,21 +16,7 @@ use Rattle.rb_base.specs.declared.fault.Fault.{Fault}
 use Rattle.rb_base.specs.declared.rule.Rule.{Rule}
 use Rattle.rb_base.specs.declared.rule.Rule.TheVariants as rules
 use Rattle.rdl_values.specs.Faults.{at_}
-use Rattle.rdl_values.specs.Verdict.{IsListOf}
-
--- a failure before, in place of, or behind the first of a list
-abbrev placed : Ordering → Fault → Fault → List Fault → List Fault → List Fault
-placed Less f g gs behind = f ∷ g ∷ gs
-placed Equal f g gs behind = g ∷ gs
-placed Greater f g gs behind = g ∷ behind
-
-abbrev with : Fault → List Fault → List Fault
-with f [] = f ∷ []
-with f (g ∷ gs) = placed (fault_cmp f g) f g gs (with f gs)
-
-abbrev pub in_order : List Fault → List Fault
-in_order [] = []
-in_order (f ∷ fs) = with f (in_order fs)
+use Rattle.rdl_values.specs.Verdict.{IsListOf, placed, with, in_order}
 
 -- Failures that are neither before nor behind one another are one.
 
@@ -163,3 +152,68 @@ in_order-sorted (f ∷ fs) = with-sorted f (in_order fs) (in_order-sorted fs)
 -- the failures in order are the list of what fails
 pub in_order-is : (fs : List Fault) → IsListOf (λ rule place. Contains fs (at_ rule place)) (in_order fs)
 in_order-is fs = record { ordered = in_order-sorted fs; exact = λ f. (in_order-only f fs, in_order-keeps f fs) }
+
+-- What a sort and the dropping of repeats leave is the list.
+
+equal_only : (o : Ordering) → is_eq o ≡ true → o ≡ Equal
+equal_only Less e = cc
+equal_only Equal e = refl
+equal_only Greater e = cc
+
+pub sorted_once : (fs xs : List Fault) (E : Fault → Fault → Bool) → IsEquivalence E → ((f g : Fault) → E f g ≡ eq_by_cmp fault_cmp f g) → IsPermutation fs xs → IsSorted fault_cmp xs
+    → IsListOf (λ rule place. Contains fs (at_ rule place)) (dedup E xs)
+sorted_once fs xs E equivalence ties same sorted = record {
+  ordered = IsStrictlySortedBy-dedup order ties xs sorted;
+  exact = λ f. (λ c. Contains-permutation xs fs f (IsPermutation-sym fs xs same) (Contains-from_dedup E xs f c), λ c. Contains-dedup equivalence (λ x y e. alike x y (equal_only (fault_cmp x y) (sym (ties x y) ∙ e))) xs f (Contains-permutation fs xs f same c));
+}
+
+-- Where the list is empty nothing fails.
+
+pub none_fails : (fs : List Fault) → IsListOf (λ rule place. Contains fs (at_ rule place)) [] → fs ≡ []
+none_fails [] l = refl
+none_fails (f ∷ fs) l = absurd (nothing ((l.exact f).1 (here f fs)))
+  where
+    nothing : Contains [] f → ⊥
+    nothing c = omega (arith, c.1)
+
+-- The lists of two rules' failures give that of both.
+
+left_of : (f : Fault) (fs gs : List Fault) → Contains fs f → Contains (fs ++ gs) f
+left_of f [] gs c = absurd (nothing c)
+  where
+    nothing : Contains [] f → ⊥
+    nothing c = omega (arith, c.1)
+left_of f (g ∷ fs) gs c = go (cases f g fs c) (left_of f fs gs)
+  where
+    go : (g ≡ f) ⊎ Contains fs f → (Contains fs f → Contains (fs ++ gs) f) → Contains (g ∷ fs ++ gs) f
+    go (inl e) k = subst (Contains (g ∷ fs ++ gs)) e (here g (fs ++ gs))
+    go (inr d) k = later f g (fs ++ gs) (k d)
+
+right_of : (f : Fault) (fs gs : List Fault) → Contains gs f → Contains (fs ++ gs) f
+right_of f [] gs c = c
+right_of f (g ∷ fs) gs c = later f g (fs ++ gs) (right_of f fs gs c)
+
+either_of : (f : Fault) (fs gs : List Fault) → Contains (fs ++ gs) f → Contains fs f ⊎ Contains gs f
+either_of f [] gs c = inr c
+either_of f (g ∷ fs) gs c = go (cases f g (fs ++ gs) c) (either_of f fs gs)
+  where
+    more : Contains fs f ⊎ Contains gs f → Contains (g ∷ fs) f ⊎ Contains gs f
+    more (inl d) = inl (later f g fs d)
+    more (inr d) = inr d
+
+    go : (g ≡ f) ⊎ Contains (fs ++ gs) f → (Contains (fs ++ gs) f → Contains fs f ⊎ Contains gs f) → Contains (g ∷ fs) f ⊎ Contains gs f
+    go (inl e) k = inl (subst (Contains (g ∷ fs)) e (here g fs))
+    go (inr d) k = more (k d)
+
+-- the failures of both, where each list is that of its rule
+pub merged : (fs gs xs ys : List Fault) → IsListOf (λ rule place. Contains fs (at_ rule place)) xs → IsListOf (λ rule place. Contains gs (at_ rule place)) ys
+    → IsListOf (λ rule place. Contains (fs ++ gs) (at_ rule place)) (in_order (xs ++ ys))
+merged fs gs xs ys of_fs of_gs = record { ordered = in_order-sorted (xs ++ ys); exact = λ f. (λ c. onward f (either_of f xs ys (in_order-only f (xs ++ ys) c)), λ c. in_order-keeps f (xs ++ ys) (back f (either_of f fs gs c))) }
+  where
+    onward : (f : Fault) → Contains xs f ⊎ Contains ys f → Contains (fs ++ gs) f
+    onward f (inl c) = left_of f fs gs ((of_fs.exact f).0 c)
+    onward f (inr c) = right_of f fs gs ((of_gs.exact f).0 c)
+
+    back : (f : Fault) → Contains fs f ⊎ Contains gs f → Contains (xs ++ ys) f
+    back f (inl c) = left_of f xs ys ((of_fs.exact f).1 c)
+    back f (inr c) = right_of f xs ys ((of_gs.exact f).1 c)
