@@ -5,3 +5,5 @@
 mod commands;
 #[cfg(test)]
 mod header;
+#[cfg(test)]
+mod reads;

@@ -4,6 +4,8 @@
 #[cfg(test)]
 mod faults;
 #[cfg(test)]
+mod larger;
+#[cfg(test)]
 mod lexemes;
 #[cfg(test)]
 mod modules;
