@@ -4,7 +4,6 @@ pub mod Taking
 pub mod Walking
 pub mod Marks
 pub mod Ranges
-pub mod Results
 pub mod Terms
 pub mod Blocks
 pub mod Loops

@@ -7,7 +7,7 @@ use Rattle.rb_grammar.specs.Forms.{Form, Non, Opt, ◌or◌, ◌then◌}
 use Rattle.rb_grammar.specs.Readings.{at, Takes, Misses, Same}
 use Rattle.rb_grammar.proofs.Following.{◌⟫◌}
 use Rattle.rb_grammar.proofs.Barring.{Here, Without, AreOff}
-use Rattle.rb_grammar.proofs.Steps.{entering, taking, opening, staying}
+use Rattle.rb_grammar.proofs.Steps.{entering, taking, opening, staying, seen}
 use Rattle.v_design.specs.Lexemes.{Token, Word, Name, Number, Const}
 use Rattle.v_design.specs.Tree.{one_word, two_word}
 use Rattle.v_design.specs.declared.design.VOne.{VOne}
@@ -17,7 +17,7 @@ use Rattle.v_design.specs.declared.design.VTwo.TheVariants.{Add, Sub, And, Or, X
 use Rattle.v_syntax.specs.Grammar.{Terminal, Quoted, is, Rule, Expr, Prefix, Infix, Operand, quoted, grammar}
 use Rattle.v_parser.specs.Reading.{Spans, one_of, two_of, one_in, two_in, next_one, next_two, IsPrefix, IsInfix, NoPrefix, NoInfix, after_expr}
 use Rattle.v_parser.proofs.Firsts.{table, right, prefixes, infixes}
-use Rattle.v_parser.proofs.Walking.{Tokens, seen_next}
+use Rattle.v_parser.proofs.Walking.{Tokens}
 
 found : {X : Type 0} (spelled : X → List ℕ) (w v : List ℕ) (m n : X) (o : Option X) → v ≡ spelled m → cond (bytes_eq w v) (Some m) o ≡ Some n → (o ≡ Some n → w ≡ spelled n) → w ≡ spelled n
 found {X} spelled w v m n o s h g = go (bytes_eq w v) refl h
@@ -69,10 +69,10 @@ abbrev pub prefixed : Form Terminal Rule
 prefixed = Non Prefix then Non Operand
 
 by_prefix : {ts us : Tokens} {t : At Token} (op : VOne) → Takes grammar (Quoted (one_word op)) ts t us → Same grammar after_expr (Non Expr ∷ []) ts (Non Operand ∷ []) us
-by_prefix Not k = entering ⟫ opening right (Here (Quoted (codes "~"))) refl (seen_next k) ⟫ entering ⟫ taking right k refl
-by_prefix All k = entering ⟫ opening right (Here (Quoted (codes "&"))) refl (seen_next k) ⟫ entering ⟫ taking right k refl
-by_prefix Any k = entering ⟫ opening right (Here (Quoted (codes "|"))) refl (seen_next k) ⟫ entering ⟫ taking right k refl
-by_prefix Odd k = entering ⟫ opening right (Here (Quoted (codes "^"))) refl (seen_next k) ⟫ entering ⟫ taking right k refl
+by_prefix Not k = entering ⟫ opening right (Here (Quoted (codes "~"))) refl (seen k) ⟫ entering ⟫ taking right k refl
+by_prefix All k = entering ⟫ opening right (Here (Quoted (codes "&"))) refl (seen k) ⟫ entering ⟫ taking right k refl
+by_prefix Any k = entering ⟫ opening right (Here (Quoted (codes "|"))) refl (seen k) ⟫ entering ⟫ taking right k refl
+by_prefix Odd k = entering ⟫ opening right (Here (Quoted (codes "^"))) refl (seen k) ⟫ entering ⟫ taking right k refl
 
 pub prefix_step : {ts us : Tokens} (op : VOne) → IsPrefix ts us op → Same grammar after_expr (Non Expr ∷ []) ts (Non Operand ∷ []) us
 prefix_step op p = by_prefix op (prefix_taken op p)
@@ -83,17 +83,17 @@ abbrev pub behind_first : Form Terminal Rule
 behind_first = Opt (Non Infix then Non Operand or quoted "?" then Non Operand then quoted ":" then Non Operand)
 
 by_infix : {ts us : Tokens} {t : At Token} (op : VTwo) → Takes grammar (Quoted (two_word op)) ts t us → Same grammar after_expr (behind_first ∷ []) ts (Non Operand ∷ []) us
-by_infix Add k = opening right (Here (Quoted (codes "+"))) refl (seen_next k) ⟫ entering ⟫ taking right k refl
-by_infix Sub k = opening right (Here (Quoted (codes "-"))) refl (seen_next k) ⟫ entering ⟫ taking right k refl
-by_infix And k = opening right (Here (Quoted (codes "&"))) refl (seen_next k) ⟫ entering ⟫ taking right k refl
-by_infix Or k = opening right (Here (Quoted (codes "|"))) refl (seen_next k) ⟫ entering ⟫ taking right k refl
-by_infix Xor k = opening right (Here (Quoted (codes "^"))) refl (seen_next k) ⟫ entering ⟫ taking right k refl
-by_infix Eq k = opening right (Here (Quoted (codes "=="))) refl (seen_next k) ⟫ entering ⟫ taking right k refl
-by_infix Ne k = opening right (Here (Quoted (codes "!="))) refl (seen_next k) ⟫ entering ⟫ taking right k refl
-by_infix Lt k = opening right (Here (Quoted (codes "<"))) refl (seen_next k) ⟫ entering ⟫ taking right k refl
-by_infix Le k = opening right (Here (Quoted (codes "<="))) refl (seen_next k) ⟫ entering ⟫ taking right k refl
-by_infix Gt k = opening right (Here (Quoted (codes ">"))) refl (seen_next k) ⟫ entering ⟫ taking right k refl
-by_infix Ge k = opening right (Here (Quoted (codes ">="))) refl (seen_next k) ⟫ entering ⟫ taking right k refl
+by_infix Add k = opening right (Here (Quoted (codes "+"))) refl (seen k) ⟫ entering ⟫ taking right k refl
+by_infix Sub k = opening right (Here (Quoted (codes "-"))) refl (seen k) ⟫ entering ⟫ taking right k refl
+by_infix And k = opening right (Here (Quoted (codes "&"))) refl (seen k) ⟫ entering ⟫ taking right k refl
+by_infix Or k = opening right (Here (Quoted (codes "|"))) refl (seen k) ⟫ entering ⟫ taking right k refl
+by_infix Xor k = opening right (Here (Quoted (codes "^"))) refl (seen k) ⟫ entering ⟫ taking right k refl
+by_infix Eq k = opening right (Here (Quoted (codes "=="))) refl (seen k) ⟫ entering ⟫ taking right k refl
+by_infix Ne k = opening right (Here (Quoted (codes "!="))) refl (seen k) ⟫ entering ⟫ taking right k refl
+by_infix Lt k = opening right (Here (Quoted (codes "<"))) refl (seen k) ⟫ entering ⟫ taking right k refl
+by_infix Le k = opening right (Here (Quoted (codes "<="))) refl (seen k) ⟫ entering ⟫ taking right k refl
+by_infix Gt k = opening right (Here (Quoted (codes ">"))) refl (seen k) ⟫ entering ⟫ taking right k refl
+by_infix Ge k = opening right (Here (Quoted (codes ">="))) refl (seen k) ⟫ entering ⟫ taking right k refl
 
 pub infix_step : {ts us : Tokens} (op : VTwo) → IsInfix ts us op → Same grammar after_expr (behind_first ∷ []) ts (Non Operand ∷ []) us
 infix_step op p = by_infix op (infix_taken op p)

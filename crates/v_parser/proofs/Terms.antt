@@ -1,5 +1,6 @@
 -- Expressions and operands.
-use Rattle.std.proofs.Common.{◌≡◌, ℕ, min, List, [], ◌∷◌, ◌++◌, codes, refl, ap, sym, ◌∙◌, append_assoc, rules, Vec, Global}
+use Rattle.std.proofs.Common.{◌≡◌, ℕ, min, Result, Ok, Err, IfOk, List, [], ◌∷◌, ◌++◌, codes, refl, ap, sym, ◌∙◌, append_assoc, rules, Vec, Global}
+use Rattle.rb_grammar.specs.declared.stop.Stop.{Stop}
 use Rattle.rb_grammar.specs.Spelling.{At}
 use Rattle.rb_grammar.specs.Readings.{Takes}
 use Rattle.v_design.specs.Lexemes.{Token, Word, Name, Number}
@@ -135,13 +136,20 @@ term_prefixed op x boxed f p o = (Prefixed op o.0, prefix_spans op p then_spans 
 pub term_plain : (x : VExpr) {ts us vs ws xs : Tokens} → us ≡ ts → ReadsOperand us vs x → ws ≡ vs → xs ≡ ws → ReadsTerm ts xs x
 term_plain x e o f g = (Plain o.0, spans_from e (spans_to (g ∙ f) o.1), o.2)
 
-pub term_joined : (op : VTwo) (x y left right : VExpr) {ts us vs ws xs : Tokens} → left ≡ x → right ≡ y → us ≡ ts → ReadsOperand us vs x → IsInfix vs ws op → ReadsOperand ws xs y → IsTerm ts xs (Two op (expr_seen left) (expr_seen right))
-term_joined op x y left right f g e a p b = (Joined op a.0 b.0, spans_from e (a.1 then_spans infix_spans op p then_spans b.1), rw (f, g, a.2, b.2) refl)
+pub term_joined : (op : VTwo) (x y : VExpr) {ts us vs ws xs : Tokens} (r : Result VExpr Stop) → IfOk r (λ e. expr_seen e ≡ Two op (expr_seen x) (expr_seen y)) → us ≡ ts → ReadsOperand us vs x → IsInfix vs ws op → ReadsOperand ws xs y
+    → IfOk r (ReadsTerm ts xs)
+term_joined op x y (Ok e) f g a p b = (Joined op a.0 b.0, spans_from g (a.1 then_spans infix_spans op p then_spans b.1), f ∙ rw (a.2, b.2) refl)
+term_joined op x y (Err stop) f g a p b = tt
 
-pub term_chosen : (x y z test chosen other : VExpr) {ts us vs ws xs ys zs bs : Tokens} {mark colon : At Token} → test ≡ x → chosen ≡ y → other ≡ z → us ≡ ts → ReadsOperand us vs x → ws ≡ vs → Takes grammar (Quoted (codes "?")) ws mark xs → ReadsOperand xs ys y → Takes grammar (Quoted (codes ":")) ys colon zs → ReadsOperand zs bs z
-    → mark.token ≡ quoted "?" → colon.token ≡ quoted ":" → IsTerm ts bs (Pick (expr_seen test) (expr_seen chosen) (expr_seen other))
-term_chosen x y z test chosen other ft fc fo e a f m b c d em ec = (
+pub term_chosen : (x y z : VExpr) {ts us vs ws xs ys : Tokens} {mark colon : At Token} (r : Result VExpr Stop) → IfOk r (λ e. expr_seen e ≡ Pick (expr_seen x) (expr_seen y) (expr_seen z)) → ReadsOperand ts us x → Takes grammar (Quoted (codes "?")) us mark vs
+    → ReadsOperand vs ws y → Takes grammar (Quoted (codes ":")) ws colon xs → ReadsOperand xs ys z → mark.token ≡ quoted "?" → colon.token ≡ quoted ":" → IfOk r (ReadsTerm ts ys)
+term_chosen x y z (Ok e) f a m b c d em ec = (
   Chosen a.0 b.0 d.0,
-  spans_from e (a.1 then_spans spans_from f (spans_is m em then_spans b.1 then_spans spans_is c ec then_spans d.1)),
-  rw (ft, fc, fo, a.2, b.2, d.2) refl,
+  a.1 then_spans spans_is m em then_spans b.1 then_spans spans_is c ec then_spans d.1,
+  f ∙ rw (a.2, b.2, d.2) refl,
 )
+term_chosen x y z (Err stop) f a m b c d em ec = tt
+
+-- an operand, where what was left has been left since
+pub operand_stays : (x : VExpr) {ts us vs ws : Tokens} → us ≡ ts → ReadsOperand us vs x → ws ≡ vs → ReadsOperand ts ws x
+operand_stays x e a f = (a.0, spans_from e (spans_to f a.1), a.2)

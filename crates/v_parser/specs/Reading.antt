@@ -1,10 +1,10 @@
 -- What the functions of the parser take: each relation says what stands between two ends of the tokens.
 use Rattle.std.specs.Str.{bytes_eq}
 use Rattle.std.specs.Prelude.{◌≡◌, ℕ, ◌+◌, Bool, if◌then◌else◌, IsTrue, Option, Some, None, List, [], ◌∷◌, ◌++◌, length, map, codes}
-use Rattle.rb_grammar.specs.Forms.{Non, StopsAt}
+use Rattle.rb_grammar.specs.Forms.{Form, Tok, Non, ◌or◌, Opt, ◌then◌, StopsAt}
 use Rattle.rb_grammar.specs.Readings.{Takes}
 use Rattle.rb_grammar.specs.Spelling.{At, tokens_of}
-use Rattle.v_design.specs.Lexemes.{Token, Word, Name}
+use Rattle.v_design.specs.Lexemes.{Token, Word, Name, Const}
 use Rattle.v_design.specs.declared.design.VOne.{VOne}
 use Rattle.v_design.specs.declared.design.VOne.TheVariants.{Not, All, Any, Odd}
 use Rattle.v_design.specs.declared.design.VTwo.{VTwo}
@@ -20,7 +20,7 @@ use Rattle.rb_base.specs.declared.ports.Dir.{Dir}
 use Rattle.rb_base.specs.declared.ports.Port.{Port}
 use Rattle.rb_base.specs.declared.place.Place.{Place}
 use Rattle.v_syntax.specs.Tokens.{place_at, placed}
-use Rattle.v_syntax.specs.Grammar.{Terminal, Quoted, grammar, Module}
+use Rattle.v_syntax.specs.Grammar.{Terminal, Quoted, Constant, Rule, quoted, id, grammar, Module, Expr, Reset}
 use Rattle.v_syntax.specs.Syntax.{capped, IsStatement, IsSyntax}
 use Rattle.v_syntax.specs.declared.parsed.Event.{Event}
 use Rattle.v_syntax.specs.declared.parsed.Parsed.{Parsed}
@@ -197,6 +197,42 @@ pub record ReadsReset (clock : List ℕ) (place : ℕ) (ts us : List (At Token))
       ≡ tree.quoted "always" ∷ tree.quoted "@" ∷ tree.quoted "(" ∷ tree.quoted "posedge" ∷ Name clock ∷ tail
   pub says : IsStatement s e stmt
   pub at : s.place.0 ≡ place
+
+-- the parts of a statement
+
+-- what takes an expression, and the expression
+abbrev pub transfer : Form Terminal Rule
+transfer = id then quoted "<=" then Non Expr then quoted ";"
+
+abbrev pub equation : Form Terminal Rule
+equation = id then quoted "=" then Non Expr then quoted ";"
+
+abbrev pub ReadsMarked : Token → List (At Token) → List (At Token) → List ℕ → VExpr → Type 0
+ReadsMarked mark ts us to x = (e : Term) × Spans ts us (Name to ∷ mark ∷ (term_tokens e ++ tree.quoted ";" ∷ [])) × (expr_seen x ≡ capped (expr_of e))
+
+-- a block behind its clock, and a reset behind its event and behind its test
+abbrev pub behind_clock : Form Terminal Rule
+behind_clock = quoted ")" then transfer or Non Reset
+
+abbrev pub behind_test : Form Terminal Rule
+behind_test = id then quoted "<=" then Tok Constant then quoted ";" then quoted "else" then transfer
+
+abbrev pub behind_event : Form Terminal Rule
+behind_event = quoted "if" then quoted "(" then Opt (quoted "!") then id then quoted ")" then behind_test
+
+-- the event of a clock, which stands at this place
+pub record ReadsClock (ts us : List (At Token)) (place : Place) (clock : List ℕ) : Type 0 where
+  pub spans : Spans ts us (tree.quoted "always" ∷ tree.quoted "@" ∷ tree.quoted "(" ∷ tree.quoted "posedge" ∷ Name clock ∷ [])
+  pub at : place.0 ≡ place_at ts 0
+
+abbrev pub ReadsEvent : List (At Token) → List (At Token) → Bool → List ℕ → Type 0
+ReadsEvent ts us low pin = Spans ts us (tree.quoted "or" ∷ Word (edge_word low) ∷ Name pin ∷ tree.quoted ")" ∷ [])
+
+abbrev pub ReadsTest : List (At Token) → List (At Token) → Bool → List ℕ → Type 0
+ReadsTest ts us negated test = Spans ts us (tree.quoted "if" ∷ tree.quoted "(" ∷ (negation negated ++ Name test ∷ tree.quoted ")" ∷ []))
+
+abbrev pub ReadsValue : List (At Token) → List (At Token) → List ℕ → (width value : ℕ) → Type 0
+ReadsValue ts us to width value = Spans ts us (Name to ∷ tree.quoted "<=" ∷ Const width value ∷ tree.quoted ";" ∷ [])
 
 -- statements
 pub data ReadsStatements : List (At Token) → List (At Token) → List Stmt → List Event → Type 0 where

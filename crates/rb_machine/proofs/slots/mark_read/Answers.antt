@@ -1,8 +1,14 @@
 use Rattle.std.proofs.Common.{◌≡◌, ◌∙◌, ap, refl, arith, get_or}
 use Rattle.rb_machine.specs.Scene.{no_mark}
 use Rattle.rb_machine.specs.Slots.{no_slot, read_mark}
-use Rattle.rb_machine.proofs.Touching.{slot_fits, touched_all, touched_more}
+use Rattle.rb_machine.proofs.Touching.{slot_fits, slot_view, touched_all, touched_more}
 use Rattle.rb_machine.proofs.slots.mark_read.Goals as goal
+
+pub view_at-view-requires : goal.view_at-view-requires
+view_at-view-requires c =
+    let read = c.deref-slot-items.result.now in
+    let e : read ≡ c.args.word.now.slots = c.deref-slot-items.ensures.value ∙ ap (λ w. w.slots) c.word.view_is in
+    slot_view c.args.block.now c.args.word.now read c.loop-slot.slot-index no_slot c.requires.word e c.loop-slot-test.true
 
 pub loop-slot-preserved : goal.loop-slot-preserved
 loop-slot-preserved c =

@@ -2,9 +2,9 @@ use Rattle.std.proofs.Common.{refl, ap, Err, [], ◌∷◌, append_assoc, append
 use Rattle.rb_grammar.proofs.Following.{◌⟫◌, ◌⟫|◌}
 use Rattle.rb_grammar.proofs.Steps.{entering, taking, missing, calling, calling_stops, halting, passed}
 use Rattle.v_parser.proofs.Firsts.{right}
-use Rattle.v_parser.proofs.Results.{if_ok, on_ok}
+use Rattle.rb_grammar.proofs.Returning.{if_ok, on_ok, then_reads, in_any_case, no_syntax}
 use Rattle.v_parser.proofs.Marks.{prefix_step, operand_step, infix_step, plain_step, choice_step}
-use Rattle.v_parser.proofs.Terms.{term_prefixed, term_plain, term_joined, term_chosen, operand_named, operand_constant, operand_grouped, operand_braced, parts_begun, rest_more, rest_none}
+use Rattle.v_parser.proofs.Terms.{term_prefixed, term_plain, term_joined, term_chosen, operand_stays, operand_named, operand_constant, operand_grouped, operand_braced, parts_begun, rest_more, rest_none}
 use Rattle.v_parser.proofs.cursor.Parser.+expr.Goals as goal
 
 pub expr-returns-in_err-of-clause-stops : goal.expr-returns-in_err-of-clause-stops
@@ -23,10 +23,13 @@ pub expr-returns-in_err-second-clause-stops : goal.expr-returns-in_err-second-cl
 expr-returns-in_err-second-clause-stops t c = λ h. operand_step c.in_default.ensures ⟫ calling right c.in_ok-first.ensures.reads refl ⟫ infix_step c.in-Some-infix.op c.in-Some-infix.ensures ⟫| calling_stops right (c.in_err-second.ensures.stops (ap Err (passed _ _ c.from_residual-in_err-second.ensures.1 h))) refl
 
 pub expr-returns-in-Some-infix-clause-tree : goal.expr-returns-in-Some-infix-clause-tree
-expr-returns-in-Some-infix-clause-tree t c = term_joined c.in-Some-infix.op c.in_ok-first.first c.in_ok-second.second c.in_ok-left.left.value c.in_ok-right.right.value c.in_ok-left.ensures.ok c.in_ok-right.ensures.ok c.in_default.ensures.1 c.in_ok-first.ensures.tree c.in-Some-infix.ensures c.in_ok-second.ensures.tree
+expr-returns-in-Some-infix-clause-tree t c = term_joined c.in-Some-infix.op c.in_ok-first.first c.in_ok-second.second c.two.result c.two.ensures.seen c.in_default.ensures.1 c.in_ok-first.ensures.tree c.in-Some-infix.ensures c.in_ok-second.ensures.tree
 
 pub expr-returns-in-Some-infix-clause-reads : goal.expr-returns-in-Some-infix-clause-reads
-expr-returns-in-Some-infix-clause-reads t c = operand_step c.in_default.ensures ⟫ calling right c.in_ok-first.ensures.reads refl ⟫ infix_step c.in-Some-infix.op c.in-Some-infix.ensures ⟫ calling right c.in_ok-second.ensures.reads refl
+expr-returns-in-Some-infix-clause-reads t c = in_any_case c.two.result (operand_step c.in_default.ensures ⟫ calling right c.in_ok-first.ensures.reads refl ⟫ infix_step c.in-Some-infix.op c.in-Some-infix.ensures ⟫ calling right c.in_ok-second.ensures.reads refl)
+
+pub expr-returns-in-Some-infix-clause-stops : goal.expr-returns-in-Some-infix-clause-stops
+expr-returns-in-Some-infix-clause-stops t c = λ h. absurd (no_syntax c.two.result c.two.ensures.memory h)
 
 pub expr-returns-in_default-eat-clause-tree : goal.expr-returns-in_default-eat-clause-tree
 expr-returns-in_default-eat-clause-tree t c = term_plain c.in_ok-first.first c.in_default.ensures.1 c.in_ok-first.ensures.tree c.in_default-infix.ensures.1 c.in_default-eat.ensures.list
@@ -34,21 +37,32 @@ expr-returns-in_default-eat-clause-tree t c = term_plain c.in_ok-first.first c.i
 pub expr-returns-in_default-eat-clause-reads : goal.expr-returns-in_default-eat-clause-reads
 expr-returns-in_default-eat-clause-reads t c = operand_step c.in_default.ensures ⟫ calling right c.in_ok-first.ensures.reads refl ⟫ plain_step c.in_default-infix.ensures c.in_default-eat.ensures
 
-pub expr-returns-in_err-second-2-clause-stops : goal.expr-returns-in_err-second-2-clause-stops
-expr-returns-in_err-second-2-clause-stops t c = λ h. operand_step c.in_default.ensures ⟫ calling right c.in_ok-first.ensures.reads refl ⟫ choice_step c.in_default-infix.ensures c.in-Some-eat.ensures ⟫| calling_stops right (c.in_err-second-2.ensures.stops (ap Err (passed _ _ c.from_residual-in_err-second-2.ensures.1 h))) refl
-
-pub expr-returns-in_err-_colon-clause-stops : goal.expr-returns-in_err-_colon-clause-stops
-expr-returns-in_err-_colon-clause-stops t c = λ h. operand_step c.in_default.ensures ⟫ calling right c.in_ok-first.ensures.reads refl ⟫ choice_step c.in_default-infix.ensures c.in-Some-eat.ensures ⟫ calling right c.in_ok-second-2.ensures.reads refl ⟫| halting right c.in_err-_colon.ensures.err refl
-
-pub expr-returns-in_err-third-clause-stops : goal.expr-returns-in_err-third-clause-stops
-expr-returns-in_err-third-clause-stops t c = λ h. operand_step c.in_default.ensures ⟫ calling right c.in_ok-first.ensures.reads refl ⟫ choice_step c.in_default-infix.ensures c.in-Some-eat.ensures ⟫ calling right c.in_ok-second-2.ensures.reads refl ⟫ taking right c.in_ok-_colon.ensures.ok refl ⟫| calling_stops right (c.in_err-third.ensures.stops (ap Err (passed _ _ c.from_residual-in_err-third.ensures.1 h))) refl
-
 pub expr-returns-clause-tree : goal.expr-returns-clause-tree
-expr-returns-clause-tree t c = term_chosen c.in_ok-first.first c.in_ok-second-2.second c.in_ok-third.third c.in_ok-test.test.value c.in_ok-chosen.chosen.value c.in_ok-other.other.value c.in_ok-test.ensures.ok c.in_ok-chosen.ensures.ok c.in_ok-other.ensures.ok c.in_default.ensures.1 c.in_ok-first.ensures.tree
-    (c.in_default-infix.ensures.1) c.in-Some-eat.ensures c.in_ok-second-2.ensures.tree c.in_ok-_colon.ensures.ok c.in_ok-third.ensures.tree refl refl
+expr-returns-clause-tree t c = c.choice.ensures.tree _ _ _ (operand_stays c.in_ok-first.first c.in_default.ensures.1 c.in_ok-first.ensures.tree (c.in_default-infix.ensures.1)) c.in-Some-eat.ensures refl
 
 pub expr-returns-clause-reads : goal.expr-returns-clause-reads
-expr-returns-clause-reads t c = operand_step c.in_default.ensures ⟫ calling right c.in_ok-first.ensures.reads refl ⟫ choice_step c.in_default-infix.ensures c.in-Some-eat.ensures ⟫ calling right c.in_ok-second-2.ensures.reads refl ⟫ taking right c.in_ok-_colon.ensures.ok refl ⟫ calling right c.in_ok-third.ensures.reads refl
+expr-returns-clause-reads t c = then_reads _ c.choice.result (operand_step c.in_default.ensures ⟫ calling right c.in_ok-first.ensures.reads refl ⟫ choice_step c.in_default-infix.ensures c.in-Some-eat.ensures) c.choice.ensures.reads
+
+pub expr-returns-clause-stops : goal.expr-returns-clause-stops
+expr-returns-clause-stops t c = λ h. operand_step c.in_default.ensures ⟫ calling right c.in_ok-first.ensures.reads refl ⟫ choice_step c.in_default-infix.ensures c.in-Some-eat.ensures ⟫| c.choice.ensures.stops h
+
+pub choice-returns-in_err-second-clause-stops : goal.choice-returns-in_err-second-clause-stops
+choice-returns-in_err-second-clause-stops t c = λ h. calling_stops right (c.in_err-second.ensures.stops (ap Err (passed _ _ c.from_residual.ensures.1 h))) refl
+
+pub choice-returns-in_err-_colon-clause-stops : goal.choice-returns-in_err-_colon-clause-stops
+choice-returns-in_err-_colon-clause-stops t c = λ h. calling right c.in_ok-second.ensures.reads refl ⟫| halting right c.in_err-_colon.ensures.err refl
+
+pub choice-returns-in_err-third-clause-stops : goal.choice-returns-in_err-third-clause-stops
+choice-returns-in_err-third-clause-stops t c = λ h. calling right c.in_ok-second.ensures.reads refl ⟫ taking right c.in_ok-_colon.ensures.ok refl ⟫| calling_stops right (c.in_err-third.ensures.stops (ap Err (passed _ _ c.from_residual-in_err-third.ensures.1 h))) refl
+
+pub choice-returns-clause-tree : goal.choice-returns-clause-tree
+choice-returns-clause-tree t c = λ m ts us a k e. term_chosen c.args.first c.in_ok-second.second c.in_ok-third.third c.pick.result c.pick.ensures.seen a k c.in_ok-second.ensures.tree c.in_ok-_colon.ensures.ok c.in_ok-third.ensures.tree e refl
+
+pub choice-returns-clause-reads : goal.choice-returns-clause-reads
+choice-returns-clause-reads t c = in_any_case c.pick.result (calling right c.in_ok-second.ensures.reads refl ⟫ taking right c.in_ok-_colon.ensures.ok refl ⟫ calling right c.in_ok-third.ensures.reads refl)
+
+pub choice-returns-clause-stops : goal.choice-returns-clause-stops
+choice-returns-clause-stops t c = λ h. absurd (no_syntax c.pick.result c.pick.ensures.memory h)
 
 pub operand-returns-in-Some-clause-tree : goal.operand-returns-in-Some-clause-tree
 operand-returns-in-Some-clause-tree t c = if_ok c.select.result (λ x s. operand_named c.in-Some.name.text.now c.in-Some.name.place.0 x c.in-Some.ensures s) c.select.ensures.tree

@@ -12,6 +12,9 @@ use Rattle.v_parser.proofs.cursor.Parser.+expr.Given as goal
 abbrev pub decreases-expr : goal.decreases-expr
 decreases-expr l = length l.self.now * 2 + 1
 
+abbrev pub decreases-choice : goal.decreases-choice
+decreases-choice l = length l.self.now * 2 + 1
+
 abbrev pub decreases-operand : goal.decreases-operand
 decreases-operand l = length l.self.now * 2
 

@@ -2,7 +2,6 @@ use Rattle.std.proofs.Common.{refl, ap, ◌∙◌, Err, [], ◌∷◌, ◌++◌,
 use Rattle.rb_grammar.proofs.Following.{◌⟫◌, ◌⟫|◌}
 use Rattle.rb_grammar.proofs.Steps.{entering, taking, calling, calling_stops, halting, passed}
 use Rattle.v_parser.proofs.Firsts.{right}
-use Rattle.v_parser.proofs.Walking.{passing, passing_stops}
 use Rattle.v_parser.proofs.Trees.{module_read, ports_to, statements_to}
 use Rattle.v_parser.proofs.cursor.Parser.module.Goals as goal
 
@@ -24,31 +23,31 @@ returns-in_err-port-clause-stops c = λ h.
 
 pub returns-in_err-more_ports-clause-stops : goal.returns-in_err-more_ports-clause-stops
 returns-in_err-more_ports-clause-stops c = λ h.
-    entering ⟫ taking right c.in_ok-_module.ensures.ok refl ⟫ taking right c.in_ok-name.ensures.ok refl ⟫ taking right c.in_ok-_open.ensures.ok refl ⟫ calling right c.in_ok-port.ensures.reads refl ⟫| passing_stops (c.in_err-more_ports.ensures.stops (ap Err (passed _ _ c.from_residual-in_err-more_ports.ensures.1 h))) refl
+    entering ⟫ taking right c.in_ok-_module.ensures.ok refl ⟫ taking right c.in_ok-name.ensures.ok refl ⟫ taking right c.in_ok-_open.ensures.ok refl ⟫ calling right c.in_ok-port.ensures.reads refl ⟫| calling_stops right (c.in_err-more_ports.ensures.stops (ap Err (passed _ _ c.from_residual-in_err-more_ports.ensures.1 h))) refl
 
 pub returns-in_err-_close-clause-stops : goal.returns-in_err-_close-clause-stops
 returns-in_err-_close-clause-stops c = λ h.
-    entering ⟫ taking right c.in_ok-_module.ensures.ok refl ⟫ taking right c.in_ok-name.ensures.ok refl ⟫ taking right c.in_ok-_open.ensures.ok refl ⟫ calling right c.in_ok-port.ensures.reads refl ⟫ passing c.in_ok-more_ports.ensures.reads refl ⟫| halting right c.in_err-_close.ensures.err refl
+    entering ⟫ taking right c.in_ok-_module.ensures.ok refl ⟫ taking right c.in_ok-name.ensures.ok refl ⟫ taking right c.in_ok-_open.ensures.ok refl ⟫ calling right c.in_ok-port.ensures.reads refl ⟫ calling right c.in_ok-more_ports.ensures.reads refl ⟫| halting right c.in_err-_close.ensures.err refl
 
 pub returns-in_err-_header-clause-stops : goal.returns-in_err-_header-clause-stops
 returns-in_err-_header-clause-stops c = λ h.
-    entering ⟫ taking right c.in_ok-_module.ensures.ok refl ⟫ taking right c.in_ok-name.ensures.ok refl ⟫ taking right c.in_ok-_open.ensures.ok refl ⟫ calling right c.in_ok-port.ensures.reads refl ⟫ passing c.in_ok-more_ports.ensures.reads refl ⟫ taking right c.in_ok-_close.ensures.ok refl ⟫| halting right c.in_err-_header.ensures.err refl
+    entering ⟫ taking right c.in_ok-_module.ensures.ok refl ⟫ taking right c.in_ok-name.ensures.ok refl ⟫ taking right c.in_ok-_open.ensures.ok refl ⟫ calling right c.in_ok-port.ensures.reads refl ⟫ calling right c.in_ok-more_ports.ensures.reads refl ⟫ taking right c.in_ok-_close.ensures.ok refl ⟫| halting right c.in_err-_header.ensures.err refl
 
 pub returns-in_err-decls-clause-stops : goal.returns-in_err-decls-clause-stops
 returns-in_err-decls-clause-stops c = λ h.
-    entering ⟫ taking right c.in_ok-_module.ensures.ok refl ⟫ taking right c.in_ok-name.ensures.ok refl ⟫ taking right c.in_ok-_open.ensures.ok refl ⟫ calling right c.in_ok-port.ensures.reads refl ⟫ passing c.in_ok-more_ports.ensures.reads refl ⟫ taking right c.in_ok-_close.ensures.ok refl ⟫ taking right c.in_ok-_header.ensures.ok refl ⟫| passing_stops (c.in_err-decls.ensures.stops (ap Err (passed _ _ c.from_residual-in_err-decls.ensures.1 h))) refl
+    entering ⟫ taking right c.in_ok-_module.ensures.ok refl ⟫ taking right c.in_ok-name.ensures.ok refl ⟫ taking right c.in_ok-_open.ensures.ok refl ⟫ calling right c.in_ok-port.ensures.reads refl ⟫ calling right c.in_ok-more_ports.ensures.reads refl ⟫ taking right c.in_ok-_close.ensures.ok refl ⟫ taking right c.in_ok-_header.ensures.ok refl ⟫| calling_stops right (c.in_err-decls.ensures.stops (ap Err (passed _ _ c.from_residual-in_err-decls.ensures.1 h))) refl
 
 pub returns-in_err-stmts-clause-stops : goal.returns-in_err-stmts-clause-stops
 returns-in_err-stmts-clause-stops c = λ h.
-    entering ⟫ taking right c.in_ok-_module.ensures.ok refl ⟫ taking right c.in_ok-name.ensures.ok refl ⟫ taking right c.in_ok-_open.ensures.ok refl ⟫ calling right c.in_ok-port.ensures.reads refl ⟫ passing c.in_ok-more_ports.ensures.reads refl ⟫ taking right c.in_ok-_close.ensures.ok refl ⟫ taking right c.in_ok-_header.ensures.ok refl ⟫ passing c.in_ok-decls.ensures.reads refl ⟫| passing_stops (c.in_err-stmts.ensures.stops (ap Err (passed _ _ c.from_residual-in_err-stmts.ensures.1 h))) refl
+    entering ⟫ taking right c.in_ok-_module.ensures.ok refl ⟫ taking right c.in_ok-name.ensures.ok refl ⟫ taking right c.in_ok-_open.ensures.ok refl ⟫ calling right c.in_ok-port.ensures.reads refl ⟫ calling right c.in_ok-more_ports.ensures.reads refl ⟫ taking right c.in_ok-_close.ensures.ok refl ⟫ taking right c.in_ok-_header.ensures.ok refl ⟫ calling right c.in_ok-decls.ensures.reads refl ⟫| calling_stops right (c.in_err-stmts.ensures.stops (ap Err (passed _ _ c.from_residual-in_err-stmts.ensures.1 h))) refl
 
 pub returns-in_err-_end-clause-stops : goal.returns-in_err-_end-clause-stops
 returns-in_err-_end-clause-stops c = λ h.
-    entering ⟫ taking right c.in_ok-_module.ensures.ok refl ⟫ taking right c.in_ok-name.ensures.ok refl ⟫ taking right c.in_ok-_open.ensures.ok refl ⟫ calling right c.in_ok-port.ensures.reads refl ⟫ passing c.in_ok-more_ports.ensures.reads refl ⟫ taking right c.in_ok-_close.ensures.ok refl ⟫ taking right c.in_ok-_header.ensures.ok refl ⟫ passing c.in_ok-decls.ensures.reads refl ⟫ passing c.in_ok-stmts.ensures.reads refl ⟫| halting right c.in_err-_end.ensures.err refl
+    entering ⟫ taking right c.in_ok-_module.ensures.ok refl ⟫ taking right c.in_ok-name.ensures.ok refl ⟫ taking right c.in_ok-_open.ensures.ok refl ⟫ calling right c.in_ok-port.ensures.reads refl ⟫ calling right c.in_ok-more_ports.ensures.reads refl ⟫ taking right c.in_ok-_close.ensures.ok refl ⟫ taking right c.in_ok-_header.ensures.ok refl ⟫ calling right c.in_ok-decls.ensures.reads refl ⟫ calling right c.in_ok-stmts.ensures.reads refl ⟫| halting right c.in_err-_end.ensures.err refl
 
 pub returns-clause-reads : goal.returns-clause-reads
 returns-clause-reads c =
-    entering ⟫ taking right c.in_ok-_module.ensures.ok refl ⟫ taking right c.in_ok-name.ensures.ok refl ⟫ taking right c.in_ok-_open.ensures.ok refl ⟫ calling right c.in_ok-port.ensures.reads refl ⟫ passing c.in_ok-more_ports.ensures.reads refl ⟫ taking right c.in_ok-_close.ensures.ok refl ⟫ taking right c.in_ok-_header.ensures.ok refl ⟫ passing c.in_ok-decls.ensures.reads refl ⟫ passing c.in_ok-stmts.ensures.reads refl ⟫ taking right c.in_ok-_end.ensures.ok refl
+    entering ⟫ taking right c.in_ok-_module.ensures.ok refl ⟫ taking right c.in_ok-name.ensures.ok refl ⟫ taking right c.in_ok-_open.ensures.ok refl ⟫ calling right c.in_ok-port.ensures.reads refl ⟫ calling right c.in_ok-more_ports.ensures.reads refl ⟫ taking right c.in_ok-_close.ensures.ok refl ⟫ taking right c.in_ok-_header.ensures.ok refl ⟫ calling right c.in_ok-decls.ensures.reads refl ⟫ calling right c.in_ok-stmts.ensures.reads refl ⟫ taking right c.in_ok-_end.ensures.ok refl
 
 pub returns-clause-tree : goal.returns-clause-tree
 returns-clause-tree c = λ last. module_read _ c.in_ok-name.name.text.now c.in_ok-name.name.place.0 c.in_ok-port.port c.in_ok-port.place c.more_ports.new.declared.items refl (omega (arith, c.count-size.ensures, c.count.ensures)) c.in_ok-_module.ensures.ok c.in_ok-name.ensures.ok c.in_ok-_open.ensures.ok c.in_ok-port.ensures.tree
