@@ -1,2 +1,4 @@
 pub mod Least
 pub mod Decided
+pub mod Formed
+pub mod First

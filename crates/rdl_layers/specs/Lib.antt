@@ -1,5 +1,6 @@
 pub mod Answers
 pub mod Ranks
+pub mod Formed
 pub mod Forms
 pub mod Meanings
 pub mod Assignments

@@ -3,6 +3,7 @@
 
 mod candidate;
 mod error;
+mod laws;
 mod props;
 mod rank;
 mod related;
@@ -10,6 +11,7 @@ mod setting;
 
 pub use candidate::{Candidate, deciding};
 pub use error::LayerError;
+pub use laws::{first_related_decides, settings_have_forms};
 pub use props::Props;
 pub use rank::Rank;
 pub use related::is_related;

@@ -1,9 +1,8 @@
 -- What follows where no rule on instances fails.
-use Rattle.std.proofs.Common.{◌≡◌, ℕ, Bool, true, false, cond, List, [], ◌∷◌, ◌++◌, length, map, flat_map, take, drop, reverse, bytes_eq, ◌&&◌, Option, None, Some, option_to_list, option_and_then, Contains, ◌⊎◌, inl, inr, refl, sym, ap, subst, ◌∙◌, arith}
+use Rattle.std.proofs.Common.{◌≡◌, ℕ, Bool, true, false, cond, List, [], ◌∷◌, ◌++◌, map, flat_map, take, drop, reverse, bytes_eq, ◌&&◌, Option, None, Some, option_to_list, option_and_then, Contains, ◌⊎◌, inl, inr, refl, sym, ap, subst, ◌∙◌}
 use mathlib.Core.List.{reverse_aux}
 use Rattle.std.specs.Cmp.Lexicographic.{bytes_decides}
 use Rattle.std.specs.List.{AllByRecursion, list_any}
-use Rattle.std.specs.Option.{option_or}
 use Rattle.rb_base.specs.declared.fault.Fault.{Fault}
 use Rattle.rb_base.specs.declared.rule.Rule.TheVariants as rules
 use Rattle.rdl_tree.specs.declared.expr.Name.{Name}
@@ -11,14 +10,13 @@ use Rattle.rdl_tree.specs.declared.item.Def.{Def}
 use Rattle.rdl_tree.specs.declared.item.Item.{Item}
 use Rattle.rdl_tree.specs.declared.item.Source.{Source}
 use Rattle.rdl_tree.specs.declared.node.Elab.{Elab}
-use Rattle.rdl_tree.specs.declared.node.Node.{Node, out-Node}
 use Rattle.rdl_values.specs.Bodies.{Body, Scope, same_name, scope_at, standing, standing_from, component_of}
-use Rattle.rdl_values.specs.Elaborated.{AreTreesOf, node, none, more, IsElab, top_name}
+use Rattle.rdl_values.specs.Elaborated.{AreTreesOf, node, more, top_name}
 use Rattle.rdl_values.specs.Elaboration.{Elaborates}
 use Rattle.rdl_values.specs.Faults.{at_, when}
 use Rattle.rdl_values.specs.Given.{IsGivenBy}
-use Rattle.rdl_values.specs.Instances.{Instance, body, seen_in, signals, top_of, given_by, with_below, most_names, most_nodes, nodes, judged_nodes}
-use Rattle.rdl_values.specs.Phase3.{no_top, bare_assignments, name_of, names_in, twice_defined, of_enums, of_use, of_judged, of_node, first_over, too_many_nodes, failures3, fails3}
+use Rattle.rdl_values.specs.Instances.{Instance, signals, top_of, given_by, with_below, most_names, most_nodes, nodes, judged_nodes}
+use Rattle.rdl_values.specs.Phase3.{no_top, bare_assignments, name_of, names_in, twice_defined, of_enums, of_use, of_judged, of_node, first_over, too_many_nodes, failures3}
 use Rattle.rdl_values.specs.Top.{root, is_addrmap, top_use, is_wanted, top_named, top_at, top_use_of, top_seen}
 use Rattle.rdl_values.specs.Uses.{Use, Seen, seen}
 use Rattle.rdl_values.specs.Values.{nearest}

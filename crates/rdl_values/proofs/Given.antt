@@ -1,19 +1,16 @@
 -- What the nodes of a use have, and that none stand too deep or in a signal.
-use Rattle.std.proofs.Common.{◌≡◌, ◌≢◌, ℕ, zero, suc, ◌+◌, ◌≤◌, ◌<◌, Bool, true, false, not, cond, nat_lt, List, [], ◌∷◌, ◌++◌, length, map, flat_map, Option, None, Some, option_to_list, Result, Ok, Err, refl, sym, ap, subst, ◌∙◌, arith, length-append}
+use Rattle.std.proofs.Common.{◌≡◌, ℕ, Bool, true, false, not, cond, nat_lt, List, [], ◌∷◌, ◌++◌, map, flat_map, Option, None, Some, option_to_list, Ok, Err, refl, subst}
 use Rattle.std.specs.List.{AllByRecursion}
-use Rattle.std.proofs.lemmas.Bool.Decides.{nat_tests}
 use Rattle.rb_base.specs.declared.fault.Fault.{Fault}
 use Rattle.rb_base.specs.declared.rule.Rule.TheVariants as rules
-use Rattle.rdl_tree.specs.declared.item.Kind.{Kind}
-use Rattle.rdl_tree.specs.declared.item.Kind.TheVariants as kind
 use Rattle.rdl_tree.specs.declared.item.Source.{Source}
-use Rattle.rdl_values.specs.Bodies.{Body, Closure, Path, of_signal, below_top, Step, standing, standing_from}
+use Rattle.rdl_values.specs.Bodies.{Body, Closure, below_top, standing}
 use Rattle.rdl_values.specs.Faults.{at_, when, failures}
 use Rattle.rdl_values.specs.Instances.{Instance, kind_of, body, elements, given_by, seen_in, children, signals, top_of, rows, most_names}
-use Rattle.rdl_values.specs.NoNode.{no_node, name_twice, of_closure, of_type, may_hold, is_signal, bad_alias}
+use Rattle.rdl_values.specs.NoNode.{no_node, name_twice, of_closure, of_type, may_hold, bad_alias}
 use Rattle.rdl_values.specs.Parameters.{Bound, bound_of, bad_arguments}
 use Rattle.rdl_values.specs.Parts.{dims_of, bad_parts, bad_array, long_path, is_empty}
-use Rattle.rdl_values.specs.Paths.{Parent, nowhere, at_root, in_node, path_in, depth_in}
+use Rattle.rdl_values.specs.Paths.{at_root, in_node, depth_in}
 use Rattle.rdl_values.specs.Top.{root, top_seen, top_use_of}
 use Rattle.rdl_values.specs.Uses.{Use, Seen, seen, uses, parent_of}
 use Rattle.rdl_values.specs.Given.{IsGivenBy}

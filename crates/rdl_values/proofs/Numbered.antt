@@ -1,5 +1,5 @@
 -- Nodes of the tree stand in the list of nodes at their numbers.
-use Rattle.std.proofs.Common.{◌≡◌, ℕ, zero, suc, ◌+◌, ◌≤◌, ◌<◌, Bool, true, false, nat_lt, List, [], ◌∷◌, ◌++◌, length, flat_map, drop, get_or, slice_get, Contains, Option, None, Some, refl, sym, ap, subst, ◌∙◌, arith, length-append, append_assoc, append-nil}
+use Rattle.std.proofs.Common.{◌≡◌, ℕ, zero, suc, ◌+◌, ◌≤◌, ◌<◌, true, false, nat_lt, List, [], ◌∷◌, ◌++◌, length, flat_map, drop, get_or, slice_get, Contains, Option, None, Some, refl, sym, ap, subst, ◌∙◌, arith, length-append, append_assoc, append-nil}
 use Rattle.std.specs.List.{AllByRecursion}
 use Rattle.std.proofs.lemmas.Bool.Decides.{nat_tests}
 use Rattle.rdl_tree.specs.declared.item.Kind.{Kind}
@@ -11,8 +11,8 @@ use Rattle.rdl_values.specs.Bodies.{Path, Step, of_signal, below_top}
 use Rattle.rdl_values.specs.Elaborated.{Says, IsTreeOf, AreTreesOf, node, none, more, IsElab, IsNodeOf, signal, top, below}
 use Rattle.rdl_values.specs.Instances.{Instance, kind_of, children, signals, top_of, with_below, nodes, most_names}
 use Rattle.rdl_values.specs.NoNode.{may_hold, is_signal, holds}
-use Rattle.rdl_values.specs.Paths.{in_node, at_root, path_in, depth_in}
-use Rattle.rdl_values.proofs.Given.{each-append, each-imp, IsChildOf, IsAtRoot, held, shallow, children-given, signals-given, tops-given}
+use Rattle.rdl_values.specs.Paths.{in_node, path_in, depth_in}
+use Rattle.rdl_values.proofs.Given.{each-imp, IsChildOf, IsAtRoot, held, shallow, children-given, signals-given, tops-given}
 
 -- so many levels below the node are all: of a signal at the root none
 abbrev At : Path → ℕ → Instance → Type 0

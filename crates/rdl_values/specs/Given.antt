@@ -1,5 +1,5 @@
 -- What a node of a use has.
-use Rattle.std.specs.Prelude.{◌≡◌, ℕ, Bool, true, List, Some, Ok}
+use Rattle.std.specs.Prelude.{◌≡◌, ℕ, true, List, Some, Ok}
 use Rattle.rdl_values.specs.Instances.{Instance}
 use Rattle.rdl_values.specs.NoNode.{no_node}
 use Rattle.rdl_values.specs.Parameters.{bound_of}

@@ -9,5 +9,8 @@ mod operators;
 mod wanted;
 
 pub use constants::eval;
-pub use laws::{clean_source, lists_merge, name_decides_the_top, nodes_are_given, nodes_are_numbered, none_fails, over_the_count, sorted_once};
+pub use laws::{
+    clean_source, lists_merge, name_decides_the_top, nodes_are_given, nodes_are_numbered,
+    none_fails, over_the_count, sorted_once,
+};
 pub use wanted::{as_type, number_of, start_of};

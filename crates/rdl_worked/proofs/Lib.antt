@@ -2,6 +2,8 @@ pub mod Addresses
 pub mod AddressesSources
 pub mod BlockSources
 pub mod Blocks
+pub mod Further
+pub mod FurtherSources
 pub mod Instances
 pub mod InstancesSources
 pub mod InstancesTree

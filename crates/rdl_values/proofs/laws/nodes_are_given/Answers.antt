@@ -1,5 +1,4 @@
-use Rattle.rdl_tree.specs.declared.item.Source.{Source}
-use Rattle.rdl_values.specs.Instances.{Instance, children, signals}
+use Rattle.rdl_values.specs.Instances.{children, signals}
 use Rattle.rdl_values.proofs.Given.{each-imp, children-given, signals-given}
 use Rattle.rdl_values.proofs.laws.nodes_are_given.Goals as goal
 
