@@ -21,7 +21,7 @@ use rb_grammar::Stop;
 use rdl_tree::{Def, Insts, Item, Kind, Mark, Name, Terminal, TokenKind};
 
 /// What an item is that begins with a name.
-#[derive(Clone, Copy, Debug, PartialEq, Eq)]
+#[derive(Clone, Copy)]
 pub enum Role {
     Made,
     Local,
