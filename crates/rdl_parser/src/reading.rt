@@ -175,8 +175,10 @@ fn tree<'a>(arena: &'a Bump, src: &'a [u8]) -> Result<&'a Source<'a>, ParseError
 {
     let tokens = tokens(arena, src)?;
     let items = items(arena, tokens, Place(src.len() as u32))?;
-    let source = arena.try_alloc(Source { items })?;
-    Ok(source)
+    match arena.try_alloc(Source { items }) {
+        Ok(source) => Ok(source),
+        Err(_) => Err(ParseError::NoMemory),
+    }
 }
 
 /// The tree of a source of fewer than 2^32 - 1 bytes (SystemRDL 2.0, annex B), in the arena. Its names are slices of the
