@@ -71,7 +71,3 @@ only_memory text (Err NoMemory) a h = refl
 only_memory text (Err (Lex f)) a h = absurd (accepted_has_none text (Lex f) a (h (λ e. cc)))
 only_memory text (Err (Syntax place rule)) a h = absurd (accepted_has_none text (Syntax place rule) a (h (λ e. cc)))
 only_memory text (Err (TooDeep place)) a h = absurd (accepted_has_none text (TooDeep place) a (h (λ e. cc)))
-
-pub memory_alone : {X : Type 0} (text : List ℕ) (r : Result X ParseError) → IfErr r (λ e. e ≡ NoMemory) → IfErr r (λ e. e ≢ NoMemory → HasError text e)
-memory_alone text (Ok x) h = tt
-memory_alone text (Err e) h = λ n. absurd (n h)

@@ -1,6 +1,6 @@
 -- Operators: what they are in the grammar, and that operands are joined as tightly as they bind.
-use Rattle.std.proofs.Common.{◌≡◌, ℕ, ◌+◌, ◌≤◌, Some, Result, Ok, Err, OnOk, List, [], ◌∷◌, refl, sym, subst, arith, inl, inr, lit≤}
-use Rattle.std.proofs.lemmas.Bool.{both_ways, cases_lt}
+use Rattle.std.proofs.Common.{◌≡◌, ℕ, ◌+◌, ◌≤◌, true, None, Some, Result, Ok, Err, OnOk, List, [], ◌∷◌, slice_get, refl, ap, sym, ◌∙◌, subst, arith, inl, inr, lit≤}
+use Rattle.std.proofs.lemmas.Bool.{both_ways, cases_Bool, cases_lt}
 use Rattle.rb_base.specs.declared.place.Place.{Place}
 use Rattle.rb_grammar.specs.declared.stop.Stop.{Stop}
 use Rattle.rb_grammar.specs.Forms.{Non}
@@ -16,6 +16,10 @@ use Rattle.rdl_tree.specs.declared.token.Mark.{Mark}
 use Rattle.rdl_tree.specs.declared.token.Mark.TheVariants as marks
 use Rattle.rdl_tree.specs.declared.token.Terminal.TheVariants as terminals
 use Rattle.rdl_tree.specs.declared.token.Token.{Token}
+use Rattle.rdl_tree.specs.declared.token.TokenKind.{TokenKind}
+use Rattle.rdl_tree.specs.declared.token.TokenKind.TheVariants as kinds
+use Rattle.rdl_tree.specs.Tokens.{same, terminal_of}
+use Rattle.rdl_tree.proofs.Spellings.{one_mark}
 use Rattle.rdl_tree.specs.Grammar.{Rule, grammar}
 use Rattle.rdl_tree.specs.Grammar as rules
 use Rattle.rdl_tree.specs.Tree.{IsMark, operator_of, level, DerivesBinary, operand, joined}
@@ -105,3 +109,22 @@ join least most ts us vs ws op place x y e l h m p d n = (level op, h.tight, sub
 
     tree : DerivesBinary (level op) ts ws (expr.Binary op p.first p.second place)
     tree = subst (λ z. DerivesBinary (level op) ts ws (expr.Binary op p.first p.second z)) (sym h.at) (joined h.is (omega arith) left h.stands right_side)
+
+-- The next token is no operator that binds so tightly.
+
+pub loose_end : (least : ℕ) (ts : List Token) → None ≡ slice_get ts 0 → IsLooser least ts
+loose_end least [] e = λ m o f l. refl
+loose_end least (t ∷ ts) e = cc
+
+same_mark : (m : Mark) (k : TokenKind) → same (terminals.Mark m) (terminal_of k) ≡ true → k ≡ kinds.Mark m
+same_mark m (kinds.Mark n) e = ap kinds.Mark (sym (one_mark m n e))
+same_mark m kinds.Word e = cc
+same_mark m (kinds.Number n) e = cc
+same_mark m kinds.Str e = cc
+same_mark m (kinds.Reserved k) e = cc
+
+pub loose_at : (least : ℕ) (ts : List Token) (t : Token) → Some t ≡ slice_get ts 0 → ((m : Mark) (o : Op) → t.kind ≡ kinds.Mark m → operator_of m ≡ Some o → least ≤ level o → ⊥) → IsLooser least ts
+loose_at least [] t e n = cc
+loose_at least (u ∷ us) t e n = λ m o f l.
+    let h : t ≡ u = cc in
+    elim (cases_Bool (at grammar (terminals.Mark m) (u ∷ us))) [ inl p ↦ absurd (n m o (same_mark m t.kind (ap (λ (z : Token). same (terminals.Mark m) (terminal_of z.kind)) h ∙ p)) f l) | inr p ↦ p ]

@@ -21,7 +21,7 @@ use rb_grammar::Stop;
 use rdl_tree::{Def, Insts, Item, Kind, Mark, Name, Terminal, TokenKind};
 
 /// What an item is that begins with a name.
-#[derive(Clone, Copy, Debug, PartialEq, Eq)]
+#[derive(Clone, Copy)]
 pub enum Role {
     Made,
     Local,
@@ -126,8 +126,10 @@ impl<'a> Parser<'a> {
         ensures reads { OnOk result (Same grammar [] (assigned ∷ mark marks.Semicolon ∷ []) self.old [] self.new) }
         ensures stops { result ≡ Err Stop.Syntax → Stops grammar [] (assigned ∷ mark marks.Semicolon ∷ []) self.old self.new }
     {
-        let set = self.set_from(name, name.place)?;
-        Ok(Item::Local(set))
+        match self.set_from(name, name.place) {
+            Ok(set) => Ok(Item::Local(set)),
+            Err(stop) => Err(stop),
+        }
     }
 
     // An assignment to an instance below, behind the first name of its path.
@@ -165,8 +167,10 @@ impl<'a> Parser<'a> {
         ensures reads { OnOk result (Same grammar [] (Non rules.Local ∷ []) self.old [] self.new) }
         ensures stops { result ≡ Err Stop.Syntax → Stops grammar [] (Non rules.Local ∷ []) self.old self.new }
     {
-        let set = self.local(place)?;
-        Ok(Item::Default(set))
+        match self.local(place) {
+            Ok(set) => Ok(Item::Default(set)),
+            Err(stop) => Err(stop),
+        }
     }
 
     // A local assignment.
@@ -176,8 +180,10 @@ impl<'a> Parser<'a> {
         ensures reads { OnOk result (Same grammar [] (Non rules.Local ∷ []) self.old [] self.new) }
         ensures stops { result ≡ Err Stop.Syntax → Stops grammar [] (Non rules.Local ∷ []) self.old self.new }
     {
-        let set = self.set()?;
-        Ok(Item::Local(set))
+        match self.set() {
+            Ok(set) => Ok(Item::Local(set)),
+            Err(stop) => Err(stop),
+        }
     }
 
     // An item that is no component and is not "internal".

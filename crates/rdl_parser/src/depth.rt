@@ -13,7 +13,7 @@ use std::marker::Model;
 pub const MOST: usize = 64;
 
 /// What a token does to the depth.
-#[derive(Clone, Copy, Debug, PartialEq, Eq)]
+#[derive(Clone, Copy)]
 pub enum Effect {
     Opens,
     Closes,
@@ -28,7 +28,7 @@ pub enum Effect {
 }
 
 /// An expression: its operators outside its inner brackets, and whether a `?` waits for its `:`.
-#[derive(Clone, Copy, Debug, PartialEq, Eq)]
+#[derive(Clone, Copy)]
 pub struct Level {
     pub operators: usize,
     pub waits: bool,

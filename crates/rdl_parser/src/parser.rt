@@ -15,7 +15,7 @@ use rdl_tree::{Mark, Name, Terminal, Token, TokenKind};
 use std::marker::Model;
 
 /// Reserved words of one sort.
-#[derive(Clone, Copy, Debug, PartialEq, Eq)]
+#[derive(Clone, Copy)]
 pub enum Sort {
     /// What a component is.
     Kind,

@@ -167,14 +167,6 @@ fn items<'a>(
     }
 }
 
-// A source with these items, in the arena.
-fn source<'a>(arena: &'a Bump, items: &'a [Item<'a>]) -> Result<&'a Source<'a>, ParseError>
-    ensures is { IfOk result (λ s. s.now.items.now ≡ items.now) }
-    ensures error { IfErr result (λ e. e ≡ ParseError.NoMemory) }
-{
-    Ok(arena.try_alloc(Source { items })?)
-}
-
 // The tree of a source, or its error.
 fn tree<'a>(arena: &'a Bump, src: &'a [u8]) -> Result<&'a Source<'a>, ParseError>
     requires { length src.now < 2 ^ 32 - 1 }
@@ -183,7 +175,10 @@ fn tree<'a>(arena: &'a Bump, src: &'a [u8]) -> Result<&'a Source<'a>, ParseError
 {
     let tokens = tokens(arena, src)?;
     let items = items(arena, tokens, Place(src.len() as u32))?;
-    source(arena, items)
+    match arena.try_alloc(Source { items }) {
+        Ok(source) => Ok(source),
+        Err(_) => Err(ParseError::NoMemory),
+    }
 }
 
 /// The tree of a source of fewer than 2^32 - 1 bytes (SystemRDL 2.0, annex B), in the arena. Its names are slices of the

@@ -1,10 +1,10 @@
-use Rattle.std.proofs.Common.{ap, Err}
-use Rattle.rb_grammar.proofs.Steps.{passed}
+use Rattle.std.proofs.Common.{◌≡◌, Err, ap}
+use Rattle.rb_grammar.specs.declared.stop.Stop.TheVariants.{Syntax}
 use Rattle.rdl_parser.proofs.Items.{local_tree}
 use Rattle.rdl_parser.proofs.parser.Parser.local_from.Goals as goal
 
-pub returns-in_err-set-clause-stops : goal.returns-in_err-set-clause-stops
-returns-in_err-set-clause-stops c = λ h. c.in_err-set.ensures.stops (ap Err (passed _ _ c.from_residual.ensures.1 h))
+pub returns-in-Ok-clause-tree : goal.returns-in-Ok-clause-tree
+returns-in-Ok-clause-tree c = λ ts n. local_tree n c.in-Ok.ensures.tree
 
-pub returns-clause-tree : goal.returns-clause-tree
-returns-clause-tree c = λ ts n. local_tree n c.in_ok-set.ensures.tree
+pub returns-in-Err-clause-stops : goal.returns-in-Err-clause-stops
+returns-in-Err-clause-stops c = λ h. let e : c.in-Err.stop ≡ Syntax = cc in c.in-Err.ensures.stops (ap Err e)
