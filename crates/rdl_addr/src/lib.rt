@@ -6,5 +6,5 @@ mod laws;
 mod map;
 
 pub use error::AddrError;
-pub use laws::rounding_is_least;
+pub use laws::{layout_covers, rounding_is_least};
 pub use map::Map;

@@ -18,7 +18,7 @@ use Rattle.rdl_props.specs.declared.form.Form.TheVariants as form
 use Rattle.rdl_props.specs.declared.prop.Prop.{Prop}
 use Rattle.rdl_props.specs.declared.prop.Prop.TheVariants as prop
 use Rattle.rdl_props.specs.Same.{same_prop}
-use Rattle.rdl_props.specs.Table.{takes_of, default_of, group_of}
+use Rattle.rdl_props.specs.Table.{props, reference_props, takes_of, default_of, group_of}
 use Rattle.rdl_values.specs.Bodies.{Scope, standing, around}
 use Rattle.rdl_values.specs.Instances.{Instance, body}
 use Rattle.rdl_values.specs.Uses.{Use, values}
@@ -302,3 +302,19 @@ pub setting_formed : (n : Instance) (p : Prop) → IsOfForm (takes_of p) (settin
 unfolding setting
 setting_formed n prop.Accesswidth = setting_or_formed (setting_or (meaning_of_default (default_of prop.Regwidth)) n prop.Regwidth) n prop.Accesswidth (setting_or_formed (meaning_of_default (default_of prop.Regwidth)) n prop.Regwidth (default_formed prop.Regwidth))
 setting_formed n p = setting_or_formed (meaning_of_default (default_of p)) n p (default_formed p)
+
+-- References.
+
+no_reference : (f : Form) (p : Path) (item : Option Name) (scope : Scope) (place : Place) → takes_reference f ≡ false → IsOfForm f (reference p item scope place) → ⊥
+no_reference form.Refer p item scope place e h = cc
+no_reference form.FlagRefer p item scope place e h = cc
+no_reference form.NumberRefer p item scope place e h = cc
+no_reference form.FlagNumberRefer p item scope place e h = cc
+no_reference f p item scope place e h = h
+
+pub never_reference : (n : Instance) (p : Prop) (q : Path) (item : Option Name) (scope : Scope) (place : Place) → takes_reference (takes_of p) ≡ false → setting n p ≡ reference q item scope place → ⊥
+never_reference n p q item scope place e s = no_reference (takes_of p) q item scope place e (subst (IsOfForm (takes_of p)) s (setting_formed n p))
+
+pub references_listed : filter (λ p. takes_reference (takes_of p)) props ≡ reference_props
+unfolding props reference_props
+references_listed = refl

@@ -11,7 +11,7 @@ mod setting;
 
 pub use candidate::{Candidate, deciding};
 pub use error::LayerError;
-pub use laws::{first_related_decides, settings_have_forms};
+pub use laws::{first_related_decides, references_stand_where_taken, settings_have_forms};
 pub use props::Props;
 pub use rank::Rank;
 pub use related::is_related;

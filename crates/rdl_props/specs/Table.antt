@@ -116,6 +116,10 @@ row prop.Encode = entry (codes "encode") (only kind.Field) form.EnumName unset N
 unfoldable pub props : List Prop
 props = prop.Name ∷ prop.Desc ∷ prop.DontTest ∷ prop.DontCompare ∷ prop.Addressing ∷ prop.Lsb0 ∷ prop.Littleendian ∷ prop.Regwidth ∷ prop.Accesswidth ∷ prop.Signalwidth ∷ prop.Sync ∷ prop.Async ∷ prop.Activehigh ∷ prop.Activelow ∷ prop.FieldReset ∷ prop.Fieldwidth ∷ prop.Sw ∷ prop.Hw ∷ prop.Reset ∷ prop.Resetsignal ∷ prop.Onwrite ∷ prop.Woset ∷ prop.Woclr ∷ prop.Onread ∷ prop.Rclr ∷ prop.Rset ∷ prop.Swwe ∷ prop.Swwel ∷ prop.We ∷ prop.Wel ∷ prop.Next ∷ prop.Hwset ∷ prop.Hwclr ∷ prop.Hwenable ∷ prop.Hwmask ∷ prop.Anded ∷ prop.Ored ∷ prop.Xored ∷ prop.Swmod ∷ prop.Swacc ∷ prop.Singlepulse ∷ prop.Precedence ∷ prop.Counter ∷ prop.Overflow ∷ prop.Underflow ∷ prop.Incr ∷ prop.Decr ∷ prop.Incrvalue ∷ prop.Incrwidth ∷ prop.Decrvalue ∷ prop.Decrwidth ∷ prop.Incrsaturate ∷ prop.Decrsaturate ∷ prop.Incrthreshold ∷ prop.Decrthreshold ∷ prop.Intr ∷ prop.Sticky ∷ prop.Stickybit ∷ prop.Enable ∷ prop.Mask ∷ prop.Haltenable ∷ prop.Haltmask ∷ prop.Encode ∷ []
 
+-- those that a reference may be assigned to, in the order of the table: all are a field's
+unfoldable pub reference_props : List Prop
+reference_props = prop.Resetsignal ∷ prop.Swwe ∷ prop.Swwel ∷ prop.We ∷ prop.Wel ∷ prop.Next ∷ prop.Hwset ∷ prop.Hwclr ∷ prop.Hwenable ∷ prop.Hwmask ∷ prop.Incr ∷ prop.Decr ∷ prop.Incrvalue ∷ prop.Decrvalue ∷ prop.Incrsaturate ∷ prop.Decrsaturate ∷ prop.Incrthreshold ∷ prop.Decrthreshold ∷ prop.Enable ∷ prop.Mask ∷ prop.Haltenable ∷ prop.Haltmask ∷ []
+
 -- saturate and threshold are short for incrsaturate and incrthreshold (SystemRDL 2.0, 9.8.2)
 abbrev pub in_full : List ℕ → List ℕ
 in_full name =

@@ -9,7 +9,7 @@ use Rattle.rdl_tree.specs.declared.item.Kind.TheVariants as kind
 use Rattle.rdl_tree.specs.declared.item.Source.{Source}
 use Rattle.rdl_props.specs.declared.prop.Prop.{Prop}
 use Rattle.rdl_props.specs.declared.prop.Prop.TheVariants as prop
-use Rattle.rdl_props.specs.Table.{props, find_prop}
+use Rattle.rdl_props.specs.Table.{reference_props, find_prop}
 use Rattle.rdl_values.specs.Verdict.{Fails}
 use Rattle.rdl_values.specs.Uses.{when, at_}
 use Rattle.rdl_values.specs.Instances.{Instance, kind_of, nodes, is_empty}
@@ -106,7 +106,7 @@ bad_reference all p _ = []
 
 -- all failures of R1 and R2, of the settings that are references
 unfoldable pub failures_r : Option (List ℕ) → Source → List Fault
-failures_r wanted s = flat_map (λ n. flat_map (λ p. bad_reference (nodes wanted s) p (setting n p)) props) (nodes wanted s)
+failures_r wanted s = flat_map (λ n. flat_map (λ p. bad_reference (nodes wanted s) p (setting n p)) reference_props) (nodes wanted s)
 
 abbrev pub fails_r : Option (List ℕ) → Source → Fails
 fails_r wanted s r p = Contains (failures_r wanted s) (at_ r p)

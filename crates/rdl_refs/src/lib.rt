@@ -4,9 +4,11 @@
 mod circle;
 mod error;
 mod item;
+mod laws;
 mod refs;
 
 pub use circle::OrderError;
 pub use error::RefError;
 pub use item::{ItemOf, What};
+pub use laws::all_references;
 pub use refs::Refs;

@@ -12,7 +12,7 @@ use Rattle.rdl_layers.specs.Settings.{Meaning, reference, setting}
 use Rattle.rdl_layers.specs.Phase4.{width_of}
 use Rattle.rdl_refs.specs.declared.item.What.{What}
 use Rattle.rdl_refs.specs.declared.item.What.TheVariants as what
-use Rattle.rdl_props.specs.Table.{props}
+use Rattle.rdl_props.specs.Table.{reference_props}
 use Rattle.rdl_refs.specs.Items.{Item, target}
 use Rattle.rdl_refs.specs.Follows.{is_missing, is_in_alias}
 use Rattle.rdl_rules.specs.Fields.{is_field_reset}
@@ -77,4 +77,4 @@ abbrev pub second_reset : List Instance → List Fault
 second_reset ns = flat_map (λ n. at_node rules.R8 n.1 (list_any is_field_reset n.0 && is_field_reset n.1)) (standing ns)
 
 abbrev pub of_references : List Instance → Instance → List Fault
-of_references all n = flat_map (bad_target all n) props ++ wide_reset all n
+of_references all n = flat_map (bad_target all n) reference_props ++ wide_reset all n

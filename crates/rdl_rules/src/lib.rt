@@ -2,5 +2,7 @@
 #![tactic(auto)]
 
 mod error;
+mod laws;
 
 pub use error::CheckError;
+pub use laws::all_targets;

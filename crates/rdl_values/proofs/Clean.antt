@@ -16,6 +16,7 @@ use Rattle.rdl_values.specs.Elaboration.{Elaborates}
 use Rattle.rdl_values.specs.Faults.{at_, when}
 use Rattle.rdl_values.specs.Given.{IsGivenBy}
 use Rattle.rdl_values.specs.Instances.{Instance, signals, top_of, given_by, with_below, most_names, most_nodes, nodes, judged_nodes}
+use Rattle.rdl_values.specs.NoNode.{no_node}
 use Rattle.rdl_values.specs.Phase3.{no_top, bare_assignments, name_of, names_in, twice_defined, of_enums, of_use, of_judged, of_node, first_over, too_many_nodes, failures3}
 use Rattle.rdl_values.specs.Top.{root, is_addrmap, top_use, is_wanted, top_named, top_at, top_use_of, top_seen}
 use Rattle.rdl_values.specs.Uses.{Use, Seen, seen}
@@ -134,9 +135,13 @@ differ_from before (n ∷ ns) e =
 pub names_differ : (uses : List Seen) (b : Body) → of_judged uses b ≡ [] → NamesDiffer (names_in b.items)
 names_differ uses b e = differ_from [] (names_in b.items) (nil_left (twice_defined b) (of_enums b) (nil_left (twice_defined b ++ of_enums b) (flat_map of_use uses) e))
 
+-- a body's uses give their nodes where nothing fails in it
+pub uses_clean : (us : List Seen) (b : Body) → of_judged us b ≡ [] → AllByRecursion (λ u. no_node u ≡ []) us
+uses_clean us b e = each-imp (λ u. of_use u ≡ []) (λ u. no_node u ≡ []) us (λ u h. nil_left (no_node u) _ h) (nil_each of_use us (nil_right (twice_defined b ++ of_enums b) (flat_map of_use us) e))
+
 -- The top's name decides which definition is the top.
 
-abbrev Somewhere : {X : Type 0} → (X → Type 0) → List X → Type 0
+abbrev pub Somewhere : {X : Type 0} → (X → Type 0) → List X → Type 0
 Somewhere P [] = ⊥
 Somewhere P (x ∷ xs) = P x ⊎ Somewhere P xs
 
@@ -149,14 +154,14 @@ unreversed_onto P (x ∷ xs) ys h = go (unreversed_onto P xs (x ∷ ys) h)
     go (inr (inl k)) = inl (inl k)
     go (inr (inr k)) = inr k
 
-unreversed : {X : Type 0} (P : X → Type 0) (xs : List X) → Somewhere P (reverse xs) → Somewhere P xs
+pub unreversed : {X : Type 0} (P : X → Type 0) (xs : List X) → Somewhere P (reverse xs) → Somewhere P xs
 unreversed P xs h = go (unreversed_onto P xs [] h)
   where
     go : Somewhere P xs ⊎ ⊥ → Somewhere P xs
     go (inl k) = k
     go (inr k) = absurd k
 
-nearest_is : {X Y : Type 0} (f : X → Option Y) (xs : List X) (y : Y) → nearest f xs ≡ Some y → Somewhere (λ x. f x ≡ Some y) xs
+pub nearest_is : {X Y : Type 0} (f : X → Option Y) (xs : List X) (y : Y) → nearest f xs ≡ Some y → Somewhere (λ x. f x ≡ Some y) xs
 nearest_is f [] y e = cc
 nearest_is {Y = Y} f (x ∷ xs) y e = go (f x) refl (nearest_is f xs y)
   where

@@ -5,3 +5,5 @@ pub mod Given
 pub mod Numbered
 pub mod Sorted
 pub mod Clean
+pub mod Around
+pub mod Rows

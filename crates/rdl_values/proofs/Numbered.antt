@@ -15,11 +15,11 @@ use Rattle.rdl_values.specs.Paths.{in_node, path_in, depth_in}
 use Rattle.rdl_values.proofs.Given.{each-imp, IsChildOf, IsAtRoot, held, shallow, children-given, signals-given, tops-given}
 
 -- so many levels below the node are all: of a signal at the root none
-abbrev At : Path → ℕ → Instance → Type 0
+abbrev pub At : Path → ℕ → Instance → Type 0
 At (of_signal t) k n = is_signal (kind_of n) ≡ true
 At (below_top ss) k n = 31 ≤ length ss + k
 
-abbrev Deep : ℕ → Instance → Type 0
+abbrev pub Deep : ℕ → Instance → Type 0
 Deep k n = At n.path k n
 
 not_held : (n c : Instance) (t : Step) → n.path ≡ of_signal t → is_signal (kind_of n) ≡ true → IsChildOf n c → ⊥
@@ -38,12 +38,12 @@ too_deep n c ss e l h =
     let at : nat_lt most_names (length ss + 2) ≡ false = subst (λ p. nat_lt most_names (depth_in (in_node p (kind_of n))) ≡ false) e no in
     grind (arith, l, at, nat_tests)
 
-empty_of_none : (P : Instance → Type 0) (ns : List Instance) → ((n : Instance) → P n → ⊥) → AllByRecursion P ns → ns ≡ []
+pub empty_of_none : (P : Instance → Type 0) (ns : List Instance) → ((n : Instance) → P n → ⊥) → AllByRecursion P ns → ns ≡ []
 empty_of_none P [] never h = refl
 empty_of_none P (n ∷ ns) never h = absurd (never n h.0)
 
 -- nothing stands in the body of a node that deep
-bottom : (n : Instance) → Deep 0 n → children n ≡ []
+pub bottom : (n : Instance) → Deep 0 n → children n ≡ []
 bottom n d = by n.path refl d
   where
     by : (p : Path) → n.path ≡ p → At p 0 n → children n ≡ []
@@ -54,7 +54,7 @@ child_path : (n c : Instance) (ss : List Step) → n.path ≡ below_top ss → (
 child_path n c ss e h = h.given_.path_is ∙ ap (λ p. path_in p (record { name = h.by.use_.name.text.now; index = h.given_.index })) (h.in_body ∙ ap (λ p. in_node p (kind_of n)) e)
 
 -- below a node there is one level less
-lower : (k : ℕ) (n : Instance) → Deep (suc k) n → AllByRecursion (Deep k) (children n)
+pub lower : (k : ℕ) (n : Instance) → Deep (suc k) n → AllByRecursion (Deep k) (children n)
 lower k n d = by n.path refl d
   where
     child : (ss : List Step) → n.path ≡ below_top ss → 31 ≤ length ss + suc k → (c : Instance) → IsChildOf n c → Deep k c
@@ -68,7 +68,7 @@ lower k n d = by n.path refl d
     by (of_signal t) e d = subst (AllByRecursion (Deep k)) (sym (empty_of_none (IsChildOf n) (children n) (λ c h. not_held n c t e d h) (children-given n))) tt
     by (below_top ss) e d = each-imp (IsChildOf n) (Deep k) (children n) (child ss e d) (children-given n)
 
-tops_deep : (wanted : Option (List ℕ)) (s : Source) → AllByRecursion (Deep most_names) (top_of wanted s)
+pub tops_deep : (wanted : Option (List ℕ)) (s : Source) → AllByRecursion (Deep most_names) (top_of wanted s)
 tops_deep wanted s = each-imp (λ n. n.path ≡ below_top []) (Deep most_names) (top_of wanted s) (λ n e. let deep : At (below_top []) most_names n = omega arith in subst (λ p. At p most_names n) (sym e) deep) (tops-given wanted s)
 
 signals_deep : (s : Source) → AllByRecursion (Deep 0) (signals s)

@@ -19,3 +19,5 @@ pub mod Verdict
 pub mod Views
 pub mod Visible
 pub mod Given
+pub mod Scopes
+pub mod Rows

@@ -1,6 +1,6 @@
 //! What the definitions of instances determine.
 
-ghost use Rattle.std.specs.Prelude.{◌≡◌, ◌≢◌, ℕ, ◌≤◌, ◌<◌, Bool, List, [], ◌++◌, length, Contains, IsPermutation, IsSorted, Option, Some, slice_get};
+ghost use Rattle.std.specs.Prelude.{◌≡◌, ◌≢◌, ℕ, ◌≤◌, ◌<◌, Bool, List, [], ◌∷◌, ◌++◌, length, map, Contains, IsPermutation, IsSorted, Option, Some, slice_get};
 ghost use Rattle.std.specs.Cmp.{IsEquivalence};
 ghost use Rattle.std.specs.List.{AllByRecursion, dedup};
 ghost use Rattle.std.specs.Ordering.{eq_by_cmp};
@@ -13,7 +13,11 @@ ghost use Rattle.rdl_values.specs.Elaborated.{IsElab, IsNodeOf, Says, measured, 
 ghost use Rattle.rdl_values.specs.Faults.{at_};
 ghost use Rattle.rdl_values.specs.Verdict.{IsListOf, in_order};
 ghost use Rattle.rdl_values.specs.Given.{IsGivenBy};
-ghost use Rattle.rdl_values.specs.Instances.{Instance, children, judged_nodes, kind_of, most_nodes, nodes, signals};
+ghost use Rattle.rdl_values.specs.Instances.{Instance, children, judged_nodes, kind_of, most_nodes, nodes, rows, signals, upto};
+ghost use Rattle.rdl_values.specs.Bodies.{Body};
+ghost use Rattle.rdl_values.specs.NoNode.{no_node};
+ghost use Rattle.rdl_values.specs.Rows.{product, row};
+ghost use Rattle.rdl_values.specs.Scopes.{AreScopesIn};
 ghost use Rattle.rdl_values.specs.Paths.{at_root, in_node};
 ghost use Rattle.rdl_values.specs.Uses.{Seen, seen};
 ghost use Rattle.rdl_values.specs.Phase3.{failures3, of_judged, of_node, too_many_nodes};
@@ -65,10 +69,21 @@ pub fn name_decides_the_top()
     ensures tree { (wanted : Option (List ℕ)) (s : Source) (e : Elab) → Elaborates wanted s e → Elaborates (Some (top_name e)) s e }
 {}
 
-/// Where no rule on instances fails, nothing fails of the root's body, of the body of any node that is judged, and no node is
-/// over the limit.
+/// Where no rule on instances fails, nothing fails of the root's body, of the body of any node that is judged, so that each use
+/// in them gives its nodes; and no node is over the limit.
 pub fn clean_source()
     ensures root_ { (wanted : Option (List ℕ)) (s : Source) → failures3 wanted s ≡ [] → of_judged (seen [] (root s)) (root s) ≡ [] }
     ensures nodes_ { (wanted : Option (List ℕ)) (s : Source) → failures3 wanted s ≡ [] → AllByRecursion (λ n. of_node n ≡ []) (judged_nodes wanted s) }
+    ensures uses { (us : List Seen) (b : Body) → of_judged us b ≡ [] → AllByRecursion (λ u. no_node u ≡ []) us }
     ensures few { (wanted : Option (List ℕ)) (s : Source) → failures3 wanted s ≡ [] → too_many_nodes wanted s ≡ [] }
+{}
+
+/// The bodies round a definition's text are the root's and those of nodes above, each seen from behind items at its front.
+pub fn scopes_are_bodies()
+    ensures { (wanted : Option (List ℕ)) (s : Source) → AllByRecursion (λ n. AreScopesIn (root s ∷ n.above) n.closure.scope) (nodes wanted s) }
+{}
+
+/// The elements of an array in order, the last index fastest, are those of the numbers from 0 on.
+pub fn rows_by_number()
+    ensures { (dims : List ℕ) → rows dims ≡ map (row dims) (upto (product dims)) }
 {}
