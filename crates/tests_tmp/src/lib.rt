@@ -1,0 +1,5 @@
+//! A larger module.
+#![tactic(auto)]
+
+#[cfg(test)]
+mod larger;
