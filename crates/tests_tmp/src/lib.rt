@@ -1,5 +1,0 @@
-//! A larger module.
-#![tactic(auto)]
-
-#[cfg(test)]
-mod larger;
