@@ -1,15 +1,15 @@
-pub mod Numbers
-pub mod Settling
-pub mod Compiling
-pub mod Concatenating
-pub mod Sizes
-pub mod Places
-pub mod Stepping
-pub mod Knowing
+mod Numbers
+mod Settling
+mod Compiling
+mod Concatenating
+mod Sizes
+mod Places
+mod Stepping
+mod Knowing
 pub mod Facts
-pub mod Ordering
-pub mod Stages
-pub mod Standing
-pub mod Readying
-pub mod Statements
-pub mod Programs
+mod Ordering
+mod Stages
+mod Standing
+mod Readying
+mod Statements
+mod Programs

@@ -55,6 +55,7 @@ impl Program {
         let outputs = places_in(alloc, &known, design.outputs())?;
         let registers = places_in(alloc, &moves, kept)?;
         let Listing { operations, .. } = listing;
+        // The same holds of all places.
         let Some(total) = first.checked_add(operations.len()) else {
             return Err(NoMemory);
         };

@@ -49,7 +49,8 @@ impl Sim {
     ghost use Rattle.cyc_sim.specs.Accepted.{IsAccepted};
     ghost use Rattle.cyc_sim.specs.Simulation.{IsSimOf, StepsTo, held, input_count, output_count};
 
-    /// A simulation of an accepted module, the registers of which contain these numbers, in order of declaration.
+    /// A simulation of an accepted module, the registers of which contain these numbers, in order of declaration. The only
+    /// error is want of memory.
     pub fn new(alloc: Global, design: &Design, start: &[u128]) -> Result<Sim, NoMemory>
         requires accepted { IsAccepted (module_seen design.now) }
         requires start { FitsPins (registers (module_seen design.now)) start.now }

@@ -59,7 +59,7 @@ impl MemShelf {
     ghost use Rattle.rb_edge.specs.MemShelf.{files_of, course, faults_of, start, Adds};
 
     /// A shelf with no file. Reading fails at the calls that `fails` numbers, the first call
-    /// being 0.
+    /// being 0. The only error is want of memory.
     pub fn new(alloc: Global, fails: &[u64]) -> Result<MemShelf, NoMemory>
         ensures empty { IfOk result (λ shelf. (name : List ℕ) → files_of shelf name ≡ None) }
         ensures course { IfOk result (λ shelf. course shelf ≡ start fails.now) }
@@ -75,7 +75,7 @@ impl MemShelf {
         })
     }
 
-    /// Adds a file of a name that no file has. After an error the files are those before.
+    /// Adds a file of a name that no file has. The only error is want of memory, after which the files are those before.
     pub fn put(&mut self, name: &str, bytes: &[u8]) -> Result<(), NoMemory>
         requires { files_of self.old name.now ≡ None }
         ensures added { OnOk result

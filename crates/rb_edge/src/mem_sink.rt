@@ -27,6 +27,7 @@ impl MemSink {
 
     /// An empty sink, with the memory for all its room. A call takes at most `most` bytes, all
     /// calls take `room` bytes, and the calls that `fails` numbers fail, the first call being 0.
+    /// The only error is want of memory.
     pub fn new(alloc: Global, most: usize, room: usize, fails: &[u64]) -> Result<MemSink, NoMemory>
         requires { 0 < most }
         ensures { IfOk result (λ sink. held sink ≡ start most room fails.now) }

@@ -292,7 +292,7 @@ fn push_fields(
 }
 
 /// The ports of a block's module, in order: those of an APB slave, the pins of its signals, the pins and outputs of its
-/// fields, the pins of its aliases, and the outputs of its registers.
+/// fields, the pins of its aliases, and the outputs of its registers. Widths are in bits. The only error is want of memory.
 pub fn ports(alloc: Global, block: &Block) -> Result<Vec<Port>, NoMemory>
     requires { IsSound block.now }
     ensures { IfOk result (λ all. all.items ≡ spec.ports block.now) }

@@ -1,6 +1,6 @@
-pub mod Rows
-pub mod CompleteRuns
-pub mod Causes
-pub mod Headlines
-pub mod Within
-pub mod Simulations
+mod Rows
+mod CompleteRuns
+mod Causes
+mod Headlines
+mod Within
+mod Simulations

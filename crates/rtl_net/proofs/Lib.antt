@@ -5,24 +5,24 @@ pub mod NodeLists
 pub mod Nets
 pub mod Places
 pub mod Added
-pub mod Seating
+mod Seating
 pub mod Making
 pub mod Widths
-pub mod Tying
+mod Tying
 pub mod Calls
-pub mod Named
+mod Named
 pub mod Numbers
 pub mod Values
-pub mod Joining
-pub mod Renaming
+mod Joining
+mod Renaming
 pub mod Distinct
-pub mod Others
-pub mod Copying
-pub mod CopySteps
+mod Others
+mod Copying
+mod CopySteps
 mod Slots
-pub mod DriveSteps
-pub mod ShowSteps
-pub mod Grafting
+mod DriveSteps
+mod ShowSteps
+mod Grafting
 pub mod Pins
 pub mod OneRun
 pub mod HasRun

@@ -130,7 +130,7 @@ fn add_register(
 impl Netlist {
     ghost use Rattle.rtl_net.specs.Adds.{AddsNode, AddsWire, folded};
 
-    /// A netlist of no nodes and no ports, of a module of this name.
+    /// A netlist of no nodes and no ports, of a module of this name. The only error is want of memory.
     pub fn new(alloc: Global, name: &[u8]) -> Result<Self, NoMemory>
         requires { IsTrue (is_identifier name.now) }
         ensures { IfOk result (λ net. net ≡ record { name = name.now; nodes = []; seats = [] }) }
@@ -183,7 +183,8 @@ impl Netlist {
         self.nodes.widths()[id.0].max(1)
     }
 
-    /// Puts a port at the end, which a later input or output of the name and width takes.
+    /// Puts a port at the end, which a later input or output of the name and width takes. The width is in bits (1 to 128).
+    /// The only error is want of memory, after which the netlist is as it was.
     pub fn seat(&mut self, name: &[u8], width: u8) -> Result<(), NoMemory>
         requires named { IsTrue (is_net_name name.now) }
         requires new { IsNew self.old name.now }
@@ -198,7 +199,8 @@ impl Netlist {
         Ok(())
     }
 
-    /// Adds an input of this width in bits, at its seat or at a port that is put at the end. `PCLK` is the clock.
+    /// Adds an input of this width in bits (1 to 128), at its seat or at a port that is put at the end. `PCLK` is the clock.
+    /// The only error is want of memory, after which the netlist is as it was.
     pub fn input(&mut self, name: &[u8], width: u8) -> Result<Id, NoMemory>
         requires named { IsTrue (is_net_name name.now) }
         requires free { IsFree self.old name.now width }
@@ -220,7 +222,8 @@ impl Netlist {
         Ok(id)
     }
 
-    /// Adds a register of this width in bits, which is still to be driven.
+    /// Adds a register of this width in bits (1 to 128), which is still to be driven. The only error is want of memory,
+    /// after which the netlist is as it was.
     pub fn register(&mut self, name: &[u8], width: u8, reset: NetReset) -> Result<Id, NoMemory>
         requires named { IsTrue (is_net_name name.now) }
         requires new { IsNew self.old name.now }
@@ -249,7 +252,7 @@ impl Netlist {
         Ok(id)
     }
 
-    /// Ties a register to the node that it takes at each edge.
+    /// Ties a register to the node that it takes at each edge. Takes no memory.
     pub fn drive(&mut self, reg: Id, next: Id)
         requires { CanDrive self.old reg next }
         ensures older { Extends self.old self.new }
@@ -264,7 +267,8 @@ impl Netlist {
         self.nodes.tie(reg, next);
     }
 
-    /// Adds an output that shows a node, at its seat or at a port that is put at the end.
+    /// Adds an output that shows a node, at its seat or at a port that is put at the end. The only error is want of memory,
+    /// after which the netlist is as it was.
     pub fn output(&mut self, name: &[u8], from: Id) -> Result<(), NoMemory>
         requires named { IsTrue (is_net_name name.now) }
         requires stands { Has self.old from }
@@ -282,7 +286,8 @@ impl Netlist {
         Ok(())
     }
 
-    /// The node of an expression: the one that stands, or a new one.
+    /// The node of an expression: the one that stands, or a new one. The only error is want of memory, after which the
+    /// netlist is as it was.
     pub fn wire(&mut self, expr: NetExpr) -> Result<Id, NoMemory>
         requires { CanWire self.old expr }
         ensures older { Grows self.old self.new }
@@ -301,7 +306,8 @@ impl Netlist {
         Ok(id)
     }
 
-    /// The node of an expression's value: a constant where all operands are constants, and else that of `wire`.
+    /// The node of an expression's value: a constant where all operands are constants, and else that of `wire`. The only
+    /// error is want of memory, after which the netlist is as it was.
     pub fn fold(&mut self, expr: NetExpr) -> Result<Id, NoMemory>
         requires { CanWire self.old expr }
         ensures older { Grows self.old self.new }

@@ -1,2 +1,2 @@
-pub mod Runs
-pub mod Tables
+mod Runs
+mod Tables

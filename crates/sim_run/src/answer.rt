@@ -18,7 +18,7 @@ use v_reader::read;
 use v_syntax::VError;
 
 /// The run of a module from zeros over a table of pin values, as text: the names of its outputs as a line, and a line of
-/// numbers for each vector. The bytes of the module are fewer than 2^32 - 1.
+/// numbers for each vector. The bytes of the module are fewer than 2^32 - 1. After want of memory there is no text.
 pub fn simulate(alloc: Global, verilog: &[u8], stimulus: &[u8]) -> Result<Vec<u8>, SimError>
     requires { length verilog.now < 2 ^ 32 - 1 }
     ensures ok { IfOk result (λ text. IsSimulated verilog.now stimulus.now text.items) }

@@ -1,8 +1,8 @@
-pub mod RecordsLeft
-pub mod FirstProblem
-pub mod Cutting
-pub mod Widths
-pub mod Positions
-pub mod Headers
-pub mod Rows
+mod RecordsLeft
+mod FirstProblem
+mod Cutting
+mod Widths
+mod Positions
+mod Headers
+mod Rows
 pub mod Fitting

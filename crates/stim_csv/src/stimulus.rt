@@ -103,7 +103,7 @@ impl Stimulus {
     ///
     /// The header is judged first, its columns from the left; then missing pins, in the order of the pins; then the
     /// rows in order. In a row the number of rows is judged first, then the number of cells, then the cells from the
-    /// left.
+    /// left. Want of memory may be answered in place of the table or of a problem.
     pub fn read(
         alloc: Global,
         bytes: &[u8],

@@ -1,11 +1,11 @@
-pub mod Exprs
-pub mod Tables
-pub mod Finding
-pub mod Sizing
-pub mod Driving
-pub mod Looping
-pub mod Spelled
-pub mod Faults
-pub mod Capping
+mod Exprs
+mod Tables
+mod Finding
+mod Sizing
+mod Driving
+mod Looping
+mod Spelled
+mod Faults
+mod Capping
 pub mod Forming
-pub mod Parts
+mod Parts

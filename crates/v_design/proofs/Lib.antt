@@ -5,7 +5,7 @@ pub mod TreeText
 pub mod Names
 pub mod Nets
 pub mod Steps
-pub mod OneRun
+mod OneRun
 pub mod HasRun
 pub mod Constants
 pub mod ValuesFit

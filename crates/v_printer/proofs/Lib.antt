@@ -1,17 +1,17 @@
-pub mod Writing
-pub mod Choices
-pub mod Tokens
-pub mod Laying
-pub mod Sections
-pub mod Places
-pub mod Entries
-pub mod Words
-pub mod Printable
-pub mod Nested
-pub mod Named
-pub mod Nodes
-pub mod Terms
-pub mod Sound
-pub mod Driven
-pub mod Runs
-pub mod Whole
+mod Writing
+mod Choices
+mod Tokens
+mod Laying
+mod Sections
+mod Places
+mod Entries
+mod Words
+mod Printable
+mod Nested
+mod Named
+mod Nodes
+mod Terms
+mod Sound
+mod Driven
+mod Runs
+mod Whole

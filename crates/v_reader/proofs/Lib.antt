@@ -1,9 +1,9 @@
-pub mod Scanning
-pub mod Placed
-pub mod Nesting
-pub mod Uncapped
-pub mod Answering
+mod Scanning
+mod Placed
+mod Nesting
+mod Uncapped
+mod Answering
 pub mod Verdicts
-pub mod Within
-pub mod Few
-pub mod Results
+mod Within
+mod Few
+mod Results
