@@ -307,8 +307,10 @@ impl<'a> Parser<'a> {
         ensures reads { OnOk result (Same grammar [] (Non rules.Item ∷ []) self.old [] self.new) }
         ensures stops { result ≡ Err Stop.Syntax → Stops grammar [] (Non rules.Item ∷ []) self.old self.new }
     {
-        let item = self.item()?;
-        add(items, item)
+        match self.item() {
+            Ok(item) => add(items, item),
+            Err(stop) => Err(stop),
+        }
     }
 
     // item = component | enum | made | default | local | dynamic .
