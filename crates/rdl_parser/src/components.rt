@@ -142,8 +142,10 @@ impl<'a> Parser<'a> {
         let target = self.path_from(name)?;
         let _arrow = self.expect(Mark::Arrow)?;
         let prop = self.prop()?;
-        let set = self.set_from(prop, name.place)?;
-        Ok(Item::Dynamic { target, set })
+        match self.set_from(prop, name.place) {
+            Ok(set) => Ok(Item::Dynamic { target, set }),
+            Err(stop) => Err(stop),
+        }
     }
 
     // What follows the name that an item begins with.

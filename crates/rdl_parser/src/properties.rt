@@ -173,8 +173,10 @@ impl<'a> Parser<'a> {
     {
         let name = self.expect_name()?;
         let _open = self.expect(Mark::OpenBrace)?;
-        let entries = self.entries()?;
-        Ok(Item::EnumDef { name, entries })
+        match self.entries() {
+            Ok(entries) => Ok(Item::EnumDef { name, entries }),
+            Err(stop) => Err(stop),
+        }
     }
 
     // { entry } "}" ";" .
