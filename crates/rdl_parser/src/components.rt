@@ -142,8 +142,10 @@ impl<'a> Parser<'a> {
         let target = self.path_from(name)?;
         let _arrow = self.expect(Mark::Arrow)?;
         let prop = self.prop()?;
-        let set = self.set_from(prop, name.place)?;
-        Ok(Item::Dynamic { target, set })
+        match self.set_from(prop, name.place) {
+            Ok(set) => Ok(Item::Dynamic { target, set }),
+            Err(stop) => Err(stop),
+        }
     }
 
     // What follows the name that an item begins with.
@@ -307,8 +309,10 @@ impl<'a> Parser<'a> {
         ensures reads { OnOk result (Same grammar [] (Non rules.Item ∷ []) self.old [] self.new) }
         ensures stops { result ≡ Err Stop.Syntax → Stops grammar [] (Non rules.Item ∷ []) self.old self.new }
     {
-        let item = self.item()?;
-        add(items, item)
+        match self.item() {
+            Ok(item) => add(items, item),
+            Err(stop) => Err(stop),
+        }
     }
 
     // item = component | enum | made | default | local | dynamic .

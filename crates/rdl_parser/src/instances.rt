@@ -133,8 +133,10 @@ impl<'a> Parser<'a> {
         ensures reads { OnOk result (Same grammar after_inst (Non rules.Inst ∷ []) self.old [] self.new) }
         ensures stops { result ≡ Err Stop.Syntax → Stops grammar after_inst (Non rules.Inst ∷ []) self.old self.new }
     {
-        let inst = self.inst()?;
-        add(list, inst)
+        match self.inst() {
+            Ok(inst) => add(list, inst),
+            Err(stop) => Err(stop),
+        }
     }
 
     // arg = "." name "(" expr ")" .
@@ -186,8 +188,10 @@ impl<'a> Parser<'a> {
         ensures reads { OnOk result (Same grammar [] (Non rules.Arg ∷ []) self.old [] self.new) }
         ensures stops { result ≡ Err Stop.Syntax → Stops grammar [] (Non rules.Arg ∷ []) self.old self.new }
     {
-        let arg = self.arg()?;
-        add(list, arg)
+        match self.arg() {
+            Ok(arg) => add(list, arg),
+            Err(stop) => Err(stop),
+        }
     }
 
     /// insts = [ args ] instlist .
@@ -271,7 +275,9 @@ impl<'a> Parser<'a> {
         ensures reads { OnOk result (Same grammar (after_behind marks.Equals) (Non rules.Param ∷ []) self.old [] self.new) }
         ensures stops { result ≡ Err Stop.Syntax → Stops grammar (after_behind marks.Equals) (Non rules.Param ∷ []) self.old self.new }
     {
-        let param = self.param()?;
-        add(list, param)
+        match self.param() {
+            Ok(param) => add(list, param),
+            Err(stop) => Err(stop),
+        }
     }
 }

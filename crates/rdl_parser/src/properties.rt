@@ -144,8 +144,10 @@ impl<'a> Parser<'a> {
         ensures reads { OnOk result (Same grammar [] (Non rules.Local ∷ []) self.old [] self.new) }
         ensures stops { result ≡ Err Stop.Syntax → Stops grammar [] (Non rules.Local ∷ []) self.old self.new }
     {
-        let set = self.set()?;
-        add(sets, set)
+        match self.set() {
+            Ok(set) => add(sets, set),
+            Err(stop) => Err(stop),
+        }
     }
 
     // entry = name [ "=" expr ] [ "{" { local } "}" ] ";" .
@@ -171,8 +173,10 @@ impl<'a> Parser<'a> {
     {
         let name = self.expect_name()?;
         let _open = self.expect(Mark::OpenBrace)?;
-        let entries = self.entries()?;
-        Ok(Item::EnumDef { name, entries })
+        match self.entries() {
+            Ok(entries) => Ok(Item::EnumDef { name, entries }),
+            Err(stop) => Err(stop),
+        }
     }
 
     // { entry } "}" ";" .
@@ -199,7 +203,9 @@ impl<'a> Parser<'a> {
         ensures reads { OnOk result (Same grammar [] (Non rules.Entry ∷ []) self.old [] self.new) }
         ensures stops { result ≡ Err Stop.Syntax → Stops grammar [] (Non rules.Entry ∷ []) self.old self.new }
     {
-        let entry = self.entry()?;
-        add(entries, entry)
+        match self.entry() {
+            Ok(entry) => add(entries, entry),
+            Err(stop) => Err(stop),
+        }
     }
 }

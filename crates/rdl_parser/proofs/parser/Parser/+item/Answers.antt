@@ -1,4 +1,5 @@
-use Rattle.std.proofs.Common.{[], ◌∷◌, refl, ap, sym, ◌∙◌, length, arith, Err, append-nil, append_assoc}
+use Rattle.std.proofs.Common.{◌≡◌, [], ◌∷◌, refl, ap, sym, ◌∙◌, length, arith, Err, append-nil, append_assoc}
+use Rattle.rb_grammar.specs.declared.stop.Stop.TheVariants.{Syntax}
 use Rattle.rb_grammar.proofs.Following.{◌⟫◌, ◌⟫|◌}
 use Rattle.rb_grammar.proofs.Barring.{Without}
 use Rattle.rb_grammar.proofs.Steps.{entering, staying, opening, taking, missing, calling, calling_stops, halting, passed}
@@ -94,20 +95,20 @@ body-more-preserved t c = let a = c.in_ok-add_item.ensures.tree in record {
   shorter = omega (arith, ap length c.in_default.ensures.list, c.in_ok-add_item.ensures.shorter, c.more.invariant.shorter);
 }
 
-pub add_item-returns-in_err-item-clause-stops : goal.add_item-returns-in_err-item-clause-stops
-add_item-returns-in_err-item-clause-stops t c = λ h. c.in_err-item.ensures.stops (ap Err (passed _ _ c.from_residual.ensures.1 h))
+pub add_item-returns-in-Err-clause-stops : goal.add_item-returns-in-Err-clause-stops
+add_item-returns-in-Err-clause-stops t c = λ h. let e : c.in-Err.stop ≡ Syntax = cc in c.in-Err.ensures.stops (ap Err e)
 
-pub add_item-returns-clause-tree : goal.add_item-returns-clause-tree
-add_item-returns-clause-tree t c = adding _ _ _ _ c.in_ok-item.ensures.tree c.add.ensures.items
+pub add_item-returns-in-Ok-clause-tree : goal.add_item-returns-in-Ok-clause-tree
+add_item-returns-in-Ok-clause-tree t c = adding _ _ _ _ c.in-Ok.ensures.tree c.add.ensures.items
 
-pub add_item-returns-clause-shorter : goal.add_item-returns-clause-shorter
-add_item-returns-clause-shorter t c = in_any_case _ c.in_ok-item.ensures.shorter
+pub add_item-returns-in-Ok-clause-shorter : goal.add_item-returns-in-Ok-clause-shorter
+add_item-returns-in-Ok-clause-shorter t c = in_any_case _ c.in-Ok.ensures.shorter
 
-pub add_item-returns-clause-reads : goal.add_item-returns-clause-reads
-add_item-returns-clause-reads t c = in_any_case _ c.in_ok-item.ensures.reads
+pub add_item-returns-in-Ok-clause-reads : goal.add_item-returns-in-Ok-clause-reads
+add_item-returns-in-Ok-clause-reads t c = in_any_case _ c.in-Ok.ensures.reads
 
-pub add_item-returns-clause-stops : goal.add_item-returns-clause-stops
-add_item-returns-clause-stops t c = λ h. absurd (no_syntax _ c.add.ensures.memory h)
+pub add_item-returns-in-Ok-clause-stops : goal.add_item-returns-in-Ok-clause-stops
+add_item-returns-in-Ok-clause-stops t c = λ h. absurd (no_syntax _ c.add.ensures.memory h)
 
 pub item-returns-in-Some-clause-tree : goal.item-returns-in-Some-clause-tree
 item-returns-in-Some-clause-tree t c = c.internal_item.ensures.tree _ _ c.in-Some.ensures

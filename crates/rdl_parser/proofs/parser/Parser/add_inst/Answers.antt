@@ -1,17 +1,17 @@
-use Rattle.std.proofs.Common.{ap, Err}
-use Rattle.rb_grammar.proofs.Steps.{passed}
+use Rattle.std.proofs.Common.{◌≡◌, Err, ap}
+use Rattle.rb_grammar.specs.declared.stop.Stop.TheVariants.{Syntax}
 use Rattle.rb_grammar.proofs.Returning.{in_any_case, no_syntax}
 use Rattle.rdl_parser.proofs.Phrases.{adding}
 use Rattle.rdl_parser.proofs.parser.Parser.add_inst.Goals as goal
 
-pub returns-in_err-inst-clause-stops : goal.returns-in_err-inst-clause-stops
-returns-in_err-inst-clause-stops c = λ h. c.in_err-inst.ensures.stops (ap Err (passed _ _ c.from_residual.ensures.1 h))
+pub returns-in-Ok-clause-tree : goal.returns-in-Ok-clause-tree
+returns-in-Ok-clause-tree c = adding _ _ _ _ c.in-Ok.ensures.tree c.add.ensures.items
 
-pub returns-clause-tree : goal.returns-clause-tree
-returns-clause-tree c = adding _ _ _ _ c.in_ok-inst.ensures.tree c.add.ensures.items
+pub returns-in-Ok-clause-reads : goal.returns-in-Ok-clause-reads
+returns-in-Ok-clause-reads c = in_any_case _ c.in-Ok.ensures.reads
 
-pub returns-clause-reads : goal.returns-clause-reads
-returns-clause-reads c = in_any_case _ c.in_ok-inst.ensures.reads
+pub returns-in-Ok-clause-stops : goal.returns-in-Ok-clause-stops
+returns-in-Ok-clause-stops c = λ h. absurd (no_syntax _ c.add.ensures.memory h)
 
-pub returns-clause-stops : goal.returns-clause-stops
-returns-clause-stops c = λ h. absurd (no_syntax _ c.add.ensures.memory h)
+pub returns-in-Err-clause-stops : goal.returns-in-Err-clause-stops
+returns-in-Err-clause-stops c = λ h. let e : c.in-Err.stop ≡ Syntax = cc in c.in-Err.ensures.stops (ap Err e)
