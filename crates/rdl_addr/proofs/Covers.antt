@@ -13,9 +13,9 @@ use Rattle.rdl_tree.specs.declared.item.Kind.TheVariants as kind
 use Rattle.rdl_tree.specs.declared.item.Source.{Source}
 use Rattle.rdl_values.specs.Instances.{Instance, kind_of, children, given_by, seen_in, signals, top_of, with_below, most_names, nodes}
 use Rattle.rdl_values.specs.NoNode.{may_hold, holds}
-use Rattle.rdl_values.specs.Bodies.{Closure, Scope, below_top, component_of, scope_at, standing}
+use Rattle.rdl_values.specs.Bodies.{Scope, below_top, component_of, scope_at, standing}
 use Rattle.rdl_values.specs.Given.{IsGivenBy}
-use Rattle.rdl_values.specs.Paths.{in_node, at_root}
+use Rattle.rdl_values.specs.Paths.{at_root}
 use Rattle.rdl_values.specs.Top.{root, is_addrmap, is_wanted, top_use, top_named, top_at, top_use_of, top_seen}
 use Rattle.rdl_values.specs.Uses.{Seen, Use}
 use Rattle.rdl_values.specs.Views.{item_is}
@@ -23,7 +23,7 @@ use Rattle.rdl_values.proofs.Clean.{Somewhere, nearest_is, unreversed}
 use Rattle.rdl_values.proofs.Given.{each-append, each-imp, IsChildOf, IsAtRoot, held, given-all, children-given, signals-given}
 use Rattle.rdl_values.proofs.Numbered.{At, Deep, bottom, lower, empty_of_none}
 use Rattle.rdl_layers.specs.Fields.{is_a}
-use Rattle.rdl_addr.specs.Layout.{Mode, regalign, Group, group, grouped, has_address, mode_in, instances, groups, stride, starts, start, end, elements_from, offsets, size_of, access_of, Placed, placed_from, layout}
+use Rattle.rdl_addr.specs.Layout.{Mode, regalign, Group, group, grouped, has_address, mode_in, groups, stride, starts, start, end, elements_from, offsets, size_of, access_of, Placed, placed_from, layout}
 
 -- Lists.
 

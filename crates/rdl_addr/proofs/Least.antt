@@ -1,5 +1,5 @@
 -- Rounding gives the least multiple and the least power of two.
-use Rattle.std.proofs.Common.{◌≡◌, ◌∙◌, ℕ, zero, suc, ◌+◌, ◌-◌, ◌*◌, ◌/◌, ◌%◌, ◌^◌, ◌<◌, ◌≤◌, ◌==◌, Bool, true, false, cond, nat_le, ◌⊎◌, inl, inr, refl, ap, sym, subst, arith, le_of_lt}
+use Rattle.std.proofs.Common.{◌≡◌, ◌∙◌, ℕ, zero, suc, ◌+◌, ◌-◌, ◌*◌, ◌/◌, ◌%◌, ◌^◌, ◌<◌, ◌≤◌, ◌==◌, Bool, true, false, ◌⊎◌, inl, inr, refl, ap, sym, subst, arith, le_of_lt}
 use Rattle.std.proofs.Math.Nat.{two-pow-succ, mul-mod_right, div-add-mod, mod-lt, mod-eq_of_lt, mod_self, mul-le-mul_left}
 use Rattle.std.proofs.lemmas.Bool.{eq-eqb, le-leb}
 use Rattle.std.proofs.lemmas.Bool.Decides.{nat_tests}

@@ -1,5 +1,5 @@
 -- What addresses are rounded up to.
-use Rattle.std.specs.Prelude.{◌≡◌, ℕ, zero, suc, ◌+◌, ◌-◌, ◌*◌, ◌/◌, ◌<◌, ◌≤◌, ◌%◌, ◌^◌, Bool, true, false, cond, nat_le, ◌==◌}
+use Rattle.std.specs.Prelude.{◌≡◌, ℕ, zero, suc, ◌+◌, ◌-◌, ◌*◌, ◌<◌, ◌≤◌, ◌%◌, ◌^◌, Bool, true, false, nat_le, ◌==◌}
 
 -- What the least number from n on that passes a test is.
 pub record IsLeastFrom (n : ℕ) (test : ℕ → Bool) (x : ℕ) : Type 0 where

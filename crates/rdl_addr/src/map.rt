@@ -11,7 +11,6 @@ pub struct Map<'a> {
 
 impl<'a> Model for Map<'a> {
     ghost use Rattle.rdl_tree.specs.declared.node.Elab.{Elab};
-
     ghost use Rattle.rdl_tree.specs.contracts.expr.Expr as expr;
     ghost use Rattle.rdl_tree.specs.contracts.item.Item as item;
     ghost use Rattle.rdl_tree.specs.contracts.node.Node as node;

@@ -2,7 +2,6 @@
 use Rattle.std.specs.Prelude.{◌≡◌, ◌≢◌, ◌↔◌, ℕ, ◌+◌, List, [], Option, Result, Ok, Err}
 use Rattle.rdl_tree.specs.declared.item.Source.{Source}
 use Rattle.rdl_tree.specs.declared.node.Elab.{Elab}
-use Rattle.rb_base.specs.declared.memory.NoMemory.{NoMemory}
 use Rattle.rdl_values.specs.Elaborated.{measured}
 use Rattle.rdl_values.specs.Elaboration.{Elaborates, Refuses}
 use Rattle.rdl_values.specs.Instances.{most_nodes}

@@ -1,12 +1,12 @@
 -- The assignments that apply to a node stand in the order of their ranks, so the first related one decides.
-use Rattle.std.proofs.Common.{◌≡◌, ℕ, zero, suc, ◌+◌, Bool, true, false, not, ◌&&◌, ◌||◌, nat_lt, ◌==◌, cond, List, [], ◌∷◌, ◌++◌, length, map, flat_map, filter, find, Option, None, Some, option_to_list, Ok, Err, refl, sym, ap, subst, ◌∙◌, arith, length-append, append_assoc}
+use Rattle.std.proofs.Common.{◌≡◌, ℕ, ◌+◌, Bool, true, false, not, ◌&&◌, ◌||◌, nat_lt, ◌==◌, List, [], ◌∷◌, ◌++◌, length, map, flat_map, filter, find, option_to_list, refl, sym, subst, arith, length-append, append_assoc}
 use Rattle.std.specs.List.{AllByRecursion, list_all}
 use Rattle.rdl_props.specs.declared.prop.Prop.{Prop}
 use Rattle.rdl_props.specs.declared.prop.Prop.TheVariants as prop
 use Rattle.rdl_values.specs.Bodies.{Scope, Body, standing, standing_from, around}
 use Rattle.rdl_values.specs.Instances.{Instance, body}
 use Rattle.rdl_values.specs.Uses.{Use}
-use Rattle.rdl_values.specs.Values.{Outcome, number_of}
+use Rattle.rdl_values.specs.Values.{number_of}
 use Rattle.rdl_values.proofs.Given.{each-append, each-map}
 use Rattle.rdl_layers.specs.declared.candidate.Candidate.{Candidate}
 use Rattle.rdl_layers.specs.declared.rank.Rank.{Rank}
@@ -86,10 +86,10 @@ above_rise n before [] = tt
 above_rise n before (b ∷ bs) =
     let deeper : Le (rank.Dynamic (length before)) (rank.Dynamic (length (before ++ (b ∷ [])))) = subst (λ k. Le (rank.Dynamic (length before)) (rank.Dynamic k)) (sym (length-append before (b ∷ []))) (next_depth (length before)) in
     joined (rank.Dynamic (length before)) (rank.Dynamic (length (before ++ (b ∷ [])))) (from_above n (before, b)) (flat_map (from_above n) (standing_from (before ++ (b ∷ [])) bs))
-      (one_rank (rank.Dynamic (length before)) (from_above n (before, b)) (above_rank n (before, b)))
-      (one_up_to (rank.Dynamic (length before)) (rank.Dynamic (length (before ++ (b ∷ [])))) (from_above n (before, b)) deeper (above_rank n (before, b)))
-      deeper
-      (above_rise n (before ++ (b ∷ [])) bs)
+    (one_rank (rank.Dynamic (length before)) (from_above n (before, b)) (above_rank n (before, b)))
+    (one_up_to (rank.Dynamic (length before)) (rank.Dynamic (length (before ++ (b ∷ [])))) (from_above n (before, b)) deeper (above_rank n (before, b)))
+    deeper
+    (above_rise n (before ++ (b ∷ [])) bs)
 
 above_up_to : (n : Instance) (before bs : List Body) → UpTo rank.Instance (flat_map (from_above n) (standing_from before bs))
 above_up_to n before [] = tt
@@ -110,10 +110,10 @@ defaults_rise n k (l ∷ outer) =
     let these = sound (failures_of anywhere) (defaults_before l outer) in
     let own = filter (λ a. legal_on n a.candidate.prop) (flat_map (gives (rank.Default k)) these) in
     joined (rank.Default k) (rank.Default (k + 1)) own (from_defaults n (k + 1) outer)
-      (one_rank (rank.Default k) own (default_rank n k these))
-      (one_up_to (rank.Default k) (rank.Default (k + 1)) own (next_distance k) (default_rank n k these))
-      (next_distance k)
-      (defaults_rise n (k + 1) outer)
+    (one_rank (rank.Default k) own (default_rank n k these))
+    (one_up_to (rank.Default k) (rank.Default (k + 1)) own (next_distance k) (default_rank n k these))
+    (next_distance k)
+    (defaults_rise n (k + 1) outer)
 
 defaults_up_to : (n : Instance) (k : ℕ) (scope : Scope) → UpTo rank.Table (from_defaults n k scope)
 defaults_up_to n k [] = tt

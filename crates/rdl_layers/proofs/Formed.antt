@@ -1,8 +1,7 @@
 -- A setting has the form that its row takes.
-use Rattle.std.proofs.Common.{◌≡◌, ℕ, ◌+◌, length, bytes_eq, codes, Bool, true, false, not, ◌&&◌, cond, is_some, List, [], ◌∷◌, ◌++◌, map, flat_map, filter, find, Option, None, Some, option_map, option_and_then, option_to_list, Result, Ok, Err, refl, sym, ap, subst, ◌∙◌}
+use Rattle.std.proofs.Common.{◌≡◌, ℕ, ◌+◌, length, bytes_eq, codes, Bool, true, false, not, ◌&&◌, cond, is_some, List, [], ◌∷◌, ◌++◌, map, flat_map, filter, find, Option, None, Some, option_map, option_and_then, option_to_list, Ok, Err, refl, sym, subst, ◌∙◌}
 use Rattle.std.specs.List.{AllByRecursion}
 use Rattle.rb_base.specs.declared.edge.Edge.{Edge}
-use Rattle.rb_base.specs.declared.fault.Fault.{Fault}
 use Rattle.rb_base.specs.declared.keyword.Keyword.{Keyword}
 use Rattle.rb_base.specs.declared.keyword.Keyword.TheVariants as word
 use Rattle.rb_base.specs.declared.place.Place.{Place}
@@ -25,15 +24,15 @@ use Rattle.rdl_values.specs.Uses.{Use, values}
 use Rattle.rdl_values.specs.Values.{Val, EnumOf, visible_enum, Outcome, fails, then, or_fails, value_of, bare_name, parameter_of, number_of}
 use Rattle.rdl_values.specs.Values as val
 use Rattle.rdl_values.specs.Views.{steps_of}
-use Rattle.rdl_values.proofs.Given.{each-append, each-flat_map, each-map, each-imp}
+use Rattle.rdl_values.proofs.Given.{each-append, each-map}
 use Rattle.rdl_layers.specs.declared.rank.Rank.{Rank}
 use Rattle.rdl_layers.specs.declared.rank.Rank.TheVariants as rank
-use Rattle.rdl_layers.specs.Assignments.{Nested, Dynamic, locals, defaults_before, dynamics, targets, is_among}
+use Rattle.rdl_layers.specs.Assignments.{Nested, locals, defaults_before, dynamics, targets, is_among}
 use Rattle.rdl_layers.specs.Judged.{failures_of, failures_of_dynamic, legal_on, anywhere, sound}
 use Rattle.rdl_layers.specs.Formed.{IsOfForm}
 use denote.Enum.Bare.{same_true}
 use Rattle.rdl_props.specs.contracts.prop.Prop as of_prop
-use Rattle.rdl_layers.specs.Forms.{Meaning, hard, intr, unset, flag, number, named, enum_of, reference, from_value, from_word, addressing_word, sw_word, hw_word, write_word, read_word, takes_reference, side, level_if, only_true, flag_or_number}
+use Rattle.rdl_layers.specs.Forms.{Meaning, hard, unset, named, enum_of, reference, from_value, from_word, addressing_word, sw_word, hw_word, write_word, read_word, takes_reference, side, level_if, only_true}
 use Rattle.rdl_layers.specs.Meanings.{Assignment, prop_of, meaning, meaning_as, from_given, from_expr, from_edge, from_path, parameter_or_reference, enum_named}
 use Rattle.rdl_layers.specs.Settings.{Applied, applied, given, gives, from_above, from_instance, from_body, from_defaults, applied_to, is_false, settled, settled_if, deciding_of, meaning_of_default, setting_or, setting}
 
@@ -240,8 +239,8 @@ defaults_formed : (n : Instance) (k : ℕ) (scope : Scope) → AllByRecursion Ha
 defaults_formed n k [] = tt
 defaults_formed n k (l ∷ outer) =
     each-append HasForm (filter (λ a. legal_on n a.candidate.prop) (flat_map (gives (rank.Default k)) (sound (failures_of anywhere) (defaults_before l outer)))) (from_defaults n (k + 1) outer)
-      (each-filter HasForm (λ a. legal_on n a.candidate.prop) (flat_map (gives (rank.Default k)) (sound (failures_of anywhere) (defaults_before l outer))) (each-all HasForm (gives (rank.Default k)) (sound (failures_of anywhere) (defaults_before l outer)) (gives_formed (rank.Default k))))
-      (defaults_formed n (k + 1) outer)
+    (each-filter HasForm (λ a. legal_on n a.candidate.prop) (flat_map (gives (rank.Default k)) (sound (failures_of anywhere) (defaults_before l outer))) (each-all HasForm (gives (rank.Default k)) (sound (failures_of anywhere) (defaults_before l outer)) (gives_formed (rank.Default k))))
+    (defaults_formed n (k + 1) outer)
 
 above_formed : (n : Instance) (b : Nested) → AllByRecursion HasForm (from_above n b)
 above_formed n b = each-all HasForm (λ d. gives (rank.Dynamic (length b.0)) d.assigns) (filter (λ d. is_among (targets b d) n) (sound (failures_of_dynamic b) (dynamics b.1))) (λ d. gives_formed (rank.Dynamic (length b.0)) d.assigns)

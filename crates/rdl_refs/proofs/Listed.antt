@@ -1,6 +1,5 @@
 -- Only the properties that take references can hold one.
 use Rattle.std.proofs.Common.{◌≡◌, ◌∙◌, ℕ, Bool, true, false, cond, List, [], ◌∷◌, ◌++◌, flat_map, filter, Option, refl, sym, ap}
-use Rattle.rb_base.specs.declared.fault.Fault.{Fault}
 use Rattle.rb_base.specs.declared.place.Place.{Place}
 use Rattle.rdl_tree.specs.declared.expr.Name.{Name}
 use Rattle.rdl_tree.specs.declared.expr.Path.{Path}
@@ -9,10 +8,10 @@ use Rattle.rdl_props.specs.Table.{props, reference_props, takes_of}
 use Rattle.rdl_props.specs.declared.prop.Prop.{Prop}
 use Rattle.rdl_values.specs.Bodies.{Scope}
 use Rattle.rdl_values.specs.Instances.{Instance, nodes}
-use Rattle.rdl_layers.specs.Forms.{Meaning, unset, flag, number, text, named, intr, hard, enum_of, reference, takes_reference}
+use Rattle.rdl_layers.specs.Forms.{Meaning, reference, takes_reference}
 use Rattle.rdl_layers.specs.Settings.{setting}
 use Rattle.rdl_layers.proofs.Formed.{never_reference, references_listed}
-use Rattle.rdl_refs.specs.Items.{Item, target, bad_reference, failures_r}
+use Rattle.rdl_refs.specs.Items.{target, bad_reference, failures_r}
 
 pub kept : {X Y : Type 0} (f : X → List Y) (t : X → Bool) (xs : List X) → ((x : X) → t x ≡ false → f x ≡ []) → flat_map f (filter t xs) ≡ flat_map f xs
 kept f t [] h = refl

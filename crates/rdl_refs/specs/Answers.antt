@@ -1,5 +1,5 @@
 -- What the calls of this crate answer.
-use Rattle.std.specs.Prelude.{◌≡◌, ℕ, List, [], ◌∷◌, map, Option, None, Some, Result, Ok, Err, slice_get}
+use Rattle.std.specs.Prelude.{◌≡◌, ℕ, List, [], ◌∷◌, Option, None, Some, Result, Ok, Err, slice_get}
 use Rattle.rb_base.specs.declared.fault.Fault.{Fault}
 use Rattle.rb_base.specs.declared.rule.Rule.TheVariants as rules
 use Rattle.rdl_props.specs.declared.prop.Prop.{Prop}

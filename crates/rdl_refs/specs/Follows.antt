@@ -1,5 +1,5 @@
 -- What an item's value is made from, and where references can be followed for ever.
-use Rattle.std.specs.Prelude.{◌≡◌, ℕ, Bool, true, false, not, ◌&&◌, ◌||◌, cond, List, [], ◌∷◌, map, flat_map, filter, Some, slice_get}
+use Rattle.std.specs.Prelude.{◌≡◌, ℕ, Bool, false, not, ◌&&◌, ◌||◌, cond, List, [], ◌∷◌, map, flat_map, filter, Some, slice_get}
 use Rattle.std.specs.List.{list_any, position_or_len}
 use Rattle.rb_base.specs.declared.place.Place.{Place}
 use Rattle.rdl_tree.specs.declared.item.Kind.TheVariants as kind

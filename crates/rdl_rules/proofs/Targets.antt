@@ -1,6 +1,6 @@
 -- Only the properties that take references name items.
-use Rattle.std.proofs.Common.{◌≡◌, ◌∙◌, List, [], ◌++◌, flat_map, ap}
-use Rattle.rdl_props.specs.Table.{props, reference_props}
+use Rattle.std.proofs.Common.{◌≡◌, List, ◌++◌, flat_map, ap}
+use Rattle.rdl_props.specs.Table.{props}
 use Rattle.rdl_values.specs.Instances.{Instance}
 use Rattle.rdl_layers.specs.Settings.{setting}
 use Rattle.rdl_layers.proofs.Formed.{never_reference}

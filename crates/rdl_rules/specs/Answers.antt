@@ -1,5 +1,5 @@
 -- What the calls of this crate answer.
-use Rattle.std.specs.Prelude.{◌≡◌, ℕ, List, [], Some, Result, Ok, Err}
+use Rattle.std.specs.Prelude.{[], Some, Result, Ok, Err}
 use Rattle.rb_model.specs.declared.block.Block.{Block}
 use Rattle.rb_model.specs.Sound.{IsSound}
 use Rattle.rdl_tree.specs.declared.node.Elab.{Elab}

@@ -1,5 +1,5 @@
 -- The bodies round a definition's text are those of nodes above, and the root's.
-use Rattle.std.proofs.Common.{◌≡◌, ◌∙◌, ◌⊎◌, inl, inr, ℕ, zero, suc, Bool, true, false, ◌&&◌, cond, List, [], ◌∷◌, ◌++◌, map, flat_map, reverse, Option, None, Some, option_map, option_and_then, option_to_list, refl, sym, ap, subst, append_assoc}
+use Rattle.std.proofs.Common.{◌≡◌, ◌∙◌, inl, inr, ℕ, zero, suc, Bool, true, false, ◌&&◌, cond, List, [], ◌∷◌, ◌++◌, map, flat_map, reverse, Option, None, Some, option_map, option_and_then, option_to_list, refl, sym, ap, subst, append_assoc}
 use Rattle.std.specs.List.{AllByRecursion}
 use Rattle.std.specs.Option.{option_or}
 use Rattle.rb_base.specs.declared.place.Place.{Place}
@@ -76,13 +76,15 @@ StandsIn bs None = Unit {0}
 StandsIn bs (Some c) = AreScopesIn bs c.scope
 
 here_in : (bs : List Body) (l : Layer) (outer : Scope) (f : List Item × Def) → IsScopeIn bs l outer → AreScopesIn bs outer → IsFront f.0 l.before → AreScopesIn bs (closure_in l outer f).scope
-here_in bs l outer f h rest front =
-    (record {
-      body = h.body;
-      among = h.among;
-      front = front_of_front f.0 l.before h.body.items front h.front;
-      same = ap (cut f.0) h.same;
-    }, rest)
+here_in bs l outer f h rest front = (
+  record {
+    body = h.body;
+    among = h.among;
+    front = front_of_front f.0 l.before h.body.items front h.front;
+    same = ap (cut f.0) h.same;
+  },
+  rest,
+)
   where
     cut : List Item → Scope → Scope
     cut before [] = []
@@ -211,4 +213,4 @@ pub nodes_around : (wanted : Option (List ℕ)) (s : Source) → AllByRecursion 
 unfolding nodes
 nodes_around wanted s =
     each-append (IsAround s) (signals s) (flat_map (with_below most_names) (top_of wanted s)) (signals_around s)
-      (each-flat_map (IsAround s) (with_below most_names) (top_of wanted s) (each-imp (IsAround s) (λ n. AllByRecursion (IsAround s) (with_below most_names n)) (top_of wanted s) (λ n h. below_around s most_names n h) (tops_around wanted s)))
+    (each-flat_map (IsAround s) (with_below most_names) (top_of wanted s) (each-imp (IsAround s) (λ n. AllByRecursion (IsAround s) (with_below most_names n)) (top_of wanted s) (λ n h. below_around s most_names n h) (tops_around wanted s)))

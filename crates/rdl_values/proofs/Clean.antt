@@ -26,6 +26,7 @@ use Rattle.rdl_values.specs.Views as view
 use Rattle.rdl_values.specs.Views.{ItemIs, item_is}
 use Rattle.rdl_values.proofs.Given.{each-append, each-imp, given-all}
 use Rattle.rdl_values.proofs.Sorted.{none_fails}
+pub use Rattle.rdl_values.specs.Primary.{Somewhere}
 
 -- Empty lists.
 
@@ -140,10 +141,6 @@ pub uses_clean : (us : List Seen) (b : Body) → of_judged us b ≡ [] → AllBy
 uses_clean us b e = each-imp (λ u. of_use u ≡ []) (λ u. no_node u ≡ []) us (λ u h. nil_left (no_node u) _ h) (nil_each of_use us (nil_right (twice_defined b ++ of_enums b) (flat_map of_use us) e))
 
 -- The top's name decides which definition is the top.
-
-abbrev pub Somewhere : {X : Type 0} → (X → Type 0) → List X → Type 0
-Somewhere P [] = ⊥
-Somewhere P (x ∷ xs) = P x ⊎ Somewhere P xs
 
 unreversed_onto : {X : Type 0} (P : X → Type 0) (xs ys : List X) → Somewhere P (reverse_aux xs ys) → Somewhere P xs ⊎ Somewhere P ys
 unreversed_onto P [] ys h = inr h

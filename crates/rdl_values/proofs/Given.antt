@@ -34,11 +34,11 @@ pub each-imp : {X : Type 0} (P Q : X → Type 0) (xs : List X) → ((x : X) → 
 each-imp P Q [] f h = tt
 each-imp P Q (x ∷ xs) f h = (f x h.0, each-imp P Q xs f h.1)
 
-none_in : (xs ys : List Fault) → is_empty (xs ++ ys) ≡ true → (is_empty xs ≡ true) × (is_empty ys ≡ true)
+pub none_in : (xs ys : List Fault) → is_empty (xs ++ ys) ≡ true → (is_empty xs ≡ true) × (is_empty ys ≡ true)
 none_in [] ys h = (refl, h)
 none_in (x ∷ xs) ys h = cc
 
-when_none : (t : Bool) (f : Fault) → is_empty (when t f) ≡ true → t ≡ false
+pub when_none : (t : Bool) (f : Fault) → is_empty (when t f) ≡ true → t ≡ false
 when_none false f h = refl
 when_none true f h = cc
 
@@ -62,7 +62,7 @@ given-all s = clean (is_empty (no_node s)) refl
 
 -- Of what a use fails nothing.
 
-of_visible : (s : Seen) (c : Closure) → s.use_.closure ≡ Some c → is_empty (no_node s) ≡ true → is_empty (of_closure s c) ≡ true
+pub of_visible : (s : Seen) (c : Closure) → s.use_.closure ≡ Some c → is_empty (no_node s) ≡ true → is_empty (of_closure s c) ≡ true
 of_visible s c e h = (none_in (name_twice s) (of_closure s c) (subst (λ o. is_empty (name_twice s ++ of_type s o) ≡ true) e h)).1
 
 abbrev pub AllEmpty : List (List Fault) → Type 0
@@ -73,7 +73,7 @@ abbrev joined_to : List Fault → List (List Fault) → List Fault
 joined_to before [] = before
 joined_to before (xs ∷ more) = joined_to (before ++ xs) more
 
-all_empty : (before : List Fault) (lists : List (List Fault)) → is_empty (joined_to before lists) ≡ true → (is_empty before ≡ true) × AllEmpty lists
+pub all_empty : (before : List Fault) (lists : List (List Fault)) → is_empty (joined_to before lists) ≡ true → (is_empty before ≡ true) × AllEmpty lists
 all_empty before [] h = (h, tt)
 all_empty before (xs ∷ more) h = let r = all_empty (before ++ xs) more h in let p = none_in before xs r.0 in (p.0, (p.1, r.1))
 

@@ -7,3 +7,4 @@ pub mod Sorted
 pub mod Clean
 pub mod Around
 pub mod Rows
+pub mod Primary

@@ -1,5 +1,5 @@
 -- The elements of an array in order are those of the numbers from 0 on.
-use Rattle.std.proofs.Common.{◌≡◌, ◌∙◌, ◌⊎◌, inl, inr, ℕ, zero, suc, ◌+◌, ◌*◌, ◌/◌, ◌%◌, ◌<◌, List, [], ◌∷◌, ◌++◌, map, flat_map, refl, sym, ap, subst, arith, append_assoc, append-nil, mod-eq_of_lt}
+use Rattle.std.proofs.Common.{◌≡◌, ◌∙◌, ℕ, zero, suc, ◌+◌, ◌*◌, ◌/◌, ◌%◌, ◌<◌, List, [], ◌∷◌, ◌++◌, map, flat_map, refl, sym, ap, arith, append_assoc, append-nil, mod-eq_of_lt}
 use Rattle.std.proofs.Math.Nat.{mul-add-mod_self_right}
 use Rattle.std.proofs.lemmas.Grind.{flat_map-append}
 use Rattle.std.proofs.lemmas.List.{map-append}
@@ -37,10 +37,10 @@ blocks ds h c (suc d) =
     let size : suc d * product ds ≡ d * product ds + product ds = omega arith in
     let f : ℕ → List (List ℕ) = λ i. map (λ is. i ∷ is) (rows ds) in
     let last : f d ≡ map (λ j. row (c ∷ ds) (d * product ds + j)) (upto (product ds)) =
-          ap (map (λ is. d ∷ is)) h ∙ map_twice (λ is. d ∷ is) (row ds) (upto (product ds)) ∙ map_upto (λ j. d ∷ row ds j) (λ j. row (c ∷ ds) (d * product ds + j)) (product ds) (λ j l. sym (in_block ds d j l)) in
+    ap (map (λ is. d ∷ is)) h ∙ map_twice (λ is. d ∷ is) (row ds) (upto (product ds)) ∙ map_upto (λ j. d ∷ row ds j) (λ j. row (c ∷ ds) (d * product ds + j)) (product ds) (λ j l. sym (in_block ds d j l)) in
     let right : map (row (c ∷ ds)) (upto (suc d * product ds)) ≡ map (row (c ∷ ds)) (upto (d * product ds)) ++ map (λ j. row (c ∷ ds) (d * product ds + j)) (upto (product ds)) =
-          ap (λ k. map (row (c ∷ ds)) (upto k)) size ∙ ap (map (row (c ∷ ds))) (upto-add (d * product ds) (product ds)) ∙ map-append (row (c ∷ ds)) (upto (d * product ds)) (map (λ k. d * product ds + k) (upto (product ds)))
-          ∙ ap (λ xs. map (row (c ∷ ds)) (upto (d * product ds)) ++ xs) (map_twice (row (c ∷ ds)) (λ k. d * product ds + k) (upto (product ds))) in
+    ap (λ k. map (row (c ∷ ds)) (upto k)) size ∙ ap (map (row (c ∷ ds))) (upto-add (d * product ds) (product ds)) ∙ map-append (row (c ∷ ds)) (upto (d * product ds)) (map (λ k. d * product ds + k) (upto (product ds)))
+    ∙ ap (λ xs. map (row (c ∷ ds)) (upto (d * product ds)) ++ xs) (map_twice (row (c ∷ ds)) (λ k. d * product ds + k) (upto (product ds))) in
     flat_map-append f (upto d) (d ∷ []) ∙ ap (λ xs. flat_map f (upto d) ++ xs) (append-nil (f d)) ∙ ap (λ xs. xs ++ f d) (blocks ds h c d) ∙ ap (λ xs. map (row (c ∷ ds)) (upto (d * product ds)) ++ xs) last ∙ sym right
 
 pub rows_by_number : (ds : List ℕ) → rows ds ≡ map (row ds) (upto (product ds))

@@ -21,3 +21,4 @@ pub mod Visible
 pub mod Given
 pub mod Scopes
 pub mod Rows
+pub mod Primary

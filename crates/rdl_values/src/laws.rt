@@ -1,6 +1,6 @@
 //! What the definitions of instances determine.
 
-ghost use Rattle.std.specs.Prelude.{◌≡◌, ◌≢◌, ℕ, ◌≤◌, ◌<◌, Bool, List, [], ◌∷◌, ◌++◌, length, map, Contains, IsPermutation, IsSorted, Option, Some, slice_get};
+ghost use Rattle.std.specs.Prelude.{◌≡◌, ◌≢◌, ℕ, ◌≤◌, ◌<◌, Bool, List, [], ◌∷◌, ◌++◌, length, map, flat_map, Contains, IsPermutation, IsSorted, Option, Some, slice_get};
 ghost use Rattle.std.specs.Cmp.{IsEquivalence};
 ghost use Rattle.std.specs.List.{AllByRecursion, dedup};
 ghost use Rattle.std.specs.Ordering.{eq_by_cmp};
@@ -13,9 +13,11 @@ ghost use Rattle.rdl_values.specs.Elaborated.{IsElab, IsNodeOf, Says, measured, 
 ghost use Rattle.rdl_values.specs.Faults.{at_};
 ghost use Rattle.rdl_values.specs.Verdict.{IsListOf, in_order};
 ghost use Rattle.rdl_values.specs.Given.{IsGivenBy};
-ghost use Rattle.rdl_values.specs.Instances.{Instance, children, judged_nodes, kind_of, most_nodes, nodes, rows, signals, upto};
+ghost use Rattle.rdl_values.specs.Instances.{Instance, children, given_by, judged_nodes, kind_of, most_nodes, nodes, rows, signals, upto};
 ghost use Rattle.rdl_values.specs.Bodies.{Body};
 ghost use Rattle.rdl_values.specs.NoNode.{no_node};
+ghost use Rattle.rdl_tree.specs.declared.expr.Name.{Name};
+ghost use Rattle.rdl_values.specs.Primary.{HasPrimary};
 ghost use Rattle.rdl_values.specs.Rows.{product, row};
 ghost use Rattle.rdl_values.specs.Scopes.{AreScopesIn};
 ghost use Rattle.rdl_values.specs.Paths.{at_root, in_node};
@@ -86,4 +88,10 @@ pub fn scopes_are_bodies()
 /// The elements of an array in order, the last index fastest, are those of the numbers from 0 on.
 pub fn rows_by_number()
     ensures { (dims : List ℕ) → rows dims ≡ map (row dims) (upto (product dims)) }
+{}
+
+/// Where each use of a body gives its nodes, the primary that an alias names is a node of the body: a register, and no alias.
+pub fn primaries_stand()
+    ensures { (above : List Body) (b : Body) → AllByRecursion (λ s. no_node s ≡ []) (seen above b)
+        → AllByRecursion (λ s. (n : Name) → s.use_.alias ≡ Some n → HasPrimary n (flat_map given_by (seen above b))) (seen above b) }
 {}

@@ -11,6 +11,6 @@ mod wanted;
 pub use constants::eval;
 pub use laws::{
     clean_source, lists_merge, name_decides_the_top, nodes_are_given, nodes_are_numbered,
-    none_fails, over_the_count, rows_by_number, scopes_are_bodies, sorted_once,
+    none_fails, over_the_count, primaries_stand, rows_by_number, scopes_are_bodies, sorted_once,
 };
 pub use wanted::{as_type, number_of, start_of};

@@ -1,6 +1,6 @@
 -- What the definitions give for further sources: bytes of strings, addresses far above the limit, an alias whose primary gave no
 -- node, settings as the code has them, the first phase with a failure, and an order.
-use Rattle.std.proofs.Common.{◌≡◌, ℕ, zero, suc, ◌+◌, ◌<◌, Bool, true, false, ◌&&◌, nat_lt, List, [], ◌∷◌, ◌++◌, length, get_or, slice_get, Contains, map, flat_map, inl, inr, ◌⊎◌, Option, None, Some, refl, sym, ap, subst, ◌∙◌, codes, arith, length-append}
+use Rattle.std.proofs.Common.{◌≡◌, ℕ, zero, suc, ◌+◌, ◌<◌, Bool, true, false, ◌&&◌, nat_lt, List, [], ◌∷◌, ◌++◌, length, get_or, Contains, map, flat_map, inl, inr, ◌⊎◌, Option, None, Some, refl, sym, subst, ◌∙◌, codes, arith, length-append}
 use Rattle.std.specs.Fmt.{digits}
 use Rattle.std.specs.List.{list_all}
 use Rattle.std.proofs.lemmas.Bool.{and_parts}
@@ -12,7 +12,6 @@ use Rattle.std.proofs.Math.Seq.{get_or-append_seam}
 use Rattle.rb_base.specs.declared.rule.Rule.TheVariants as rules
 use Rattle.rdl_tree.specs.declared.expr.Path.{roll-Path}
 use Rattle.rdl_tree.specs.declared.item.Kind.TheVariants as kind
-use Rattle.rdl_tree.specs.declared.item.Source.{Source}
 use Rattle.rdl_props.specs.Table.{reference_props, props, left_out_names}
 use Rattle.rdl_props.specs.declared.prop.Prop.TheVariants as prop
 use Rattle.rdl_values.specs.Bodies.{below_top}
@@ -23,7 +22,7 @@ use Rattle.rdl_values.specs.Top.{top_use}
 use Rattle.rdl_values.specs.Uses.{path_text}
 use Rattle.rdl_values.specs.Verdict.{FirstOf, IsListOf, in_order}
 use Rattle.rdl_values.proofs.Sorted.{in_order-is}
-use Rattle.rdl_layers.specs.Forms.{Meaning, text}
+use Rattle.rdl_layers.specs.Forms.{text}
 use Rattle.rdl_layers.specs.Phase4.{failures4, fails4}
 use Rattle.rdl_layers.specs.Says.{Says}
 use Rattle.rdl_layers.specs.Settings.{setting}
