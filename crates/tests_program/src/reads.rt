@@ -29,12 +29,37 @@ fn status(alloc: Global, asked: &[&str], fails: u64) -> Result<(Status, Vec<u8>)
 fn files_are_read_once_and_in_order(rt: HostRuntime) -> Result<(), Fail> {
     let alloc = rt.alloc();
     let table: [(&[&str], u64, Status, &str); 7] = [
-        (&["compile", "one.rdl"], 1, Status::ReadFault, "one.rdl: cannot read\n"),
+        (
+            &["compile", "one.rdl"],
+            1,
+            Status::ReadFault,
+            "one.rdl: cannot read\n",
+        ),
         (&["compile", "one.rdl"], 2, Status::Done, ""),
-        (&["sim", "m.v", "t.csv"], 0, Status::ReadFault, "m.v: cannot read\n"),
-        (&["sim", "m.v", "t.csv"], 1, Status::ReadFault, "m.v: cannot read\n"),
-        (&["sim", "m.v", "t.csv"], 2, Status::ReadFault, "t.csv: cannot read\n"),
-        (&["sim", "m.v", "t.csv"], 3, Status::ReadFault, "t.csv: cannot read\n"),
+        (
+            &["sim", "m.v", "t.csv"],
+            0,
+            Status::ReadFault,
+            "m.v: cannot read\n",
+        ),
+        (
+            &["sim", "m.v", "t.csv"],
+            1,
+            Status::ReadFault,
+            "m.v: cannot read\n",
+        ),
+        (
+            &["sim", "m.v", "t.csv"],
+            2,
+            Status::ReadFault,
+            "t.csv: cannot read\n",
+        ),
+        (
+            &["sim", "m.v", "t.csv"],
+            3,
+            Status::ReadFault,
+            "t.csv: cannot read\n",
+        ),
         (&["sim", "m.v", "t.csv"], 4, Status::Done, ""),
     ];
     for (asked, fails, wanted, line) in table.iter() {
