@@ -1,6 +1,6 @@
-pub mod Reading
-pub mod Places
-pub mod Deciding
+mod Reading
+mod Places
+mod Deciding
 pub mod Named
-pub mod Identifiers
+mod Identifiers
 pub mod FirstSound

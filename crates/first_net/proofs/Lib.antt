@@ -1,7 +1,7 @@
-pub mod Agreeing
-pub mod Answering
-pub mod Running
-pub mod FirstNet
-pub mod Chaining
-pub mod Naming
-pub mod Valuing
+mod Agreeing
+mod Answering
+mod Running
+mod FirstNet
+mod Chaining
+mod Naming
+mod Valuing

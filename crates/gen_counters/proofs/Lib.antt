@@ -1,2 +1,2 @@
-pub mod Wraps
-pub mod Saturating
+mod Wraps
+mod Saturating

@@ -1,1 +1,1 @@
-pub mod Bits
+mod Bits

@@ -1,2 +1,2 @@
-pub mod Bits
-pub mod Lists
+mod Bits
+mod Lists

@@ -1,4 +1,4 @@
-pub mod Always
-pub mod Units
-pub mod Parts
-pub mod Ors
+mod Always
+mod Units
+mod Parts
+mod Ors

@@ -1,5 +1,5 @@
-pub mod AfterLast
-pub mod DerivedOrder
-pub mod Fields
-pub mod Reserved
-pub mod RuleOrder
+mod AfterLast
+mod DerivedOrder
+mod Fields
+mod Reserved
+mod RuleOrder

@@ -1,4 +1,4 @@
-pub mod Separating
+mod Separating
 pub mod OneSpelling
 pub mod Laying
 pub mod Scanning
@@ -10,5 +10,5 @@ pub mod Factoring
 pub mod Returning
 pub mod Bridge
 pub mod OneReading
-pub mod Beginnings
+mod Beginnings
 pub mod Judgement

@@ -1,3 +1,3 @@
-pub mod Firsts
-pub mod Digits
-pub mod Classes
+mod Firsts
+mod Digits
+mod Classes

@@ -1,7 +1,7 @@
-pub mod Lengths
-pub mod Masks
-pub mod Others
-pub mod Readies
-pub mod Resets
-pub mod Resting
-pub mod Wholes
+mod Lengths
+mod Masks
+mod Others
+mod Readies
+mod Resets
+mod Resting
+mod Wholes

@@ -1,13 +1,13 @@
-pub mod Scenes
-pub mod Lines
-pub mod Settling
-pub mod Buses
-pub mod Holding
-pub mod Touching
-pub mod Moving
-pub mod Accessing
-pub mod Narrow
-pub mod Stepping
-pub mod Knowing
-pub mod Shown
-pub mod Listing
+mod Scenes
+mod Lines
+mod Settling
+mod Buses
+mod Holding
+mod Touching
+mod Moving
+mod Accessing
+mod Narrow
+mod Stepping
+mod Knowing
+mod Shown
+mod Listing

@@ -1,18 +1,18 @@
 pub mod Eachs
 pub mod Made
 pub mod ItemValues
-pub mod Among
-pub mod SameEdge
+mod Among
+mod SameEdge
 pub mod Runs
 pub mod PortLists
 pub mod OwnViews
 pub mod Apart
-pub mod KindWords
-pub mod FieldNames
-pub mod PortNames
+mod KindWords
+mod FieldNames
+mod PortNames
 pub mod InputPins
-pub mod EffectWidths
-pub mod HasPins
+mod EffectWidths
+mod HasPins
 pub mod ValueWidths
-pub mod NextWidths
+mod NextWidths
 pub mod EdgeWidths

@@ -1,1 +1,1 @@
-pub mod Hexadecimal
+mod Hexadecimal

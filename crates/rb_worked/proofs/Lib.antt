@@ -1,1 +1,1 @@
-pub mod WorkedSound
+mod WorkedSound

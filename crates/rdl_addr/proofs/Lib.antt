@@ -1,2 +1,2 @@
-pub mod Covers
-pub mod Least
+mod Covers
+mod Least

@@ -1,4 +1,4 @@
-pub mod Least
-pub mod Decided
+mod Least
+mod Decided
 pub mod Formed
-pub mod First
+mod First

@@ -1,8 +1,8 @@
-pub mod Values
-pub mod Splits
-pub mod Classes
-pub mod Fronts
-pub mod Sizes
-pub mod NumberFronts
-pub mod Steps
-pub mod InOrder
+mod Values
+mod Splits
+mod Classes
+mod Fronts
+mod Sizes
+mod NumberFronts
+mod Steps
+mod InOrder

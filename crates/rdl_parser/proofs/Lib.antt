@@ -1,10 +1,10 @@
-pub mod Firsts
-pub mod Words
-pub mod Operators
-pub mod Phrases
-pub mod Lists
-pub mod Items
-pub mod Sources
-pub mod Judged
-pub mod Alike
+mod Firsts
+mod Words
+mod Operators
+mod Phrases
+mod Lists
+mod Items
+mod Sources
+mod Judged
+mod Alike
 pub mod OneVerdict

@@ -1,1 +1,1 @@
-pub mod Targets
+mod Targets

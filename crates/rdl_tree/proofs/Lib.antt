@@ -1,3 +1,3 @@
-pub mod Places
+mod Places
 pub mod Spellings
 pub mod Tying

@@ -1,10 +1,10 @@
-pub mod Count
-pub mod Paths
-pub mod Powers
+mod Count
+mod Paths
+mod Powers
 pub mod Given
 pub mod Numbered
 pub mod Sorted
 pub mod Clean
-pub mod Around
-pub mod Rows
-pub mod Primary
+mod Around
+mod Rows
+mod Primary

@@ -1,17 +1,17 @@
-pub mod NameLists
-pub mod PortLists
-pub mod Exprs
-pub mod NodeLists
+mod NameLists
+mod PortLists
+mod Exprs
+mod NodeLists
 pub mod Nets
 pub mod Places
-pub mod Added
+mod Added
 mod Seating
 pub mod Making
 pub mod Widths
 mod Tying
-pub mod Calls
+mod Calls
 mod Named
-pub mod Numbers
+mod Numbers
 pub mod Values
 mod Joining
 mod Renaming

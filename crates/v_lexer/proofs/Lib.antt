@@ -1,5 +1,5 @@
-pub mod Fronts
-pub mod Digits
-pub mod NumberFronts
-pub mod Steps
-pub mod Scans
+mod Fronts
+mod Digits
+mod NumberFronts
+mod Steps
+mod Scans

@@ -1,13 +1,13 @@
-pub mod Firsts
-pub mod Spanning
-pub mod Taking
-pub mod Walking
-pub mod Marks
-pub mod Ranges
-pub mod Terms
-pub mod Blocks
-pub mod Loops
-pub mod Whole
-pub mod Trees
-pub mod Ends
+mod Firsts
+mod Spanning
+mod Taking
+mod Walking
+mod Marks
+mod Ranges
+mod Terms
+mod Blocks
+mod Loops
+mod Whole
+mod Trees
+mod Ends
 pub mod Fitting
