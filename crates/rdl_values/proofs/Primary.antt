@@ -1,8 +1,7 @@
 -- The primary of an alias is a node, where each use of the body gives its nodes.
-use Rattle.std.proofs.Common.{◌≡◌, ◌∙◌, ◌⊎◌, inl, inr, ℕ, Bool, true, false, not, ◌&&◌, cond, List, [], ◌∷◌, ◌++◌, map, flat_map, find, Option, None, Some, option_to_list, is_none, true≢false, Result, Ok, Err, refl, sym, ap, subst, append_assoc}
+use Rattle.std.proofs.Common.{◌≡◌, ◌∙◌, ◌⊎◌, inl, inr, Bool, true, false, not, ◌&&◌, cond, List, [], ◌∷◌, ◌++◌, map, flat_map, find, Option, None, Some, option_to_list, is_none, true≢false, Ok, Err, refl, sym, ap, subst, append_assoc}
 use Rattle.std.specs.List.{AllByRecursion, list_any}
 use Rattle.std.proofs.lemmas.Bool.{and_parts}
-use Rattle.rb_base.specs.declared.fault.Fault.{Fault}
 use Rattle.rb_base.specs.declared.rule.Rule.TheVariants as rules
 use Rattle.rdl_tree.specs.declared.expr.Expr.{Expr}
 use Rattle.rdl_tree.specs.declared.expr.Name.{Name}
@@ -10,8 +9,7 @@ use Rattle.rdl_tree.specs.declared.item.Kind.{Kind}
 use Rattle.rdl_tree.specs.declared.item.Kind.TheVariants as kind
 use Rattle.rdl_values.specs.Bodies.{Body, Closure, same_name, standing, standing_from, around}
 use Rattle.rdl_values.specs.Faults.{at_, when, failures}
-use Rattle.rdl_values.specs.Given.{IsGivenBy}
-use Rattle.rdl_values.specs.Instances.{Instance, kind_of, elements, given_by, rows}
+use Rattle.rdl_values.specs.Instances.{Instance, elements, given_by}
 use Rattle.rdl_values.specs.NoNode.{no_node, name_twice, of_type, is_reg, is_single_reg, is_primary, has_primary, bad_alias}
 use Rattle.rdl_values.specs.Parameters.{Bound, bound_of}
 use Rattle.rdl_values.specs.Parts.{dims_of, is_unit, is_empty}
