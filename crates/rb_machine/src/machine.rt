@@ -121,7 +121,8 @@ impl<'b> Machine<'b> {
     ghost use Rattle.rb_model.specs.Run.{ClockEdge};
     ghost use Rattle.rb_machine.specs.Machines.{IsReady, held_map};
 
-    /// A machine of a sound block, which holds 0 for each value. It takes time in proportion to the size of the block.
+    /// A machine of a sound block, which holds 0 for each value. It takes time in proportion to the size of the block. The only
+    /// error is want of memory, after which there is no machine.
     pub fn new(alloc: Global, block: &'b Block) -> Result<Machine<'b>, NoMemory>
         requires { IsSound block.now }
         ensures ready { IfOk result IsReady }

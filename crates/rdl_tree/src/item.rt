@@ -46,8 +46,8 @@ pub struct Entry<'a> {
     pub sets: &'a [Set<'a>],
 }
 
-/// An instance (SystemRDL 2.0, 5.1.2): its dimensions or its range of bits, the high one first, its reset value `=`,
-/// address `@`, stride `+=` and alignment `%=`.
+/// An instance (SystemRDL 2.0, 5.1.2): its dimensions or its range of bits, the high one first, its reset value `=`, and in
+/// bytes its address `@`, stride `+=` and alignment `%=`.
 #[derive(Clone, Copy)]
 pub struct Inst<'a> {
     pub name: Name<'a>,

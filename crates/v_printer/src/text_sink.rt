@@ -33,7 +33,7 @@ impl Sink for TextSink {
     }
 }
 
-/// The bytes that [`print`] writes.
+/// The bytes that [`print`] writes. The only error is want of memory, after which nothing is kept.
 pub fn text(alloc: Global, net: &Netlist) -> Result<Vec<u8>, NoMemory>
     requires { IsWhole net.now }
     ensures module { IfOk result (λ text. IsTextOf net.now text.items) }
