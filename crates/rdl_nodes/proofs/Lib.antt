@@ -1,0 +1,4 @@
+mod Apart
+mod Numbered
+mod Paths
+mod Words
