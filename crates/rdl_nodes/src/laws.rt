@@ -24,5 +24,5 @@ pub fn row_has_one_number()
     ensures within { (dims index : List ℕ) → AreWithin dims index → number_in dims index < product dims }
     ensures found { (dims index : List ℕ) → AreWithin dims index → row dims (number_in dims index) ≡ index }
     ensures once { (dims : List ℕ) (k : ℕ) → k < product dims → number_in dims (row dims k) ≡ k }
-    ensures rows_ { (dims : List ℕ) (k : ℕ) → k < product dims → AreWithin dims (row dims k) }
+    ensures fits { (dims : List ℕ) (k : ℕ) → k < product dims → AreWithin dims (row dims k) }
 {}

@@ -10,5 +10,5 @@ returns-clause-found c = found
 pub returns-clause-once : goal.returns-clause-once
 returns-clause-once c = once
 
-pub returns-clause-rows_ : goal.returns-clause-rows_
-returns-clause-rows_ c = rows
+pub returns-clause-fits : goal.returns-clause-fits
+returns-clause-fits c = rows
