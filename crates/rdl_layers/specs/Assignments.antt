@@ -82,11 +82,11 @@ is_step env t n = same_name t.name n.use_.name && is_index_or_none env t.index.n
 abbrev pub is_step_exactly : Around → Step → Instance → Bool
 is_step_exactly env t n = same_name t.name n.use_.name && is_index (values env t.index.now) (index_of n.path)
 
--- the nodes that a path leads to from these, each step by this test
-abbrev pub led_down : (Step → Instance → Bool) → List Instance → List Step → List Instance
-led_down is ns [] = []
-led_down is ns (t ∷ []) = filter (is t) ns
-led_down is ns (t ∷ u ∷ ts) = led_down is (flat_map children (filter (is t) ns)) (u ∷ ts)
+-- what a path leads to from these nodes, each step by this test, where this lies in the body of each
+abbrev pub led_down : {A : Type 0} → (A → List A) → (Step → A → Bool) → List A → List Step → List A
+led_down inside is ns [] = []
+led_down inside is ns (t ∷ []) = filter (is t) ns
+led_down inside is ns (t ∷ u ∷ ts) = led_down inside is (flat_map inside (filter (is t) ns)) (u ∷ ts)
 
 -- A body, behind those that it stands in, the top's first.
 abbrev pub Nested : Type 0
@@ -98,7 +98,7 @@ members b = flat_map given_by (seen (b.0 ++ (b.1 ∷ [])) b.1)
 
 -- A target starts at an instance of its own body.
 abbrev pub targets : Nested → Dynamic → List Instance
-targets b d = led_down (is_step (around d.assigns.scope)) (members b) d.steps
+targets b d = led_down children (is_step (around d.assigns.scope)) (members b) d.steps
 
 -- the same name and indices
 abbrev pub same_step : bodies.Step → bodies.Step → Bool

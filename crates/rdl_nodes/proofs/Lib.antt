@@ -1,4 +1,5 @@
 mod Apart
+mod Lineages
 mod Numbered
 mod Paths
 mod Words

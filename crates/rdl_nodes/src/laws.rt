@@ -6,12 +6,18 @@ ghost use Rattle.rdl_tree.specs.declared.item.Source.{Source};
 ghost use Rattle.rdl_tree.specs.InOrder.{AreWords};
 ghost use Rattle.rdl_values.specs.Elaborated.{HasWords};
 ghost use Rattle.rdl_values.specs.Instances.{nodes};
+ghost use Rattle.rdl_values.specs.Lineages.{lineages, nodes_in};
 ghost use Rattle.rdl_values.specs.Rows.{product, row};
 ghost use Rattle.rdl_nodes.specs.Numbers.{AreWithin, number_in};
 
 /// No two nodes of a source have the same path.
 pub fn paths_differ()
     ensures { (wanted : Option (List ℕ)) (s : Source) → AllPairs (λ m n. m.path ≢ n.path) (nodes wanted s) }
+{}
+
+/// The nodes that are listed with their ancestors are all nodes, in order.
+pub fn lineages_are_nodes()
+    ensures { (wanted : Option (List ℕ)) (s : Source) → nodes_in (lineages wanted s) ≡ nodes wanted s }
 {}
 
 /// Where the names in a tree are words, as they are in each parsed tree, so are the names of its nodes.

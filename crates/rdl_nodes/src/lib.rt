@@ -3,4 +3,4 @@
 
 mod laws;
 
-pub use laws::{names_are_words, paths_differ, row_has_one_number};
+pub use laws::{lineages_are_nodes, names_are_words, paths_differ, row_has_one_number};

@@ -7,7 +7,8 @@ use Rattle.rdl_tree.specs.declared.item.Source.{Source}
 use Rattle.rdl_props.specs.Table.{props, reference_props, takes_of}
 use Rattle.rdl_props.specs.declared.prop.Prop.{Prop}
 use Rattle.rdl_values.specs.Bodies.{Scope}
-use Rattle.rdl_values.specs.Instances.{Instance, nodes}
+use Rattle.rdl_values.specs.Instances.{nodes}
+use Rattle.rdl_values.specs.Lineages.{Lineage, lineages}
 use Rattle.rdl_layers.specs.Forms.{Meaning, reference, takes_reference}
 use Rattle.rdl_layers.specs.Settings.{setting}
 use Rattle.rdl_layers.proofs.Formed.{never_reference, references_listed}
@@ -28,11 +29,11 @@ each_same f g (x ∷ xs) h = ap (λ ys. ys ++ flat_map f xs) (h x) ∙ ap (λ ys
 abbrev pub NeverReference : Meaning → Type 0
 NeverReference m = (q : Path) (item : Option Name) (scope : Scope) (place : Place) → m ≡ reference q item scope place → ⊥
 
-pub no_target : (all : List Instance) (m : Meaning) → NeverReference m → target all m ≡ []
+pub no_target : (all : List Lineage) (m : Meaning) → NeverReference m → target all m ≡ []
 no_target all (reference q item scope place) h = absurd (h q item scope place refl)
 no_target all m h = refl
 
-nothing_bad : (all : List Instance) (p : Prop) (m : Meaning) → NeverReference m → bad_reference all p m ≡ []
+nothing_bad : (all : List Lineage) (p : Prop) (m : Meaning) → NeverReference m → bad_reference all p m ≡ []
 nothing_bad all p (reference q item scope place) h = absurd (h q item scope place refl)
 nothing_bad all p m h = refl
 
@@ -40,6 +41,6 @@ nothing_bad all p m h = refl
 pub over_all : {Y : Type 0} (f : Prop → List Y) → ((p : Prop) → takes_reference (takes_of p) ≡ false → f p ≡ []) → flat_map f reference_props ≡ flat_map f props
 over_all f h = ap (flat_map f) (sym references_listed) ∙ kept f (λ p. takes_reference (takes_of p)) props h
 
-pub all_judged : (wanted : Option (List ℕ)) (s : Source) → failures_r wanted s ≡ flat_map (λ n. flat_map (λ p. bad_reference (nodes wanted s) p (setting n p)) props) (nodes wanted s)
+pub all_judged : (wanted : Option (List ℕ)) (s : Source) → failures_r wanted s ≡ flat_map (λ n. flat_map (λ p. bad_reference (lineages wanted s) p (setting n p)) props) (nodes wanted s)
 unfolding failures_r
-all_judged wanted s = each_same (λ n. flat_map (λ p. bad_reference (nodes wanted s) p (setting n p)) reference_props) (λ n. flat_map (λ p. bad_reference (nodes wanted s) p (setting n p)) props) (nodes wanted s) (λ n. over_all (λ p. bad_reference (nodes wanted s) p (setting n p)) (λ p e. nothing_bad (nodes wanted s) p (setting n p) (λ q item scope place. never_reference n p q item scope place e)))
+all_judged wanted s = each_same (λ n. flat_map (λ p. bad_reference (lineages wanted s) p (setting n p)) reference_props) (λ n. flat_map (λ p. bad_reference (lineages wanted s) p (setting n p)) props) (nodes wanted s) (λ n. over_all (λ p. bad_reference (lineages wanted s) p (setting n p)) (λ p e. nothing_bad (lineages wanted s) p (setting n p) (λ q item scope place. never_reference n p q item scope place e)))

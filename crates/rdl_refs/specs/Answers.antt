@@ -6,6 +6,7 @@ use Rattle.rdl_props.specs.declared.prop.Prop.{Prop}
 use Rattle.rdl_tree.specs.declared.node.Elab.{Elab}
 use Rattle.rdl_values.specs.Elaborated.{top_name, nodes_of}
 use Rattle.rdl_values.specs.Instances.{Instance}
+use Rattle.rdl_values.specs.Lineages.{Lineage, lineages_of}
 use Rattle.rdl_values.specs.Verdict.{Fails, IsListOf, IsRefusal}
 use Rattle.rdl_layers.specs.Settings.{setting}
 use Rattle.rdl_refs.specs.declared.error.RefError.{RefError}
@@ -44,23 +45,23 @@ AreItemsOf all _ _ = ⊥
 
 -- `Refs::items`: all items, in the order of their numbers
 abbrev pub AreItems : Elab → List ItemOf → Type 0
-AreItems e is = AreItemsOf (nodes_of e) is (items (nodes_of e))
+AreItems e is = AreItemsOf (nodes_of e) is (items (lineages_of e))
 
-abbrev pub IsNumberOf : List Instance → List Item → Option ℕ → Type 0
+abbrev pub IsNumberOf : List Lineage → List Item → Option ℕ → Type 0
 IsNumberOf all [] k = k ≡ None
 IsNumberOf all (i ∷ is) k = k ≡ Some (item_number all i)
 
 -- `Refs::target`: the number of the item that the setting of a property on the node of a number names, and none where the
 -- setting is no reference
 abbrev pub TargetAt : Elab → ℕ → Prop → Option ℕ → Type 0
-TargetAt e k p item = (n : Instance) × (slice_get (nodes_of e) k ≡ Some n) × IsNumberOf (nodes_of e) (target (nodes_of e) (setting n p)) item
+TargetAt e k p item = (n : Instance) × (slice_get (nodes_of e) k ≡ Some n) × IsNumberOf (lineages_of e) (target (lineages_of e) (setting n p)) item
 
 -- `order`: the numbers of all items, each behind those that it refers to, or a circle, where references can be followed for ever
 abbrev pub Orders : Elab → Result (List ℕ) OrderError → Type 0
-Orders e (Ok order) = IsOrder (edges_of (nodes_of e)) order
-Orders e (Err (circle.Loop list)) = IsCircleOf (edges_of (nodes_of e)) list.items
+Orders e (Ok order) = IsOrder (edges_of (lineages_of e)) order
+Orders e (Err (circle.Loop list)) = IsCircleOf (edges_of (lineages_of e)) list.items
 Orders e (Err circle.NoMemory) = Unit {0}
 
 -- `circling`: the failures of R7
 abbrev pub AreCircling : Elab → List Fault → Type 0
-AreCircling e list = IsListOf (λ r p. (r ≡ rules.R7) × FailsR7 (nodes_of e) p) list
+AreCircling e list = IsListOf (λ r p. (r ≡ rules.R7) × FailsR7 (lineages_of e) p) list

@@ -13,6 +13,7 @@ use Rattle.rdl_props.specs.Table.{reference_props, find_prop}
 use Rattle.rdl_values.specs.Verdict.{Fails}
 use Rattle.rdl_values.specs.Uses.{when, at_}
 use Rattle.rdl_values.specs.Instances.{Instance, kind_of, nodes, is_empty}
+use Rattle.rdl_values.specs.Lineages.{Lineage, lineages}
 use Rattle.rdl_layers.specs.Settings.{Meaning, reference, setting}
 use Rattle.rdl_layers.specs.Fields.{is_a}
 use Rattle.rdl_refs.specs.declared.item.What.{What}
@@ -36,10 +37,14 @@ same_what a b = rank a == rank b
     rank what.Intr = 10
     rank what.Halt = 11
 
--- An item of a node.
+-- An item of a node, with the nodes that this stands in, the nearest first.
 pub record Item : Type 0 where
   pub node : Instance
+  pub ancestors : List Instance
   pub what : What
+
+abbrev pub item_of : Lineage → What → Item
+item_of n w = record { node = n.node; ancestors = n.ancestors; what = w }
 
 abbrev pub of_field : List What
 of_field = what.Value ∷ what.Anded ∷ what.Ored ∷ what.Xored ∷ what.IncrThreshold ∷ what.DecrThreshold ∷ what.Overflow ∷ what.Underflow ∷ what.SwMod ∷ what.SwAcc ∷ []
@@ -50,11 +55,11 @@ whats kind.Field = of_field
 whats kind.Reg = what.Intr ∷ what.Halt ∷ []
 whats _ = []
 
-abbrev pub items_of : Instance → List Item
-items_of n = map (λ w. record { node = n; what = w }) (whats (kind_of n))
+abbrev pub items_of : Lineage → List Item
+items_of n = map (item_of n) (whats (kind_of n.node))
 
 -- every item, in node order; an item's number is its position here
-unfoldable pub items : List Instance → List Item
+unfoldable pub items : List Lineage → List Item
 items all = flat_map items_of all
 
 -- the word behind '->'
@@ -81,11 +86,11 @@ what_named kind.Field (Some n) = flat_map field_what (option_to_list (find_prop 
 what_named kind.Reg (Some n) = reg_what n.text.now
 what_named _ _ = []
 
-abbrev pub item_named : Option Name → Instance → List Item
-item_named item n = map (λ w. record { node = n; what = w }) (what_named (kind_of n) item)
+abbrev pub item_named : Option Name → Lineage → List Item
+item_named item n = map (item_of n) (what_named (kind_of n.node) item)
 
 -- the item that a setting names, in a list of one, or none
-abbrev pub target : List Instance → Meaning → List Item
+abbrev pub target : List Lineage → Meaning → List Item
 target all (reference p item scope place) = flat_map (item_named item) (led_to all p scope)
 target all _ = []
 
@@ -98,7 +103,7 @@ is_resetsignal _ = false
 abbrev pub is_wanted : Prop → Item → Bool
 is_wanted p i = not (is_resetsignal p) || is_a kind.Signal i.node
 
-abbrev pub bad_reference : List Instance → Prop → Meaning → List Fault
+abbrev pub bad_reference : List Lineage → Prop → Meaning → List Fault
 bad_reference all p (reference path item scope place) =
     when (is_empty (led_to all path scope)) (at_ rules.R1 place)
     ++ when (not (is_empty (led_to all path scope)) && not (list_any (is_wanted p) (target all (reference path item scope place)))) (at_ rules.R2 place)
@@ -106,7 +111,7 @@ bad_reference all p _ = []
 
 -- all failures of R1 and R2, of the settings that are references
 unfoldable pub failures_r : Option (List ℕ) → Source → List Fault
-failures_r wanted s = flat_map (λ n. flat_map (λ p. bad_reference (nodes wanted s) p (setting n p)) reference_props) (nodes wanted s)
+failures_r wanted s = flat_map (λ n. flat_map (λ p. bad_reference (lineages wanted s) p (setting n p)) reference_props) (nodes wanted s)
 
 abbrev pub fails_r : Option (List ℕ) → Source → Fails
 fails_r wanted s r p = Contains (failures_r wanted s) (at_ r p)

@@ -1,5 +1,5 @@
 -- The register block that a source describes, where it breaks no rule.
-use Rattle.std.specs.Prelude.{◌≡◌, ℕ, Bool, not, ◌&&◌, List, [], ◌∷◌, map, flat_map, Option}
+use Rattle.std.specs.Prelude.{◌≡◌, ℕ, Bool, not, ◌&&◌, List, [], ◌∷◌, map, flat_map, filter, Option}
 use Rattle.std.specs.List.{list_any}
 use Rattle.std.specs.List.Sorted.{IsPermutation}
 use Rattle.rdl_tree.specs.declared.item.Source.{Source}
@@ -7,6 +7,7 @@ use Rattle.rdl_props.specs.declared.prop.Prop.TheVariants as prop
 use Rattle.rdl_refs.specs.Leads.{is_at_root}
 use Rattle.rdl_values.specs.Uses.{path_text}
 use Rattle.rdl_values.specs.Instances.{Instance, nodes, top_of}
+use Rattle.rdl_values.specs.Lineages.{Lineage, lineages, nodes_in}
 use Rattle.rdl_layers.specs.Phase4.{width_of}
 use Rattle.rdl_layers.specs.Fields.{fields_of, is_alias, is_interrupt, has_one_of}
 use Rattle.rdl_addr.specs.Rules as addr
@@ -17,18 +18,18 @@ use Rattle.rb_model.specs.declared.block.Signal.{Signal}
 use Rattle.rb_model.specs.declared.block.View.{View}
 use Rattle.rb_model.specs.Items.{items}
 use Rattle.rb_model.specs.References.{IsOrdered}
-use Rattle.rdl_rules.specs.Numbers.{all_signals, registers, primaries}
+use Rattle.rdl_rules.specs.Numbers.{all_signals, registers, is_primary}
 use Rattle.rdl_rules.specs.Fields.{field_of, view_of}
 use Rattle.rdl_rules.specs.Words.{read_words, write_words, AreByAddress}
 
 abbrev pub signal_of : Instance → Signal
 signal_of n = record { path = path_text n.path; width = width_of n; root = is_at_root n.path }
 
-abbrev pub fields : Source → List Instance → List Field
-fields s all = flat_map (λ r. map (field_of s all r) (fields_of r)) (primaries all)
+abbrev pub fields : Source → List Lineage → List Field
+fields s all = flat_map (λ r. map (field_of s all r) (fields_of r.node)) (filter (λ r. is_primary r.node) all)
 
-abbrev pub views : List Instance → List View
-views all = flat_map (λ r. map (view_of all r) (fields_of r)) (registers all)
+abbrev pub views : List Lineage → List View
+views all = flat_map (λ r. map (view_of all r) (fields_of r)) (registers (nodes_in all))
 
 -- an interrupt field of it is enabled or masked for halt
 abbrev pub halts : Instance → Bool
@@ -46,8 +47,8 @@ reg_of r = record {
 pub record IsBlockOf (wanted : Option (List ℕ)) (s : Source) (waits : ℕ) (b : Block) : Type 0 where
   pub name : map (λ n. n.use_.name.text.now) (top_of wanted s) ≡ b.name ∷ []
   pub signals : b.signals ≡ map signal_of (all_signals (nodes wanted s))
-  pub fields_ : b.fields ≡ fields s (nodes wanted s)
-  pub views_ : b.views ≡ views (nodes wanted s)
+  pub fields_ : b.fields ≡ fields s (lineages wanted s)
+  pub views_ : b.views ≡ views (lineages wanted s)
   pub regs : b.regs ≡ map reg_of (registers (nodes wanted s))
   pub reads : AreByAddress (read_words (nodes wanted s) (addr.registers wanted s)) b.reads
   pub writes : AreByAddress (write_words (nodes wanted s) (addr.registers wanted s)) b.writes

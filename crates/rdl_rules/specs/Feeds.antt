@@ -5,6 +5,7 @@ use Rattle.rdl_tree.specs.declared.item.Kind.TheVariants as kind
 use Rattle.rdl_props.specs.declared.prop.Prop.{Prop}
 use Rattle.rdl_props.specs.declared.prop.Prop.TheVariants as prop
 use Rattle.rdl_values.specs.Instances.{Instance, kind_of}
+use Rattle.rdl_values.specs.Lineages.{Lineage, nodes_in}
 use Rattle.rdl_layers.specs.Settings.{Meaning, flag, number, setting}
 use Rattle.rdl_layers.specs.Phase4.{width_of}
 use Rattle.rdl_layers.specs.Fields.{has, has_one_of, hardware_writes, is_counter, has_up, has_down}
@@ -42,16 +43,16 @@ ref_of what.SwAcc n = item.SwAcc n
 ref_of what.Intr n = item.Intr n
 ref_of what.Halt n = item.Halt n
 
-abbrev pub ref_to : List Instance → Item → RefItem
+abbrev pub ref_to : List Lineage → Item → RefItem
 ref_to all i = go (kind_of i.node)
   where
     go : Kind → RefItem
-    go kind.Signal = item.Signal (number_of i.node (all_signals all))
-    go kind.Field = ref_of i.what (number_of i.node (all_fields all))
-    go _ = ref_of i.what (number_of i.node (registers all))
+    go kind.Signal = item.Signal (number_of i.node (all_signals (nodes_in all)))
+    go kind.Field = ref_of i.what (number_of i.node (all_fields (nodes_in all)))
+    go _ = ref_of i.what (number_of i.node (registers (nodes_in all)))
 
 -- the item that a property names, if it names one
-abbrev pub item_at : List Instance → Instance → Prop → Option RefItem
+abbrev pub item_at : List Lineage → Instance → Prop → Option RefItem
 item_at all n p = go (target all (setting n p))
   where
     go : List Item → Option RefItem
@@ -59,7 +60,7 @@ item_at all n p = go (target all (setting n p))
     go (i ∷ is) = Some (ref_to all i)
 
 -- a property that is true has a pin, one that names an item takes that
-abbrev pub feed_at : List Instance → Instance → Prop → Feed
+abbrev pub feed_at : List Lineage → Instance → Prop → Feed
 feed_at all n p = go (setting n p) (item_at all n p)
   where
     go : Meaning → Option RefItem → Feed
@@ -68,11 +69,11 @@ feed_at all n p = go (setting n p) (item_at all n p)
     go m None = feed.Off
 
 -- let through where the one is 1, or where the other is 0
-abbrev pub gate_at : List Instance → Instance → Prop → Prop → Gate
+abbrev pub gate_at : List Lineage → Instance → Prop → Prop → Gate
 gate_at all n high low = cond (has high n) (gate.High (feed_at all n high)) (cond (has low n) (gate.Low (feed_at all n low)) gate.Always)
 
 -- the bits that an enable lets through, or that a mask does not take
-abbrev pub mask_at : List Instance → Instance → Prop → Prop → Mask
+abbrev pub mask_at : List Lineage → Instance → Prop → Prop → Mask
 mask_at all n enable masked = go (item_at all n enable) (item_at all n masked)
   where
     go : Option RefItem → Option RefItem → Mask
@@ -90,7 +91,7 @@ abbrev pub has_pin : Instance → Bool
 has_pin f = hardware_writes f && (not (is_counter f) || has_gate f)
 
 -- what it loads: the item of next, else its pin where it has one
-abbrev pub source_of : List Instance → Instance → Feed
+abbrev pub source_of : List Lineage → Instance → Feed
 source_of all f = go (item_at all f prop.Next)
   where
     go : Option RefItem → Feed
@@ -100,7 +101,7 @@ source_of all f = go (item_at all f prop.Next)
 -- Counting.
 
 -- a number or an item given, or this number where it is just true
-abbrev pub level_at : List Instance → Instance → Prop → ℕ → Option Level
+abbrev pub level_at : List Lineage → Instance → Prop → ℕ → Option Level
 level_at all f p plain = go (setting f p) (item_at all f p)
   where
     go : Meaning → Option RefItem → Option Level
@@ -114,7 +115,7 @@ level_or None n = level.Number n
 level_or (Some l) n = l
 
 -- one without an item has a pin
-abbrev pub pulse_at : List Instance → Instance → Prop → Feed
+abbrev pub pulse_at : List Lineage → Instance → Prop → Feed
 pulse_at all f p = go (item_at all f p)
   where
     go : Option RefItem → Feed
@@ -122,7 +123,7 @@ pulse_at all f p = go (item_at all f p)
     go None = feed.Pin
 
 -- the number or item given, else a pin of the width given, else 1
-abbrev pub amount_at : List Instance → Instance → Prop → Prop → Amount
+abbrev pub amount_at : List Lineage → Instance → Prop → Prop → Amount
 amount_at all f value width = go (setting f value) (item_at all f value) (setting f width)
   where
     go : Meaning → Option RefItem → Meaning → Amount
@@ -131,7 +132,7 @@ amount_at all f value width = go (setting f value) (item_at all f value) (settin
     go m None (number w) = amount.Pin w
     go m None w = amount.Number 1
 
-abbrev pub part_at : List Instance → Instance → Prop → Prop → Prop → Part
+abbrev pub part_at : List Lineage → Instance → Prop → Prop → Prop → Part
 part_at all f pulse value width = record { pulse = pulse_at all f pulse; amount = amount_at all f value width }
 
 abbrev pub when_some : {A : Type 0} → Bool → A → Option A
@@ -141,7 +142,7 @@ when_some test x = cond test (Some x) None
 abbrev pub ones_of : Instance → ℕ
 ones_of f = 2 ^ width_of f - 1
 
-abbrev pub count_of : List Instance → Instance → Count
+abbrev pub count_of : List Lineage → Instance → Count
 count_of all f = record {
   up = when_some (has_up f) (part_at all f prop.Incr prop.Incrvalue prop.Incrwidth);
   down = when_some (has_down f) (part_at all f prop.Decr prop.Decrvalue prop.Decrwidth);

@@ -1,5 +1,5 @@
 -- The fields and views of a block, read off a source that breaks no rule.
-use Rattle.std.specs.Prelude.{ℕ, Bool, true, false, not, ◌&&◌, cond, List, [], ◌∷◌, ◌++◌, map, flat_map, filter, reverse, Option, None, Some}
+use Rattle.std.specs.Prelude.{ℕ, Bool, true, false, not, ◌&&◌, cond, List, [], ◌∷◌, ◌++◌, map, flat_map, filter, Option, None, Some}
 use Rattle.std.specs.List.{list_any}
 use Rattle.rb_base.specs.declared.edge.Edge.TheVariants as edge
 use Rattle.rb_base.specs.declared.keyword.Keyword.{Keyword}
@@ -8,13 +8,12 @@ use Rattle.rdl_tree.specs.declared.item.Source.{Source}
 use Rattle.rdl_tree.specs.declared.item.Kind.TheVariants as kind
 use Rattle.rdl_props.specs.declared.prop.Prop.{Prop}
 use Rattle.rdl_props.specs.declared.prop.Prop.TheVariants as prop
-use Rattle.rdl_values.specs.Bodies.{Path, Step, below_top}
 use Rattle.rdl_values.specs.Uses.{path_text, same_name}
 use Rattle.rdl_values.specs.Instances.{Instance, children, signals}
+use Rattle.rdl_values.specs.Lineages.{Lineage, child_of, nodes_in}
 use Rattle.rdl_layers.specs.Settings.{Meaning, number, named, hard, intr, setting}
 use Rattle.rdl_layers.specs.Phase4.{width_of}
 use Rattle.rdl_layers.specs.Fields.{is_a, fields_of, has, reads, writes, is_once, hardware_writes, hardware_reads, is_alias, is_alias_of, views, is_wire, is_storage, is_counter}
-use Rattle.rdl_layers.specs.Assignments.{same_step}
 use Rattle.rdl_refs.specs.Items.{target}
 use Rattle.rb_model.specs.declared.kinds.Class.{Class}
 use Rattle.rb_model.specs.declared.kinds.Class.TheVariants as class
@@ -37,32 +36,19 @@ use Rattle.rdl_rules.specs.Feeds.{feed_at, gate_at, mask_at, source_of, count_of
 abbrev pub is_field_reset : Instance → Bool
 is_field_reset n = is_a kind.Signal n && has prop.FieldReset n
 
--- the path goes on below this one
-abbrev pub goes_on : List Step → List Step → Bool
-goes_on [] ts = true
-goes_on (s ∷ ss) [] = false
-goes_on (s ∷ ss) (t ∷ ts) = same_step s t && goes_on ss ts
+-- what stands in the bodies round a field from the nearest on, the root's last
+abbrev pub round : Source → Lineage → List Instance
+round s f = flat_map children f.ancestors ++ signals s
 
-abbrev pub encloses : Instance → Instance → Bool
-encloses n f = go n.path f.path
-  where
-    go : Path → Path → Bool
-    go (below_top ss) (below_top ts) = goes_on ss ts
-    go _ _ = false
-
--- the signals of the bodies round a field from the nearest on, the root's last
-abbrev pub signals_round : Source → List Instance → Instance → List Instance
-signals_round s all f = flat_map children (reverse (filter (λ n. encloses n f) all)) ++ signals s
-
-abbrev pub reset_signals : Source → List Instance → Instance → List Instance
-reset_signals s all f = map (λ i. i.node) (target all (setting f prop.Resetsignal)) ++ filter is_field_reset (signals_round s all f)
+abbrev pub reset_signals : Source → List Lineage → Lineage → List Instance
+reset_signals s all f = map (λ i. i.node) (target all (setting f.node prop.Resetsignal)) ++ filter is_field_reset (round s f)
 
 -- a signal is active high and synchronous unless it is set otherwise
-abbrev pub reset_by : Source → List Instance → Instance → ResetBy
+abbrev pub reset_by : Source → List Lineage → Lineage → ResetBy
 reset_by s all f = go (reset_signals s all f)
   where
     go : List Instance → ResetBy
-    go (n ∷ ns) = record { signal = Some (number_of n (all_signals all)); low = has prop.Activelow n; sync = not (has prop.Async n) }
+    go (n ∷ ns) = record { signal = Some (number_of n (all_signals (nodes_in all))); low = has prop.Activelow n; sync = not (has prop.Async n) }
     go [] = record { signal = None; low = true; sync = false }
 
 abbrev pub reset_value : Instance → Option ℕ
@@ -97,14 +83,14 @@ abbrev pub shown_of : Instance → List Shown
 shown_of f = map (λ p. p.1) (filter (λ p. has p.0 f) showing)
 
 -- a field of a register that is no alias
-abbrev pub field_of : Source → List Instance → Instance → Instance → Field
+abbrev pub field_of : Source → List Lineage → Lineage → Instance → Field
 field_of s all r f = record {
   path = path_text f.path;
-  reg = number_of r (registers all);
+  reg = number_of r.node (registers (nodes_in all));
   width = width_of f;
   reset = reset_value f;
-  reset_by = reset_by s all f;
-  class = class_of (views all r f) f;
+  reset_by = reset_by s all (child_of r f);
+  class = class_of (views (nodes_in all) r.node f) f;
   hw_writes = hardware_writes f;
   hw_reads = hardware_reads f;
   hw_first = hardware_first (setting f prop.Precedence);
@@ -116,7 +102,7 @@ field_of s all r f = record {
   clear = feed_at all f prop.Hwclr;
   keep = mask_at all f prop.Hwenable prop.Hwmask;
   pulse = has prop.Singlepulse f;
-  once = list_any is_once (views all r f);
+  once = list_any is_once (views (nodes_in all) r.node f);
   enable = mask_at all f prop.Enable prop.Mask;
   halt = mask_at all f prop.Haltenable prop.Haltmask;
   shown = shown_of f;
@@ -165,10 +151,10 @@ abbrev pub first_number : List Instance → List Instance → ℕ
 first_number [] fields = 0
 first_number (f ∷ fs) fields = number_of f fields
 
-abbrev pub view_of : List Instance → Instance → Instance → View
+abbrev pub view_of : List Lineage → Instance → Instance → View
 view_of all r v = record {
   path = path_text v.path;
-  field = first_number (viewed all r v) (all_fields all);
+  field = first_number (viewed (nodes_in all) r v) (all_fields (nodes_in all));
   alias = is_alias r;
   reads = reads v;
   writes = writes v;

@@ -1,5 +1,5 @@
 -- The lists of a block, in node order, and the number of a node in one.
-use Rattle.std.specs.Prelude.{ℕ, not, List, flat_map, filter}
+use Rattle.std.specs.Prelude.{ℕ, Bool, not, ◌&&◌, List, flat_map, filter}
 use Rattle.std.specs.List.{position_or_len}
 use Rattle.rdl_tree.specs.declared.item.Kind.TheVariants as kind
 use Rattle.rdl_values.specs.Instances.{Instance}
@@ -16,9 +16,12 @@ all_signals all = filter (is_a kind.Signal) all
 abbrev pub registers : List Instance → List Instance
 registers all = filter (is_a kind.Reg) all
 
--- the registers that are no aliases
+-- the node is a register that is no alias
+abbrev pub is_primary : Instance → Bool
+is_primary r = is_a kind.Reg r && not (is_alias r)
+
 abbrev pub primaries : List Instance → List Instance
-primaries all = filter (λ r. not (is_alias r)) (registers all)
+primaries all = filter is_primary all
 
 -- the fields of a block: an alias has none of its own
 abbrev pub all_fields : List Instance → List Instance

@@ -8,6 +8,7 @@ use Rattle.rdl_props.specs.declared.prop.Prop.TheVariants as prop
 use Rattle.rdl_values.specs.Bodies.{standing}
 use Rattle.rdl_values.specs.Uses.{when, at_}
 use Rattle.rdl_values.specs.Instances.{Instance}
+use Rattle.rdl_values.specs.Lineages.{Lineage}
 use Rattle.rdl_layers.specs.Settings.{Meaning, reference, setting}
 use Rattle.rdl_layers.specs.Phase4.{width_of}
 use Rattle.rdl_refs.specs.declared.item.What.{What}
@@ -56,18 +57,18 @@ fits single w n = n == 1
 fits within w n = not (nat_lt w n)
 
 -- R3 to R5, of the setting of a property that names an item
-abbrev pub bad_item : List Instance → Instance → Prop → Meaning → Item → List Fault
-bad_item all n p (reference path item scope place) i =
+abbrev pub bad_item : Instance → Prop → Meaning → Item → List Fault
+bad_item n p (reference path item scope place) i =
     when (not (fits (fit_of p) (width_of n) (item_width i))) (at_ rules.R3 place)
     ++ when (is_missing i) (at_ rules.R4 place)
-    ++ when (is_in_alias all i) (at_ rules.R5 place)
-bad_item all n p _ i = []
+    ++ when (is_in_alias i) (at_ rules.R5 place)
+bad_item n p _ i = []
 
-abbrev pub bad_target : List Instance → Instance → Prop → List Fault
-bad_target all n p = flat_map (bad_item all n p (setting n p)) (target all (setting n p))
+abbrev pub bad_target : List Lineage → Instance → Prop → List Fault
+bad_target all n p = flat_map (bad_item n p (setting n p)) (target all (setting n p))
 
 -- R6: a signal that resets, wider than one bit
-abbrev pub wide_reset : List Instance → Instance → List Fault
+abbrev pub wide_reset : List Lineage → Instance → List Fault
 wide_reset all n =
     at_node rules.R6 n (is_field_reset n && not (width_of n == 1))
     ++ flat_map (λ i. at_node rules.R6 i.node (not (width_of i.node == 1))) (target all (setting n prop.Resetsignal))
@@ -76,5 +77,5 @@ wide_reset all n =
 abbrev pub second_reset : List Instance → List Fault
 second_reset ns = flat_map (λ n. at_node rules.R8 n.1 (list_any is_field_reset n.0 && is_field_reset n.1)) (standing ns)
 
-abbrev pub of_references : List Instance → Instance → List Fault
+abbrev pub of_references : List Lineage → Instance → List Fault
 of_references all n = flat_map (bad_target all n) reference_props ++ wide_reset all n

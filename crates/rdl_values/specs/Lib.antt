@@ -5,6 +5,7 @@ pub mod Elaboration
 pub mod Enums
 pub mod Faults
 pub mod Instances
+pub mod Lineages
 pub mod NoNode
 pub mod Operators
 pub mod Parameters

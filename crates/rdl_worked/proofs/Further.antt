@@ -17,6 +17,7 @@ use Rattle.rdl_props.specs.declared.prop.Prop.TheVariants as prop
 use Rattle.rdl_values.specs.Bodies.{below_top}
 use Rattle.rdl_values.specs.Faults.{at_}
 use Rattle.rdl_values.specs.Instances.{Instance, nodes, upto}
+use Rattle.rdl_values.specs.Lineages.{lineages}
 use Rattle.rdl_values.specs.Phase3.{failures3, fails3}
 use Rattle.rdl_values.specs.Top.{top_use}
 use Rattle.rdl_values.specs.Uses.{path_text}
@@ -40,37 +41,37 @@ use Rattle.rdl_worked.proofs.Trees.{at, name, component, step_to, path_of}
 
 -- a string has the bytes between its quotes, each backslash one of them
 quoted_name_bytes : map (λ n. setting n prop.Name) (nodes None quoted_name) ≡ text (92 ∷ 34 ∷ 113 ∷ 92 ∷ 34 ∷ []) ∷ []
-unfolding nodes setting items led_to layout all_groups failures3 failures4 failures_ab failures_r edges_of digits props reference_props left_out_names roll-Path denote.Hole.Carrier.roll Rattle.rdl_tree.specs.declared.expr.Expr.TheBlock.hidden-the_row-Step-1 denote.Hole.Carrier.hidden Rattle.rdl_tree.specs.declared.item.Item.TheBlock.hidden-the_row-Item-0
+unfolding nodes lineages setting items led_to layout all_groups failures3 failures4 failures_ab failures_r edges_of digits props reference_props left_out_names roll-Path denote.Hole.Carrier.roll Rattle.rdl_tree.specs.declared.expr.Expr.TheBlock.hidden-the_row-Step-1 denote.Hole.Carrier.hidden Rattle.rdl_tree.specs.declared.item.Item.TheBlock.hidden-the_row-Item-0
 quoted_name_bytes = refl
 
 -- addresses are whole numbers, however large
 far_addresses : map (λ p. p.address) (registers None far_registers) ≡ 36893488147419103228 ∷ 36893488147419103234 ∷ []
-unfolding nodes setting items led_to layout all_groups failures3 failures4 failures_ab failures_r edges_of digits props reference_props left_out_names roll-Path denote.Hole.Carrier.roll Rattle.rdl_tree.specs.declared.expr.Expr.TheBlock.hidden-the_row-Step-1 denote.Hole.Carrier.hidden Rattle.rdl_tree.specs.declared.item.Item.TheBlock.hidden-the_row-Item-0
+unfolding nodes lineages setting items led_to layout all_groups failures3 failures4 failures_ab failures_r edges_of digits props reference_props left_out_names roll-Path denote.Hole.Carrier.roll Rattle.rdl_tree.specs.declared.expr.Expr.TheBlock.hidden-the_row-Step-1 denote.Hole.Carrier.hidden Rattle.rdl_tree.specs.declared.item.Item.TheBlock.hidden-the_row-Item-0
 far_addresses = refl
 
 -- so the first register is aligned, 4 bytes below 2^65, and the second isn't; neither meets the other
 far_registers_fail : in_order (failures_ab None far_registers) ≡ at_ rules.A4 (at 42) ∷ at_ rules.A3 (at 87) ∷ at_ rules.A4 (at 87) ∷ []
-unfolding nodes setting items led_to layout all_groups failures3 failures4 failures_ab failures_r edges_of digits props reference_props left_out_names roll-Path denote.Hole.Carrier.roll Rattle.rdl_tree.specs.declared.expr.Expr.TheBlock.hidden-the_row-Step-1 denote.Hole.Carrier.hidden Rattle.rdl_tree.specs.declared.item.Item.TheBlock.hidden-the_row-Item-0
+unfolding nodes lineages setting items led_to layout all_groups failures3 failures4 failures_ab failures_r edges_of digits props reference_props left_out_names roll-Path denote.Hole.Carrier.roll Rattle.rdl_tree.specs.declared.expr.Expr.TheBlock.hidden-the_row-Step-1 denote.Hole.Carrier.hidden Rattle.rdl_tree.specs.declared.item.Item.TheBlock.hidden-the_row-Item-0
 far_registers_fail = refl
 
 -- an alias stands where its primary gave no node, since the primary is judged by its form alone
 alias_stands_alone : map (λ r. path_text r.path) (numbers.registers (nodes None alias_of_no_node)) ≡ codes "s" ∷ []
-unfolding nodes setting items led_to layout all_groups failures3 failures4 failures_ab failures_r edges_of digits props reference_props left_out_names roll-Path denote.Hole.Carrier.roll Rattle.rdl_tree.specs.declared.expr.Expr.TheBlock.hidden-the_row-Step-1 denote.Hole.Carrier.hidden Rattle.rdl_tree.specs.declared.item.Item.TheBlock.hidden-the_row-Item-0
+unfolding nodes lineages setting items led_to layout all_groups failures3 failures4 failures_ab failures_r edges_of digits props reference_props left_out_names roll-Path denote.Hole.Carrier.roll Rattle.rdl_tree.specs.declared.expr.Expr.TheBlock.hidden-the_row-Step-1 denote.Hole.Carrier.hidden Rattle.rdl_tree.specs.declared.item.Item.TheBlock.hidden-the_row-Item-0
 alias_stands_alone = refl
 
 -- nothing is asked of it against a primary, but its source fails before
 alias_agrees_with_none : flat_map (of_alias (nodes None alias_of_no_node)) (numbers.registers (nodes None alias_of_no_node)) ≡ []
-unfolding nodes setting items led_to layout all_groups failures3 failures4 failures_ab failures_r edges_of digits props reference_props left_out_names roll-Path denote.Hole.Carrier.roll Rattle.rdl_tree.specs.declared.expr.Expr.TheBlock.hidden-the_row-Step-1 denote.Hole.Carrier.hidden Rattle.rdl_tree.specs.declared.item.Item.TheBlock.hidden-the_row-Item-0
+unfolding nodes lineages setting items led_to layout all_groups failures3 failures4 failures_ab failures_r edges_of digits props reference_props left_out_names roll-Path denote.Hole.Carrier.roll Rattle.rdl_tree.specs.declared.expr.Expr.TheBlock.hidden-the_row-Step-1 denote.Hole.Carrier.hidden Rattle.rdl_tree.specs.declared.item.Item.TheBlock.hidden-the_row-Item-0
 alias_agrees_with_none = refl
 
 -- the first phase that has a failure is answered
 first_phase_answers : FirstOf ((λ list. IsListOf (fails3 None alias_of_no_node) list) ∷ (λ list. IsListOf (fails4 None alias_of_no_node) list) ∷ []) (at_ rules.E6 (at 71) ∷ [])
-unfolding nodes setting items led_to layout all_groups failures3 failures4 failures_ab failures_r edges_of digits props reference_props left_out_names roll-Path denote.Hole.Carrier.roll Rattle.rdl_tree.specs.declared.expr.Expr.TheBlock.hidden-the_row-Step-1 denote.Hole.Carrier.hidden Rattle.rdl_tree.specs.declared.item.Item.TheBlock.hidden-the_row-Item-0
+unfolding nodes lineages setting items led_to layout all_groups failures3 failures4 failures_ab failures_r edges_of digits props reference_props left_out_names roll-Path denote.Hole.Carrier.roll Rattle.rdl_tree.specs.declared.expr.Expr.TheBlock.hidden-the_row-Step-1 denote.Hole.Carrier.hidden Rattle.rdl_tree.specs.declared.item.Item.TheBlock.hidden-the_row-Item-0
 first_phase_answers = inl (in_order-is (failures3 None alias_of_no_node), λ e. cc)
 
 -- a later one where those before it have none
 second_phase_passes : FirstOf ((λ list. IsListOf (fails3 None wire_of_a_signal) list) ∷ (λ list. IsListOf (fails4 None wire_of_a_signal) list) ∷ []) []
-unfolding nodes setting items led_to layout all_groups failures3 failures4 failures_ab failures_r edges_of digits props reference_props left_out_names roll-Path denote.Hole.Carrier.roll Rattle.rdl_tree.specs.declared.expr.Expr.TheBlock.hidden-the_row-Step-1 denote.Hole.Carrier.hidden Rattle.rdl_tree.specs.declared.item.Item.TheBlock.hidden-the_row-Item-0
+unfolding nodes lineages setting items led_to layout all_groups failures3 failures4 failures_ab failures_r edges_of digits props reference_props left_out_names roll-Path denote.Hole.Carrier.roll Rattle.rdl_tree.specs.declared.expr.Expr.TheBlock.hidden-the_row-Step-1 denote.Hole.Carrier.hidden Rattle.rdl_tree.specs.declared.item.Item.TheBlock.hidden-the_row-Item-0
 second_phase_passes = inr (in_order-is (failures3 None wire_of_a_signal), inr (in_order-is (failures4 None wire_of_a_signal), refl))
 
 -- Settings, as the code has them.
@@ -83,12 +84,12 @@ node_at k = get_or (nodes None wire_of_a_signal) k nobody
 
 -- a number
 width_is_said : Says (nodes None wire_of_a_signal) (set.Number 32) (setting (node_at 2) prop.Regwidth)
-unfolding nodes setting items led_to layout all_groups failures3 failures4 failures_ab failures_r edges_of digits props reference_props left_out_names roll-Path denote.Hole.Carrier.roll Rattle.rdl_tree.specs.declared.expr.Expr.TheBlock.hidden-the_row-Step-1 denote.Hole.Carrier.hidden Rattle.rdl_tree.specs.declared.item.Item.TheBlock.hidden-the_row-Item-0
+unfolding nodes lineages setting items led_to layout all_groups failures3 failures4 failures_ab failures_r edges_of digits props reference_props left_out_names roll-Path denote.Hole.Carrier.roll Rattle.rdl_tree.specs.declared.expr.Expr.TheBlock.hidden-the_row-Step-1 denote.Hole.Carrier.hidden Rattle.rdl_tree.specs.declared.item.Item.TheBlock.hidden-the_row-Item-0
 width_is_said = refl
 
 -- a reference, by the number of the register in whose body its assignment stands
 reference_is_said : Says (nodes None wire_of_a_signal) (set.Ref (path_of (step_to (name (codes "s") 66) [] ∷ [])) None 2 (at 56)) (setting (node_at 3) prop.Next)
-unfolding nodes setting items led_to layout all_groups failures3 failures4 failures_ab failures_r edges_of digits props reference_props left_out_names roll-Path denote.Hole.Carrier.roll Rattle.rdl_tree.specs.declared.expr.Expr.TheBlock.hidden-the_row-Step-1 denote.Hole.Carrier.hidden Rattle.rdl_tree.specs.declared.item.Item.TheBlock.hidden-the_row-Item-0
+unfolding nodes lineages setting items led_to layout all_groups failures3 failures4 failures_ab failures_r edges_of digits props reference_props left_out_names roll-Path denote.Hole.Carrier.roll Rattle.rdl_tree.specs.declared.expr.Expr.TheBlock.hidden-the_row-Step-1 denote.Hole.Carrier.hidden Rattle.rdl_tree.specs.declared.item.Item.TheBlock.hidden-the_row-Item-0
 reference_is_said = (refl, refl, (node_at 2, refl, refl), refl)
 
 -- An order.
@@ -150,11 +151,11 @@ in_order_of_numbers edges h = record {
 }
 
 abbrev wire_edges : Edges
-wire_edges = edges_of (nodes None wire_of_a_signal)
+wire_edges = edges_of (lineages None wire_of_a_signal)
 
 -- the signal, then a register's two items, and then those of a field that takes its value from the signal
 wire_refers_to_the_signal : wire_edges ≡ [] ∷ [] ∷ [] ∷ (0 ∷ []) ∷ (3 ∷ []) ∷ (3 ∷ []) ∷ (3 ∷ []) ∷ [] ∷ [] ∷ [] ∷ [] ∷ [] ∷ [] ∷ []
-unfolding nodes setting items led_to layout all_groups failures3 failures4 failures_ab failures_r edges_of digits props reference_props left_out_names roll-Path denote.Hole.Carrier.roll Rattle.rdl_tree.specs.declared.expr.Expr.TheBlock.hidden-the_row-Step-1 denote.Hole.Carrier.hidden Rattle.rdl_tree.specs.declared.item.Item.TheBlock.hidden-the_row-Item-0
+unfolding nodes lineages setting items led_to layout all_groups failures3 failures4 failures_ab failures_r edges_of digits props reference_props left_out_names roll-Path denote.Hole.Carrier.roll Rattle.rdl_tree.specs.declared.expr.Expr.TheBlock.hidden-the_row-Step-1 denote.Hole.Carrier.hidden Rattle.rdl_tree.specs.declared.item.Item.TheBlock.hidden-the_row-Item-0
 wire_refers_to_the_signal = refl
 
 -- so the items are in order as they stand

@@ -7,6 +7,7 @@ pub mod FurtherSources
 pub mod Instances
 pub mod InstancesSources
 pub mod InstancesTree
+pub mod Lineages
 pub mod MeaningSources
 pub mod Meanings
 pub mod References
