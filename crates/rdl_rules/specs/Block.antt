@@ -3,13 +3,14 @@ use Rattle.std.specs.Prelude.{◌≡◌, ℕ, Bool, not, ◌&&◌, List, [], ◌
 use Rattle.std.specs.List.{list_any}
 use Rattle.std.specs.List.Sorted.{IsPermutation}
 use Rattle.rdl_tree.specs.declared.item.Source.{Source}
+use Rattle.rdl_tree.specs.declared.item.Kind.TheVariants as kind
 use Rattle.rdl_props.specs.declared.prop.Prop.TheVariants as prop
 use Rattle.rdl_refs.specs.Leads.{is_at_root}
 use Rattle.rdl_values.specs.Uses.{path_text}
 use Rattle.rdl_values.specs.Instances.{Instance, nodes, top_of}
 use Rattle.rdl_values.specs.Lineages.{Lineage, lineages, nodes_in}
 use Rattle.rdl_layers.specs.Phase4.{width_of}
-use Rattle.rdl_layers.specs.Fields.{fields_of, is_alias, is_interrupt, has_one_of}
+use Rattle.rdl_layers.specs.Fields.{is_a, fields_of, is_alias, is_interrupt, has_one_of}
 use Rattle.rdl_addr.specs.Rules as addr
 use Rattle.rb_model.specs.declared.block.Block.{Block}
 use Rattle.rb_model.specs.declared.block.Field.{Field}
@@ -18,15 +19,19 @@ use Rattle.rb_model.specs.declared.block.Signal.{Signal}
 use Rattle.rb_model.specs.declared.block.View.{View}
 use Rattle.rb_model.specs.Items.{items}
 use Rattle.rb_model.specs.References.{IsOrdered}
-use Rattle.rdl_rules.specs.Numbers.{all_signals, registers, is_primary}
+use Rattle.rdl_rules.specs.Numbers.{Numbered, numbered, all_signals, registers}
 use Rattle.rdl_rules.specs.Fields.{field_of, view_of}
 use Rattle.rdl_rules.specs.Words.{read_words, write_words, AreByAddress}
 
 abbrev pub signal_of : Instance → Signal
 signal_of n = record { path = path_text n.path; width = width_of n; root = is_at_root n.path }
 
+-- the registers of a block, with their numbers
+abbrev pub numbered_registers : List Lineage → List (Numbered Lineage)
+numbered_registers all = numbered (λ r. r.node) (filter (λ n. is_a kind.Reg n.node) all)
+
 abbrev pub fields : Source → List Lineage → List Field
-fields s all = flat_map (λ r. map (field_of s all r) (fields_of r.node)) (filter (λ r. is_primary r.node) all)
+fields s all = flat_map (λ r. map (field_of s all r) (fields_of r.register.node)) (filter (λ r. not (is_alias r.register.node)) (numbered_registers all))
 
 abbrev pub views : List Lineage → List View
 views all = flat_map (λ r. map (view_of all r) (fields_of r)) (registers (nodes_in all))
@@ -50,8 +55,8 @@ pub record IsBlockOf (wanted : Option (List ℕ)) (s : Source) (waits : ℕ) (b 
   pub fields_ : b.fields ≡ fields s (lineages wanted s)
   pub views_ : b.views ≡ views (lineages wanted s)
   pub regs : b.regs ≡ map reg_of (registers (nodes wanted s))
-  pub reads : AreByAddress (read_words (nodes wanted s) (addr.registers wanted s)) b.reads
-  pub writes : AreByAddress (write_words (nodes wanted s) (addr.registers wanted s)) b.writes
+  pub reads : AreByAddress (read_words (addr.registers wanted s)) b.reads
+  pub writes : AreByAddress (write_words (addr.registers wanted s)) b.writes
   pub waits_ : b.waits ≡ waits
   pub each_item : IsPermutation (items b) b.order
   pub ordered : IsOrdered b b.order

@@ -28,7 +28,7 @@ use Rattle.rb_model.specs.declared.kinds.Shown.{Shown}
 use Rattle.rb_model.specs.declared.kinds.Shown.TheVariants as shown
 use Rattle.rb_model.specs.declared.block.Field.{Field}
 use Rattle.rb_model.specs.declared.block.View.{View}
-use Rattle.rdl_rules.specs.Numbers.{number_of, all_signals, all_fields, registers}
+use Rattle.rdl_rules.specs.Numbers.{Numbered, number_of, all_signals, all_fields, registers}
 use Rattle.rdl_rules.specs.Feeds.{feed_at, gate_at, mask_at, source_of, count_of, when_some}
 
 -- Resets (SystemRDL 2.0, 8.2.1): the field's own signal, else that of the nearest body round it, else the bus's.
@@ -37,11 +37,11 @@ abbrev pub is_field_reset : Instance → Bool
 is_field_reset n = is_a kind.Signal n && has prop.FieldReset n
 
 -- what stands in the bodies round a field from the nearest on, the root's last
-abbrev pub round : Source → Lineage → List Instance
-round s f = flat_map children f.ancestors ++ signals s
+abbrev pub nodes_round : Source → Lineage → List Instance
+nodes_round s f = flat_map children f.ancestors ++ signals s
 
 abbrev pub reset_signals : Source → List Lineage → Lineage → List Instance
-reset_signals s all f = map (λ i. i.node) (target all (setting f.node prop.Resetsignal)) ++ filter is_field_reset (round s f)
+reset_signals s all f = map (λ i. i.node) (target all (setting f.node prop.Resetsignal)) ++ filter is_field_reset (nodes_round s f)
 
 -- a signal is active high and synchronous unless it is set otherwise
 abbrev pub reset_by : Source → List Lineage → Lineage → ResetBy
@@ -83,14 +83,14 @@ abbrev pub shown_of : Instance → List Shown
 shown_of f = map (λ p. p.1) (filter (λ p. has p.0 f) showing)
 
 -- a field of a register that is no alias
-abbrev pub field_of : Source → List Lineage → Lineage → Instance → Field
+abbrev pub field_of : Source → List Lineage → Numbered Lineage → Instance → Field
 field_of s all r f = record {
   path = path_text f.path;
-  reg = number_of r.node (registers (nodes_in all));
+  reg = r.number;
   width = width_of f;
   reset = reset_value f;
-  reset_by = reset_by s all (child_of r f);
-  class = class_of (views (nodes_in all) r.node f) f;
+  reset_by = reset_by s all (child_of r.register f);
+  class = class_of (views (nodes_in all) r.register.node f) f;
   hw_writes = hardware_writes f;
   hw_reads = hardware_reads f;
   hw_first = hardware_first (setting f prop.Precedence);
@@ -102,7 +102,7 @@ field_of s all r f = record {
   clear = feed_at all f prop.Hwclr;
   keep = mask_at all f prop.Hwenable prop.Hwmask;
   pulse = has prop.Singlepulse f;
-  once = list_any is_once (views (nodes_in all) r.node f);
+  once = list_any is_once (views (nodes_in all) r.register.node f);
   enable = mask_at all f prop.Enable prop.Mask;
   halt = mask_at all f prop.Haltenable prop.Haltmask;
   shown = shown_of f;

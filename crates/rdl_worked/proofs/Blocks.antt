@@ -95,17 +95,17 @@ abbrev reset : Option ℕ → Bool → Bool → ResetBy
 reset signal low sync = record { signal = signal; low = low; sync = sync }
 
 -- the bits of a field that lies in two words, and of one beside it
-slots_of_two_words : map {B = ℕ × List Slot} (λ w. (w.address, w.slots)) (read_words (nodes None wide_register) (registers None wide_register)) ≡ (0x10, slot 0 20 0 12 ∷ slot 1 0 0 20 ∷ []) ∷ (0x14, slot 0 0 12 8 ∷ []) ∷ []
+slots_of_two_words : map {B = ℕ × List Slot} (λ w. (w.address, w.slots)) (read_words (registers None wide_register)) ≡ (0x10, slot 0 20 0 12 ∷ slot 1 0 0 20 ∷ []) ∷ (0x14, slot 0 0 12 8 ∷ []) ∷ []
 unfolding nodes lineages setting items led_to layout all_groups failures3 failures4 failures_ab failures_r failures6 digits props reference_props roll-Path denote.Hole.Carrier.roll Rattle.rdl_tree.specs.declared.expr.Expr.TheBlock.hidden-the_row-Step-1 denote.Hole.Carrier.hidden Rattle.rdl_tree.specs.declared.item.Item.TheBlock.hidden-the_row-Item-0
 slots_of_two_words = refl
 
 -- at a shared address a read reaches the read-only register
-reads_at_a_shared_address : map (λ w. w.reg) (read_words (nodes None read_and_write) (registers None read_and_write)) ≡ 0 ∷ []
+reads_at_a_shared_address : map (λ w. w.reg) (read_words (registers None read_and_write)) ≡ 0 ∷ []
 unfolding nodes lineages setting items led_to layout all_groups failures3 failures4 failures_ab failures_r failures6 digits props reference_props roll-Path denote.Hole.Carrier.roll Rattle.rdl_tree.specs.declared.expr.Expr.TheBlock.hidden-the_row-Step-1 denote.Hole.Carrier.hidden Rattle.rdl_tree.specs.declared.item.Item.TheBlock.hidden-the_row-Item-0
 reads_at_a_shared_address = refl
 
 -- and a write the write-only one
-writes_at_a_shared_address : map (λ w. w.reg) (write_words (nodes None read_and_write) (registers None read_and_write)) ≡ 1 ∷ []
+writes_at_a_shared_address : map (λ w. w.reg) (write_words (registers None read_and_write)) ≡ 1 ∷ []
 unfolding nodes lineages setting items led_to layout all_groups failures3 failures4 failures_ab failures_r failures6 digits props reference_props roll-Path denote.Hole.Carrier.roll Rattle.rdl_tree.specs.declared.expr.Expr.TheBlock.hidden-the_row-Step-1 denote.Hole.Carrier.hidden Rattle.rdl_tree.specs.declared.item.Item.TheBlock.hidden-the_row-Item-0
 writes_at_a_shared_address = refl
 
@@ -145,7 +145,7 @@ unfolding nodes lineages setting items led_to layout all_groups failures3 failur
 serial_port_interrupt = refl
 
 -- its words in turn
-serial_port_words : map {B = ℕ × List Slot} (λ w. (w.address, w.slots)) (read_words (nodes None serial_port) (registers None serial_port)) ≡ (0, slot 0 0 0 2 ∷ slot 1 2 0 1 ∷ slot 2 3 0 1 ∷ slot 3 8 0 1 ∷ []) ∷ (4, slot 4 0 0 1 ∷ slot 5 8 0 5 ∷ []) ∷ (8, slot 6 0 0 4 ∷ []) ∷ (0xC, slot 7 0 0 4 ∷ []) ∷ (0x10, slot 8 0 0 8 ∷ []) ∷ (0x14, slot 9 0 0 16 ∷ []) ∷ (0x18, slot 10 0 0 16 ∷ []) ∷ []
+serial_port_words : map {B = ℕ × List Slot} (λ w. (w.address, w.slots)) (read_words (registers None serial_port)) ≡ (0, slot 0 0 0 2 ∷ slot 1 2 0 1 ∷ slot 2 3 0 1 ∷ slot 3 8 0 1 ∷ []) ∷ (4, slot 4 0 0 1 ∷ slot 5 8 0 5 ∷ []) ∷ (8, slot 6 0 0 4 ∷ []) ∷ (0xC, slot 7 0 0 4 ∷ []) ∷ (0x10, slot 8 0 0 8 ∷ []) ∷ (0x14, slot 9 0 0 16 ∷ []) ∷ (0x18, slot 10 0 0 16 ∷ []) ∷ []
 unfolding nodes lineages setting items led_to layout all_groups failures3 failures4 failures_ab failures_r failures6 digits props reference_props roll-Path denote.Hole.Carrier.roll Rattle.rdl_tree.specs.declared.expr.Expr.TheBlock.hidden-the_row-Step-1 denote.Hole.Carrier.hidden Rattle.rdl_tree.specs.declared.item.Item.TheBlock.hidden-the_row-Item-0
 serial_port_words = refl
 
@@ -186,7 +186,7 @@ unfolding nodes lineages setting items led_to layout all_groups failures3 failur
 many_classes = refl
 
 -- its words of 16 bits: two views of a field, and two fields at one place of which one is read and one written
-many_words : map {B = ℕ × List Slot} (λ w. (w.address, w.slots)) (take 4 (read_words (nodes None many_kinds) (registers None many_kinds))) ≡ (0, slot 0 0 0 4 ∷ slot 1 4 0 4 ∷ slot 2 8 0 4 ∷ slot 3 12 0 4 ∷ []) ∷ (2, slot 4 0 0 4 ∷ slot 5 4 0 1 ∷ slot 6 5 0 1 ∷ slot 7 6 0 2 ∷ slot 8 8 0 4 ∷ slot 9 8 0 4 ∷ []) ∷ (4, []) ∷ (6, []) ∷ []
+many_words : map {B = ℕ × List Slot} (λ w. (w.address, w.slots)) (take 4 (read_words (registers None many_kinds))) ≡ (0, slot 0 0 0 4 ∷ slot 1 4 0 4 ∷ slot 2 8 0 4 ∷ slot 3 12 0 4 ∷ []) ∷ (2, slot 4 0 0 4 ∷ slot 5 4 0 1 ∷ slot 6 5 0 1 ∷ slot 7 6 0 2 ∷ slot 8 8 0 4 ∷ slot 9 8 0 4 ∷ []) ∷ (4, []) ∷ (6, []) ∷ []
 unfolding nodes lineages setting items led_to layout all_groups failures3 failures4 failures_ab failures_r failures6 digits props reference_props roll-Path denote.Hole.Carrier.roll Rattle.rdl_tree.specs.declared.expr.Expr.TheBlock.hidden-the_row-Step-1 denote.Hole.Carrier.hidden Rattle.rdl_tree.specs.declared.item.Item.TheBlock.hidden-the_row-Item-0
 many_words = refl
 

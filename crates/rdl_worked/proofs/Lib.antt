@@ -10,6 +10,7 @@ pub mod InstancesTree
 pub mod Lineages
 pub mod MeaningSources
 pub mod Meanings
+pub mod Numbers
 pub mod References
 pub mod ReferencesSources
 pub mod Settings

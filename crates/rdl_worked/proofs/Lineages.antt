@@ -4,14 +4,13 @@ use Rattle.std.specs.Fmt.{digits}
 use Rattle.rdl_tree.specs.declared.expr.Path.{roll-Path}
 use Rattle.rdl_tree.specs.declared.item.Kind.TheVariants as kind
 use Rattle.rdl_tree.specs.declared.item.Source.{Source}
-use Rattle.rdl_props.specs.Table.{reference_props, props}
 use Rattle.rdl_values.specs.Bodies.{Path, Step, of_signal, below_top}
 use Rattle.rdl_values.specs.Instances.{Instance, children, nodes, signals}
 use Rattle.rdl_values.specs.Lineages.{Lineage, lineages}
 use Rattle.rdl_values.specs.Uses.{path_text}
 use Rattle.rdl_layers.specs.Assignments.{same_step, same_steps}
 use Rattle.rdl_layers.specs.Fields.{is_a, steps_up}
-use Rattle.rdl_rules.specs.Fields.{round}
+use Rattle.rdl_rules.specs.Fields.{nodes_round}
 use Rattle.rdl_worked.proofs.BlockSources.{serial_port, many_resets, root_reset, with_alias, many_kinds}
 
 abbrev sources : List Source
@@ -52,6 +51,6 @@ abbrev round_by_path : Source → Instance → List Instance
 round_by_path s f = flat_map children (reverse (filter (λ n. is_above n.path f.path) (nodes None s))) ++ signals s
 
 -- it is in the bodies of the field's ancestors, and at the root
-round_is_above : flat_map (λ s. map (λ f. paths (round s f)) (all_fields s)) sources ≡ flat_map (λ s. map (λ f. paths (round_by_path s f.node)) (all_fields s)) sources
+round_is_above : flat_map (λ s. map (λ f. paths (nodes_round s f)) (all_fields s)) sources ≡ flat_map (λ s. map (λ f. paths (round_by_path s f.node)) (all_fields s)) sources
 unfolding nodes lineages digits roll-Path denote.Hole.Carrier.roll Rattle.rdl_tree.specs.declared.expr.Expr.TheBlock.hidden-the_row-Step-1 denote.Hole.Carrier.hidden Rattle.rdl_tree.specs.declared.item.Item.TheBlock.hidden-the_row-Item-0
 round_is_above = refl
