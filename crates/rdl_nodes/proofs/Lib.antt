@@ -1,4 +1,4 @@
-mod Apart
+pub mod Apart
 mod Numbered
-mod Paths
+pub mod Paths
 mod Words
