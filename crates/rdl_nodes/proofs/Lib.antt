@@ -1,5 +1,5 @@
-mod Apart
-mod Lineages
+pub mod Apart
+pub mod Lineages
 mod Numbered
-mod Paths
+pub mod Paths
 mod Words

@@ -25,7 +25,7 @@ use Rattle.rdl_values.proofs.Clean.{nearest_is, unreversed}
 use Rattle.rdl_values.proofs.Given.{each-flat_map, each-imp, none_in, when_none, given-all, children-given, signals-given, tops-given, IsChildOf, IsAtRoot}
 use Rattle.rdl_nodes.proofs.Apart.{Apart, Across, pairs, all-of, across, apart-append, apart-flat_map, apart-map, apart-imp, apart-rows}
 
-abbrev Differ : Instance → Instance → Type 0
+abbrev pub Differ : Instance → Instance → Type 0
 Differ m n = m.path ≢ n.path
 
 -- Names of uses that give nodes differ.
@@ -113,7 +113,7 @@ abbrev signal_step : Path → Step
 signal_step (of_signal t) = t
 signal_step (below_top ss) = record { name = []; index = [] }
 
-signals_apart : (s : Source) → Apart Differ (signals s)
+pub signals_apart : (s : Source) → Apart Differ (signals s)
 signals_apart s = in_body at_root (λ t u e. ap signal_step e) [] (root s) refl
 
 -- A node and those below it.
@@ -141,7 +141,7 @@ same_first ss t u ts us e = ap (first_of t) (cancelled ss (t ∷ ts) (u ∷ us) 
 abbrev IsBelow : List Step → Step → Instance → Type 0
 IsBelow ss t n = (ts : List Step) × (n.path ≡ below_top (ss ++ (t ∷ ts)))
 
-abbrev IsChild : List Step → Instance → Type 0
+abbrev pub IsChild : List Step → Instance → Type 0
 IsChild ss n = (t : Step) × (n.path ≡ below_top (ss ++ (t ∷ [])))
 
 a_child : (n c : Instance) (ss : List Step) → n.path ≡ below_top ss → IsChildOf n c → IsChild ss c
@@ -149,17 +149,17 @@ a_child n c ss e h =
     let step : Step = record { name = h.by.use_.name.text.now; index = h.given_.index } in
     (step, h.given_.path_is ∙ ap (λ q. path_in q step) h.in_body ∙ ap (λ q. path_in (in_node q (kind_of n)) step) e)
 
-are_children : (n : Instance) (ss : List Step) → n.path ≡ below_top ss → AllByRecursion (IsChild ss) (children n)
+pub are_children : (n : Instance) (ss : List Step) → n.path ≡ below_top ss → AllByRecursion (IsChild ss) (children n)
 are_children n ss e = each-imp (IsChildOf n) (IsChild ss) (children n) (λ c h. a_child n c ss e h) (children-given n)
 
-children_apart : (n : Instance) (ss : List Step) → n.path ≡ below_top ss → Apart Differ (children n)
+pub children_apart : (n : Instance) (ss : List Step) → n.path ≡ below_top ss → Apart Differ (children n)
 children_apart n ss e = in_body (in_node (below_top ss) (kind_of n)) (λ t u q. same_first ss t u [] [] q) _ (body n) (ap (λ p. in_node p (kind_of n)) e)
 
 -- all have paths that begin with this one
-abbrev IsUnder : List Step → Instance → Type 0
+abbrev pub IsUnder : List Step → Instance → Type 0
 IsUnder ss n = (ts : List Step) × (n.path ≡ below_top (ss ++ ts))
 
-under : (k : ℕ) (n : Instance) (ss : List Step) → n.path ≡ below_top ss → AllByRecursion (IsUnder ss) (with_below k n)
+pub under : (k : ℕ) (n : Instance) (ss : List Step) → n.path ≡ below_top ss → AllByRecursion (IsUnder ss) (with_below k n)
 under zero n ss e = (([], e ∙ ap below_top (sym (append-nil ss))), tt)
 under (suc k) n ss e = (([], e ∙ ap below_top (sym (append-nil ss))), each-flat_map (IsUnder ss) (with_below k) (children n) (each-imp (IsChild ss) (λ c. AllByRecursion (IsUnder ss) (with_below k c)) (children n) (λ c h. each-imp (IsUnder (ss ++ (h.0 ∷ []))) (IsUnder ss) (with_below k c) (λ m g. (h.0 ∷ g.0, g.1 ∙ ap below_top (append_assoc ss (h.0 ∷ []) g.0))) (under k c (ss ++ (h.0 ∷ [])) h.1)) (are_children n ss e)))
 
@@ -265,9 +265,9 @@ are_signals s = each-imp IsAtRoot IsSignal (signals s) (λ n h. (record { name =
 two_kinds : (t : Step) (ss : List Step) → of_signal t ≡ below_top ss → ⊥
 two_kinds t ss e = cc
 
-pub paths_differ : (wanted : Option (List ℕ)) (s : Source) → AllPairs (λ m n. m.path ≢ n.path) (nodes wanted s)
+pub nodes_apart : (wanted : Option (List ℕ)) (s : Source) → Apart Differ (nodes wanted s)
 unfolding nodes
-paths_differ wanted s = pairs Differ (signals s ++ flat_map (with_below most_names) (top_of wanted s)) (apart-append Differ (signals s) (flat_map (with_below most_names) (top_of wanted s)) (signals_apart s) tops signals_tops)
+nodes_apart wanted s = apart-append Differ (signals s) (flat_map (with_below most_names) (top_of wanted s)) (signals_apart s) tops signals_tops
   where
     tops : Apart Differ (flat_map (with_below most_names) (top_of wanted s))
     tops = apart-flat_map Differ (with_below most_names) (top_of wanted s) (alone _ (top_of wanted s) (one_top wanted s)) (each-imp (λ n. n.path ≡ below_top []) (λ n. Apart Differ (with_below most_names n)) (top_of wanted s) (λ n e. below_apart most_names n [] e) (tops-given wanted s))
@@ -277,3 +277,6 @@ paths_differ wanted s = pairs Differ (signals s ++ flat_map (with_below most_nam
 
     signals_tops : Across Differ (signals s) (flat_map (with_below most_names) (top_of wanted s))
     signals_tops = across IsSignal (IsUnder []) Differ (signals s) (flat_map (with_below most_names) (top_of wanted s)) (λ m n h g e. two_kinds h.0 g.0 (sym h.1 ∙ e ∙ g.1)) (are_signals s) all_under
+
+pub paths_differ : (wanted : Option (List ℕ)) (s : Source) → AllPairs (λ m n. m.path ≢ n.path) (nodes wanted s)
+paths_differ wanted s = pairs Differ (nodes wanted s) (nodes_apart wanted s)

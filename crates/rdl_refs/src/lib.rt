@@ -10,5 +10,5 @@ mod refs;
 pub use circle::OrderError;
 pub use error::RefError;
 pub use item::{ItemOf, What};
-pub use laws::all_references;
+pub use laws::{all_references, circles_go_on, one_target};
 pub use refs::Refs;
