@@ -8,3 +8,4 @@ pub mod Clean
 mod Around
 mod Rows
 mod Primary
+mod Tables

@@ -23,3 +23,4 @@ pub mod Given
 pub mod Scopes
 pub mod Rows
 pub mod Primary
+pub mod Table

@@ -6,6 +6,7 @@ mod laws;
 mod lookup;
 mod numbers;
 mod operators;
+mod table;
 mod wanted;
 
 pub use constants::eval;
