@@ -9,3 +9,4 @@ mod Around
 mod Rows
 mod Primary
 mod Tables
+pub mod Sight

@@ -137,11 +137,9 @@ impl<'a> Table<'a> {
         ensures { MatchOption result (visible.enum_before name.now self.now ≡ None) (λ e. visible.enum_before name.now self.now ≡ Some (record e.now { name = name.now.text.now })) }
     {
         let _each_once = self.enums.len();
-        let of = self.enums.get(&name.text)?;
-        if of.stands_before(name) {
-            Some(of)
-        } else {
-            None
+        match self.enums.get(&name.text) {
+            Some(of) if of.stands_before(name) => Some(of),
+            _ => None,
         }
     }
 }
