@@ -9,4 +9,5 @@ mod Around
 mod Rows
 mod Primary
 mod Tables
-pub mod Sight
+mod Nearest
+mod LookUps

@@ -1,7 +1,7 @@
 -- Look-ups in tables are those of the definitions.
-use Rattle.std.proofs.Common.{◌≡◌, ℕ, Bool, true, false, cond, ◌&&◌, nat_lt, bytes_eq, List, [], ◌∷◌, ◌++◌, map, find, Option, None, Some, option_map, is_some, MatchOption, refl, sym, ap, ◌∙◌, subst, if◌then◌else◌}
+use Rattle.std.proofs.Common.{◌≡◌, ℕ, Bool, true, false, cond, ◌&&◌, nat_lt, bytes_eq, List, [], ◌∷◌, ◌++◌, map, find, Option, None, Some, option_map, is_some, MatchOption, refl, sym, ap, ◌∙◌}
 use Rattle.std.specs.Cmp.Lexicographic.{bytes_decides}
-use Rattle.std.specs.List.{AllByRecursion, IsDistinct, list_any}
+use Rattle.std.specs.List.{AllByRecursion, IsDistinct}
 use Rattle.std.specs.Map.{lookup, keys_of}
 use Rattle.std.specs.Option.{option_copied}
 use Rattle.std.proofs.lemmas.List.{map-append}
@@ -12,8 +12,7 @@ use Rattle.rdl_tree.specs.declared.value.Value.{Value}
 use Rattle.rdl_tree.specs.declared.expr.Name.{Name}
 use Rattle.rdl_values.specs.Seen.{val_of}
 use Rattle.rdl_values.specs.Table.{bound_by, entries_by, enums_by, is_enum_named}
-use Rattle.rdl_values.specs.Values.{Val, EnumOf, entry_named}
-use Rattle.rdl_values.specs.Visible.{enum_before}
+use Rattle.rdl_values.specs.Values.{EnumOf, entry_named}
 
 turned : (a b : List ℕ) → bytes_eq a b ≡ bytes_eq b a
 turned a b = go (bytes_eq a b) (bytes_eq b a) refl refl

@@ -24,4 +24,4 @@ pub mod Scopes
 pub mod Rows
 pub mod Primary
 pub mod Table
-pub mod Sight
+pub mod Tabled

@@ -6,7 +6,7 @@ ghost use Rattle.rdl_values.specs.Values.{value_of};
 ghost use Rattle.rdl_values.specs.Values as values;
 ghost use Rattle.rdl_values.specs.Views.{steps_of};
 ghost use Rattle.rdl_values.specs.Seen.{around_of, outcome_of};
-ghost use Rattle.rdl_values.specs.Sight.{around_in};
+ghost use Rattle.rdl_values.specs.Tabled.{around_in};
 
 use crate::operators::{apply, condition};
 use crate::visible::{Visible, entry_in, parameter_in};
@@ -54,9 +54,10 @@ fn reference<'a>(
     })
 }
 
-/// The value of a constant expression, where the parameters and enumerations of `visible` are, or its first failure: V1 where a name stands for neither, V2 for an operand of the wrong type, V3 for a result below 0 or above
-/// 2^64 - 1, and V4 for a divisor of 0. V1 stands at the name, and the others at the operator. Operands come before their
-/// operator, the left one first; `&&` and `||` have both sides, and `? :` has the chosen one alone.
+/// The value of a constant expression, or its first failure: V1 where a name stands for no parameter and no enumeration that is
+/// visible, V2 for an operand of the wrong type, V3 for a result below 0 or above 2^64 - 1, and V4 for a divisor of 0. V1 stands
+/// at the name, and the others at the operator. Operands come before their operator, the left one first; `&&` and `||` have both
+/// sides, and `? :` has the chosen one alone.
 ///
 /// The operators are those of SystemRDL 2.0, annex B. It takes no memory, and recurses as deep as the tree goes: what the
 /// parser accepts has at most 64 open brackets, and 64 operators at each level of them.
@@ -89,10 +90,16 @@ pub fn eval_in<'a>(expr: &Expr<'a>, visible: &Visible<'_, 'a>) -> Result<Value<'
     }
 }
 
-/// The same, where the parameters and enumerations that `env` holds are visible. A look-up goes through them one by one: for a
-/// whole source use [`eval_in`] with tables.
+/// What [`eval_in`] gives where the parameters and enumerations that `env` holds are visible. A look-up goes through them one by
+/// one: for a whole source use [`eval_in`] with tables.
 pub fn eval<'a>(expr: &Expr<'a>, env: &Env<'a>) -> Result<Value<'a>, Fault>
     ensures { outcome_of result ≡ value_of (around_of env.now) expr.now }
 {
-    eval_in(expr, &Visible { tables: &[], listed: Some(env) })
+    eval_in(
+        expr,
+        &Visible {
+            tables: &[],
+            listed: Some(env),
+        },
+    )
 }

@@ -14,6 +14,7 @@ pub use constants::{eval, eval_in};
 pub use laws::{
     clean_source, lists_merge, name_decides_the_top, nodes_are_given, nodes_are_numbered,
     none_fails, over_the_count, primaries_stand, rows_by_number, scopes_are_bodies, sorted_once,
+    values_by_look_ups,
 };
 pub use table::{EnumTable, Table};
 pub use visible::Visible;

@@ -1,24 +1,24 @@
-//! What a constant expression sees, as an environment that is gone through name by name, or as tables of it.
+//! What a constant expression sees: tables of bodies, and an environment that is gone through name by name.
 
 ghost use Rattle.std.specs.Prelude.{◌≡◌, MatchOption, Some, None, Err};
 ghost use Rattle.rb_base.specs.declared.rule.Rule.TheVariants as rules;
 ghost use Rattle.rdl_values.specs.Values.{entry_value};
 ghost use Rattle.rdl_values.specs.Values as values;
 ghost use Rattle.rdl_values.specs.Seen.{val_of, outcome_of};
-ghost use Rattle.rdl_values.specs.Sight.{tabled, around_in};
+ghost use Rattle.rdl_values.specs.Tabled.{tabled, around_in};
 
 use crate::lookup::{entry, parameter};
 use crate::table::{EnumTable, Table};
 use rb_base::{Fault, Rule};
 use rdl_tree::{Env, Name, Value};
 
-/// What a constant expression sees: the bodies round it, the nearest first. A look-up goes through the tables, and not through
-/// the names in them; of those that are listed it goes through the names one by one.
+/// The bodies round a constant expression, the nearest first. A look-up goes through the tables one by one, but not through the
+/// names in them; where none of them has the name, it goes through the names that are listed one by one.
 #[derive(Clone, Copy)]
 pub struct Visible<'s, 'a> {
     /// The nearest bodies, a table each.
     pub tables: &'s [&'s Table<'a>],
-    /// The bodies round those, as they are listed.
+    /// The bodies round those, as they are listed, if any are not in tables.
     pub listed: Option<&'s Env<'a>>,
 }
 
@@ -51,7 +51,7 @@ fn tabled_enum<'t, 'a>(tables: &[&'t Table<'a>], name: &Name<'a>) -> Option<&'t 
 }
 
 /// The value of the nearest parameter of the name.
-#[tactic(auto, using(crate::proofs::Sight::nearest_append))]
+#[tactic(auto, using(crate::proofs::Nearest::nearest_append))]
 pub fn parameter_in<'a>(visible: &Visible<'_, 'a>, name: &[u8]) -> Option<Value<'a>>
     ensures { MatchOption result
         (values.parameter (around_in visible.now) name.now ≡ None)
@@ -78,7 +78,7 @@ fn unknown<'a>(name: &Name) -> Result<Value<'a>, Fault>
 
 /// The number of an entry of an enumeration (SystemRDL 2.0, clause 6), or V1: at the enumeration's name where none of that
 /// name is visible, and at the entry's name where it has no such entry.
-#[tactic(auto, using(crate::proofs::Sight::nearest_append))]
+#[tactic(auto, using(crate::proofs::Nearest::nearest_append))]
 pub fn entry_in<'a>(
     visible: &Visible<'_, 'a>,
     of: &Name<'a>,

@@ -3,7 +3,7 @@
 ghost use Rattle.std.specs.Prelude.{◌≡◌, option_map};
 ghost use Rattle.rdl_values.specs.Values as values;
 ghost use Rattle.rdl_values.specs.Seen.{around_of, val_of};
-ghost use Rattle.rdl_values.specs.Sight.{around_in};
+ghost use Rattle.rdl_values.specs.Tabled.{around_in};
 
 use crate::constants::{eval_in, path_place};
 use crate::operators::{flag_in, number_in};
@@ -37,11 +37,17 @@ pub fn number_of_in<'a>(expr: &Expr<'a>, visible: &Visible<'_, 'a>) -> Result<u6
     })
 }
 
-/// The same, where the parameters and enumerations that `env` holds are visible.
+/// What [`number_of_in`] gives where the parameters and enumerations that `env` holds are visible.
 pub fn number_of<'a>(expr: &Expr<'a>, env: &Env<'a>) -> Result<u64, Fault>
     ensures { result ≡ values.number_of (around_of env.now) expr.now }
 {
-    number_of_in(expr, &Visible { tables: &[], listed: Some(env) })
+    number_of_in(
+        expr,
+        &Visible {
+            tables: &[],
+            listed: Some(env),
+        },
+    )
 }
 
 /// What a value is as a parameter of a type (SystemRDL 2.0, 5.1.1): numbers and booleans convert to each other, and

@@ -1,4 +1,4 @@
-use Rattle.std.proofs.Common.{◌≡◌, ◌∙◌, ap}
+use Rattle.std.proofs.Common.{◌∙◌, ap}
 use Rattle.rdl_values.specs.Values.{entry_named}
 use Rattle.rdl_values.proofs.Tables.{number-of}
 use Rattle.rdl_values.proofs.table.EnumTable.number.Goals as goal

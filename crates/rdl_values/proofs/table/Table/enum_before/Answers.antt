@@ -1,4 +1,4 @@
-use Rattle.std.proofs.Common.{◌≡◌, ◌∙◌, sym, ap, subst, cond, None, Some, Option}
+use Rattle.std.proofs.Common.{◌≡◌, ◌∙◌, sym, ap, subst, cond, None, Some}
 use Rattle.std.specs.Option.{option_copied}
 use Rattle.rdl_values.specs.Values.{EnumOf}
 use Rattle.rdl_values.specs.Visible as visible
@@ -17,7 +17,7 @@ returns-in-Some c =
 -- src/table.rt:136:5
 pub returns-in_default : goal.returns-in_default
 returns-in_default c = elim c.in_default.branch [
-    in_default-via-in-Some+else-stands_before w ↦
+  | in_default-via-in-Some+else-stands_before w ↦
       let e : EnumOf = w.in-Some.of.now in
       let h = sym c.get.ensures.value ∙ ap option_copied w.in-Some.is in
       let found = before-some c.args.name.now c.self.inside.enums.entries c.len-each_once.ensures.unique e h w.stands_before.result w.stands_before.ensures in
@@ -25,4 +25,4 @@ returns-in_default c = elim c.in_default.branch [
   | in_default-via-in_default w ↦
       let none = before-none c.args.name.now c.self.inside.enums.entries c.len-each_once.ensures.unique (sym c.get.ensures.value ∙ ap option_copied w.in_default.is) in
       subst (λ t. visible.enum_before c.args.name.now t ≡ None) c.self.view_is none
-  ]
+]

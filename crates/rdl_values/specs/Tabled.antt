@@ -1,4 +1,4 @@
--- What the environments and the tables of the code show.
+-- The bodies that tables and environments of the code show.
 use Rattle.std.specs.Prelude.{List, [], ◌++◌, map, Option, None, Some}
 use Rattle.std.specs.Borrow.{Bor}
 use Rattle.rdl_tree.specs.declared.value.Env.{Env}

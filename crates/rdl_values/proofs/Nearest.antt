@@ -1,4 +1,4 @@
--- Look-ups over bodies, and those behind them.
+-- The nearest of bodies, and of bodies behind them.
 use Rattle.std.proofs.Common.{◌≡◌, List, [], ◌∷◌, ◌++◌, Option, None, Some, refl}
 use Rattle.std.specs.Option.{option_or}
 use Rattle.rdl_values.specs.Values.{nearest}
