@@ -8,3 +8,6 @@ pub mod Clean
 mod Around
 mod Rows
 mod Primary
+mod Tables
+mod Nearest
+mod LookUps

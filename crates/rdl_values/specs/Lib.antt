@@ -23,3 +23,5 @@ pub mod Given
 pub mod Scopes
 pub mod Rows
 pub mod Primary
+pub mod Table
+pub mod Tabled

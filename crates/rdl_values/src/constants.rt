@@ -6,9 +6,10 @@ ghost use Rattle.rdl_values.specs.Values.{value_of};
 ghost use Rattle.rdl_values.specs.Values as values;
 ghost use Rattle.rdl_values.specs.Views.{steps_of};
 ghost use Rattle.rdl_values.specs.Seen.{around_of, outcome_of};
+ghost use Rattle.rdl_values.specs.Tabled.{around_in};
 
-use crate::lookup::{entry, parameter};
 use crate::operators::{apply, condition};
+use crate::visible::{Visible, entry_in, parameter_in};
 use rb_base::{Fault, Place, Rule};
 use rdl_tree::{Env, Expr, Name, Path, Value};
 
@@ -38,12 +39,12 @@ pub fn path_place(path: &Path) -> Place
 fn reference<'a>(
     path: &Path<'a>,
     item: &Option<Name<'a>>,
-    env: &Env<'a>,
+    visible: &Visible<'_, 'a>,
 ) -> Result<Value<'a>, Fault>
-    ensures { outcome_of result ≡ value_of (around_of env.now) (expr.Ref path.now item.now) }
+    ensures { outcome_of result ≡ value_of (around_in visible.now) (expr.Ref path.now item.now) }
 {
     if let Some(name) = bare_name(path, item) {
-        if let Some(value) = parameter(env, name.text) {
+        if let Some(value) = parameter_in(visible, name.text) {
             return Ok(value);
         }
     }
@@ -53,38 +54,52 @@ fn reference<'a>(
     })
 }
 
-/// The value of a constant expression, where the parameters and enumerations that `env` holds are visible, or its first
-/// failure: V1 where a name stands for neither, V2 for an operand of the wrong type, V3 for a result below 0 or above
-/// 2^64 - 1, and V4 for a divisor of 0. V1 stands at the name, and the others at the operator. Operands come before their
-/// operator, the left one first; `&&` and `||` have both sides, and `? :` has the chosen one alone.
+/// The value of a constant expression, or its first failure: V1 where a name stands for no parameter and no enumeration that is
+/// visible, V2 for an operand of the wrong type, V3 for a result below 0 or above 2^64 - 1, and V4 for a divisor of 0. V1 stands
+/// at the name, and the others at the operator. Operands come before their operator, the left one first; `&&` and `||` have both
+/// sides, and `? :` has the chosen one alone.
 ///
 /// The operators are those of SystemRDL 2.0, annex B. It takes no memory, and recurses as deep as the tree goes: what the
 /// parser accepts has at most 64 open brackets, and 64 operators at each level of them.
-pub fn eval<'a>(expr: &Expr<'a>, env: &Env<'a>) -> Result<Value<'a>, Fault>
-    ensures { outcome_of result ≡ value_of (around_of env.now) expr.now }
+pub fn eval_in<'a>(expr: &Expr<'a>, visible: &Visible<'_, 'a>) -> Result<Value<'a>, Fault>
+    ensures { outcome_of result ≡ value_of (around_in visible.now) expr.now }
 {
     match expr {
         Expr::Number(n, _) => Ok(Value::Number(*n)),
         Expr::Flag(b, _) => Ok(Value::Flag(*b)),
         Expr::Str(s, _) => Ok(Value::Str(s)),
-        Expr::Ref(path, item) => reference(path, item, env),
-        Expr::EntryOf(of, name) => entry(env, of, name),
+        Expr::Ref(path, item) => reference(path, item, visible),
+        Expr::EntryOf(of, name) => entry_in(visible, of, name),
         Expr::Not(operand, place) => {
-            let value = eval(operand, env)?;
+            let value = eval_in(operand, visible)?;
             Ok(Value::Flag(!condition(&value, *place)?))
         }
         Expr::Binary(op, left, right, place) => {
-            let x = eval(left, env)?;
-            let y = eval(right, env)?;
+            let x = eval_in(left, visible)?;
+            let y = eval_in(right, visible)?;
             apply(*op, *place, &x, &y)
         }
         Expr::Pick(test, chosen, other, place) => {
-            let value = eval(test, env)?;
+            let value = eval_in(test, visible)?;
             if condition(&value, *place)? {
-                eval(chosen, env)
+                eval_in(chosen, visible)
             } else {
-                eval(other, env)
+                eval_in(other, visible)
             }
         }
     }
+}
+
+/// What [`eval_in`] gives where the parameters and enumerations that `env` holds are visible. A look-up goes through them one by
+/// one: for a whole source use [`eval_in`] with tables.
+pub fn eval<'a>(expr: &Expr<'a>, env: &Env<'a>) -> Result<Value<'a>, Fault>
+    ensures { outcome_of result ≡ value_of (around_of env.now) expr.now }
+{
+    eval_in(
+        expr,
+        &Visible {
+            tables: &[],
+            listed: Some(env),
+        },
+    )
 }

@@ -16,7 +16,9 @@ ghost use Rattle.rdl_values.specs.Given.{IsGivenBy};
 ghost use Rattle.rdl_values.specs.Instances.{Instance, children, given_by, judged_nodes, kind_of, most_nodes, nodes, rows, signals, upto};
 ghost use Rattle.rdl_values.specs.Bodies.{Body};
 ghost use Rattle.rdl_values.specs.NoNode.{no_node};
+ghost use Rattle.rdl_tree.specs.declared.expr.Expr.{Expr};
 ghost use Rattle.rdl_tree.specs.declared.expr.Name.{Name};
+ghost use Rattle.rdl_values.specs.Values.{Around, entry_value, parameter, value_of};
 ghost use Rattle.rdl_values.specs.Primary.{HasPrimary};
 ghost use Rattle.rdl_values.specs.Rows.{product, row};
 ghost use Rattle.rdl_values.specs.Scopes.{AreScopesIn};
@@ -94,4 +96,11 @@ pub fn rows_by_number()
 pub fn primaries_stand()
     ensures { (above : List Body) (b : Body) → AllByRecursion (λ s. no_node s ≡ []) (seen above b)
         → AllByRecursion (λ s. (n : Name) → s.use_.alias ≡ Some n → HasPrimary n (flat_map given_by (seen above b))) (seen above b) }
+{}
+
+/// A value depends on what names stand for alone: so it is the same where of two parameters, enumerations or entries of one name
+/// the one that is not meant is left out.
+pub fn values_by_look_ups()
+    ensures { (a b : Around) → ((n : List ℕ) → parameter a n ≡ parameter b n) → ((e n : Name) → entry_value a e n ≡ entry_value b e n)
+        → (x : Expr) → value_of a x ≡ value_of b x }
 {}

@@ -6,11 +6,16 @@ mod laws;
 mod lookup;
 mod numbers;
 mod operators;
+mod table;
+mod visible;
 mod wanted;
 
-pub use constants::eval;
+pub use constants::{eval, eval_in};
 pub use laws::{
     clean_source, lists_merge, name_decides_the_top, nodes_are_given, nodes_are_numbered,
     none_fails, over_the_count, primaries_stand, rows_by_number, scopes_are_bodies, sorted_once,
+    values_by_look_ups,
 };
-pub use wanted::{as_type, number_of, start_of};
+pub use table::{EnumTable, Table};
+pub use visible::Visible;
+pub use wanted::{as_type, number_of, number_of_in, start_of};

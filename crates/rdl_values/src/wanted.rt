@@ -3,9 +3,11 @@
 ghost use Rattle.std.specs.Prelude.{◌≡◌, option_map};
 ghost use Rattle.rdl_values.specs.Values as values;
 ghost use Rattle.rdl_values.specs.Seen.{around_of, val_of};
+ghost use Rattle.rdl_values.specs.Tabled.{around_in};
 
-use crate::constants::{eval, path_place};
+use crate::constants::{eval_in, path_place};
 use crate::operators::{flag_in, number_in};
+use crate::visible::Visible;
 use rb_base::{Fault, Place, Rule};
 use rdl_tree::{Env, Expr, PType, Value};
 
@@ -24,15 +26,28 @@ pub fn start_of(expr: &Expr) -> Place
 }
 
 /// The number of a constant expression where one is wanted, as an index or a dimension: a boolean is 0 or 1. It fails
-/// as [`eval`] does, and where the value is a string with V2 at the expression's start.
-pub fn number_of<'a>(expr: &Expr<'a>, env: &Env<'a>) -> Result<u64, Fault>
-    ensures { result ≡ values.number_of (around_of env.now) expr.now }
+/// as [`eval_in`](crate::eval_in) does, and where the value is a string with V2 at the expression's start.
+pub fn number_of_in<'a>(expr: &Expr<'a>, visible: &Visible<'_, 'a>) -> Result<u64, Fault>
+    ensures { result ≡ values.number_of (around_in visible.now) expr.now }
 {
-    let value = eval(expr, env)?;
+    let value = eval_in(expr, visible)?;
     number_in(&value).ok_or(Fault {
         place: start_of(expr),
         rule: Rule::V2,
     })
+}
+
+/// What [`number_of_in`] gives where the parameters and enumerations that `env` holds are visible.
+pub fn number_of<'a>(expr: &Expr<'a>, env: &Env<'a>) -> Result<u64, Fault>
+    ensures { result ≡ values.number_of (around_of env.now) expr.now }
+{
+    number_of_in(
+        expr,
+        &Visible {
+            tables: &[],
+            listed: Some(env),
+        },
+    )
 }
 
 /// What a value is as a parameter of a type (SystemRDL 2.0, 5.1.1): numbers and booleans convert to each other, and
