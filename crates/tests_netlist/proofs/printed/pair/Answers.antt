@@ -15,7 +15,7 @@ use Rattle.rtl_net.specs.declared.node.NetReset.TheVariants as resets
 use Rattle.rtl_net.specs.declared.node.Taken.TheVariants as takes
 use Rattle.rtl_net.proofs.Nets.{Stands-has, Stands-extends, Extends-trans}
 use Rattle.v_printer.specs.TextOf.{IsWhole}
-use Rattle.tests_verilog.proofs.printed.pair.Goals as goal
+use Rattle.tests_netlist.proofs.printed.pair.Goals as goal
 
 new_of : (net : Net) (name : List ℕ) (ss : List Seat) (ps : List Pin) → net.seats ≡ ss → registers_of net.nodes ≡ ps → Lacks (seat_names ss) name → Lacks (map (λ p. p.name) ps) name → IsNew net name
 new_of net name ss ps s r l m = record {

@@ -1,0 +1,7 @@
+//! Tests of netlists built and printed.
+#![tactic(auto)]
+
+#[cfg(test)]
+mod netlist;
+#[cfg(test)]
+mod printed;
