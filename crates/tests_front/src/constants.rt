@@ -1,10 +1,7 @@
 //! Constant expressions.
 use rb_base::{Fault, Place, Rule};
 use rdl_tree::{Bound, EntryValue, Env, Expr, Name, Op, PType, Path, Step, Value};
-use rdl_values::{
-    EnumTable, Table, Visible, as_type, eval, eval_in, number_of, number_of_in, start_of,
-};
-use std::test::Fail;
+use rdl_values::{as_type, eval, number_of, start_of};
 
 const NOTHING: Env<'static> = Env {
     bound: &[],
@@ -227,35 +224,4 @@ fn names(rt: HostRuntime) {
             fault(Rule::V1, 60)
         );
     }
-}
-
-#[test]
-fn tables(rt: HostRuntime) -> Result<(), Fail> {
-    let mut modes = EnumTable::new(rt.alloc(), name(b"mode_t", 20));
-    modes.add(b"FAST", 7)?;
-    modes.add(b"FAST", 5)?;
-    let mut body = Table::new(rt.alloc());
-    body.add(b"W", Value::Number(4))?;
-    body.add(b"W", Value::Number(9))?;
-    body.add_enum(modes)?;
-    let visible = Visible {
-        tables: &[&body],
-        listed: Some(&OUTER),
-    };
-    for (path, expected) in [
-        (WIDTH, Ok(4)),
-        (DEPTH, Ok(16)),
-        (UNKNOWN, fault(Rule::V1, 60)),
-    ] {
-        assert_eq!(rt; number_of_in(&Expr::Ref(path, None), &visible), expected);
-    }
-    for (place, entry, expected) in [
-        (50, b"FAST", Ok(7)),
-        (50, b"SLOW", fault(Rule::V1, 58)),
-        (10, b"FAST", fault(Rule::V1, 10)),
-    ] {
-        let expr = Expr::EntryOf(name(b"mode_t", place), name(entry, 58));
-        assert_eq!(rt; shown(eval_in(&expr, &visible)), expected);
-    }
-    Ok(())
 }
