@@ -1,9 +1,7 @@
 //! Constant expressions.
 use rb_base::{Fault, Place, Rule};
 use rdl_tree::{Bound, EntryValue, Env, Expr, Name, Op, PType, Path, Step, Value};
-use rdl_values::{
-    EnumTable, Table, Visible, as_type, eval, eval_in, number_of, number_of_in, start_of,
-};
+use rdl_values::{EnumTable, Table, Visible, as_type, eval, eval_in, number_of, start_of};
 use std::test::Fail;
 
 const NOTHING: Env<'static> = Env {
@@ -229,6 +227,15 @@ fn names(rt: HostRuntime) {
     }
 }
 
+// What an expression gives in bodies that have tables, inside `OUTER`.
+fn in_tables<'s>(tables: &'s [&'s Table<'static>], expr: &Expr<'static>) -> Result<u64, Fault> {
+    let visible = Visible {
+        tables,
+        listed: Some(&OUTER),
+    };
+    shown(eval_in(expr, &visible))
+}
+
 #[test]
 fn tables(rt: HostRuntime) -> Result<(), Fail> {
     let mut modes = EnumTable::new(rt.alloc(), name(b"mode_t", 20));
@@ -238,24 +245,23 @@ fn tables(rt: HostRuntime) -> Result<(), Fail> {
     body.add(b"W", Value::Number(4))?;
     body.add(b"W", Value::Number(9))?;
     body.add_enum(modes)?;
-    let visible = Visible {
-        tables: &[&body],
-        listed: Some(&OUTER),
-    };
-    for (path, expected) in [
-        (WIDTH, Ok(4)),
-        (DEPTH, Ok(16)),
-        (UNKNOWN, fault(Rule::V1, 60)),
-    ] {
-        assert_eq!(rt; number_of_in(&Expr::Ref(path, None), &visible), expected);
-    }
-    for (place, entry, expected) in [
-        (50, b"FAST", Ok(7)),
-        (50, b"SLOW", fault(Rule::V1, 58)),
-        (10, b"FAST", fault(Rule::V1, 10)),
-    ] {
-        let expr = Expr::EntryOf(name(b"mode_t", place), name(entry, 58));
-        assert_eq!(rt; shown(eval_in(&expr, &visible)), expected);
+    let held = [&body];
+    let table = [
+        (Expr::Ref(WIDTH, None), Ok(4)),
+        (Expr::Ref(DEPTH, None), Ok(16)),
+        (Expr::Ref(UNKNOWN, None), fault(Rule::V1, 60)),
+        (Expr::EntryOf(name(b"mode_t", 50), name(b"FAST", 58)), Ok(7)),
+        (
+            Expr::EntryOf(name(b"mode_t", 50), name(b"SLOW", 58)),
+            fault(Rule::V1, 58),
+        ),
+        (
+            Expr::EntryOf(name(b"mode_t", 10), name(b"FAST", 18)),
+            fault(Rule::V1, 10),
+        ),
+    ];
+    for (expr, expected) in table {
+        assert_eq!(rt; in_tables(&held, &expr), expected);
     }
     Ok(())
 }
