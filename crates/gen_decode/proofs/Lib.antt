@@ -1,0 +1,4 @@
+mod Cutting
+mod Halves
+mod Joined
+mod Spreading

@@ -1,0 +1,28 @@
+-- A number spread over nodes.
+use Rattle.std.specs.Prelude.{◌≡◌, ℕ, ◌/◌, ◌%◌, ◌^◌, ◌==◌, ◌<◌, ◌≤◌, ◌&&◌, if◌then◌else◌, List, length}
+use Rattle.rtl_net.specs.Value.{At, bit_of}
+use Rattle.rtl_net.specs.Net.{Net, Settles, Stands, IsNode}
+use Rattle.rtl_net.specs.Graft.{at}
+use Rattle.rtl_net.specs.declared.node.Id.{Id}
+
+-- each is a bit
+pub record StandEach (net : Net) (ids : List Id) : Type 0 where
+  pub each : (k : ℕ) → k < length ids → Stands net (at ids k) 1
+
+-- For each number below their count, whether `on` is 1 and `number` is that number, at each edge at which `number` is below
+-- the count if `on` is 1.
+pub record AreHits (net : Net) (on number : Id) (ids : List Id) : Type 0 where
+  pub stand : StandEach net ids
+  pub value : (x : At) → Settles net x → (x.node on.0 ≡ 1 → x.node number.0 < length ids)
+      → (k : ℕ) → k < length ids → x.node (at ids k).0 ≡ bit_of (x.node on.0 == 1 && x.node number.0 == k)
+
+-- the same of the number's bits from `level` up, where it is at most `last`
+pub record AreHitsAbove (net : Net) (on number : Id) (last level : ℕ) (ids : List Id) : Type 0 where
+  pub stand : StandEach net ids
+  pub value : (x : At) → Settles net x → (x.node on.0 ≡ 1 → x.node number.0 ≤ last)
+      → (k : ℕ) → k < length ids → x.node (at ids k).0 ≡ bit_of (x.node on.0 == 1 && x.node number.0 / 2 ^ level == k)
+
+-- two nodes for each above: at odd numbers where the bit is 1, at even ones where the other is
+pub record AreHalved (net : Net) (above : List Id) (bit off : Id) (ids : List Id) : Type 0 where
+  pub each : (k : ℕ) → k < length ids
+      → IsNode net (at ids k) 1 (λ x. bit_of (x.node (at above (k / 2)).0 == 1 && x.node (if k % 2 == 1 then bit else off).0 == 1))

@@ -1,0 +1,8 @@
+//! An address decoded: which word it means, and a node for each word.
+#![tactic(auto)]
+
+mod spread;
+mod words;
+
+pub use spread::hits;
+pub use words::{Decoded, decode};
