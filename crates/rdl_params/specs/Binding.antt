@@ -1,0 +1,30 @@
+-- The values of parameters in the code and in the definitions.
+use Rattle.std.specs.Prelude.{◌≡◌, List, [], map, Option, MatchOption, IsErr, Ok}
+use Rattle.rdl_values.specs.Bodies.{Closure, around}
+use Rattle.rdl_values.specs.Parameters.{Bound}
+use Rattle.rdl_values.specs.Seen.{bound_of}
+use Rattle.rdl_values.specs.Tabled.{tabled}
+use Rattle.rdl_values.specs.Uses.{Use}
+use Rattle.rdl_values.specs.Values.{Outcome}
+use Rattle.rdl_judging.specs.Firsts.{HasNames}
+use Rattle.rdl_judging.specs.Shown.{IsAlike, IsShown}
+use Rattle.rdl_params.specs.Arguments.{AreArguments}
+use Rattle.rdl_params.specs.declared.binding.Binding.{Binding}
+use Rattle.rdl_params.specs.declared.binding.Site.{Site}
+
+-- The place of a use, for a definition in the bodies round its text.
+pub record IsSite (s : Site) (u : Use) (c : Closure) : Type 0 where
+  pub arguments : AreArguments s.arguments.now u.args
+  pub outside : IsShown s.outside (around u.scope)
+  pub outer : IsAlike (tabled s.outer.now) (around c.scope)
+  pub place : s.place ≡ u.type_place
+
+-- The parameters are bound to these values.
+pub record IsBinding (b : Binding) (bound : Bound) : Type 0 where
+  pub values : map bound_of b.bound.items ≡ bound
+  pub table : b.table ≡ record { bound = bound; enums = [] }
+  pub names : HasNames b.names (map (λ x. x.0) bound)
+
+-- the values, where none fails
+abbrev pub AreValues : Outcome Bound → Option Binding → Type 0
+AreValues o r = MatchOption r (IsErr o) (λ b. (o ≡ Ok (map bound_of b.bound.items)) × (b.table ≡ record { bound = map bound_of b.bound.items; enums = [] }))
