@@ -11,7 +11,7 @@ use rdl_values::{Chain, eval_along, number_along, values_by_look_ups};
 
 /// The value of a constant expression, or its first failure, in all bodies whose names stand for what they do here. It takes no
 /// memory (SystemRDL 2.0, clause 6).
-pub fn value_seen<'a>(expr: &Expr<'a>, visible: &Chain<'_, '_, 'a>) -> Result<Value<'a>, Fault>
+pub fn value_seen<'a>(expr: &Expr<'a>, visible: &Chain<'_, '_, '_, 'a>) -> Result<Value<'a>, Fault>
     ensures { (around : Around) → IsShown visible.now around → outcome_of result ≡ value_of around expr.now }
 {
     values_by_look_ups();
@@ -19,7 +19,7 @@ pub fn value_seen<'a>(expr: &Expr<'a>, visible: &Chain<'_, '_, 'a>) -> Result<Va
 }
 
 /// The number of a constant expression, or its first failure, in all bodies whose names stand for what they do here.
-pub fn number_seen<'a>(expr: &Expr<'a>, visible: &Chain<'_, '_, 'a>) -> Result<u64, Fault>
+pub fn number_seen<'a>(expr: &Expr<'a>, visible: &Chain<'_, '_, '_, 'a>) -> Result<u64, Fault>
     ensures { (around : Around) → IsShown visible.now around → result ≡ number_of around expr.now }
 {
     values_by_look_ups();

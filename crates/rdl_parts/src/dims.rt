@@ -57,7 +57,7 @@ impl Dims {
 pub(crate) fn judge_dims<'a>(
     alloc: Global,
     exprs: &[Expr<'a>],
-    visible: &Chain<'_, '_, 'a>,
+    visible: &Chain<'_, '_, '_, 'a>,
     failures: &mut Failures,
 ) -> Result<Dims, NoMemory>
     ensures dims { IfOk result (λ r. (around : Around) → IsShown visible.now around → AreDims around exprs.now r) }
