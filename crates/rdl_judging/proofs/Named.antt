@@ -99,3 +99,19 @@ firsts_step f xs i x l is old new h put =
 -- all of them
 pub names_all : {X : Type 0} (f : X → List ℕ) (xs : List X) (i : ℕ) (t : Firsts) → length xs ≤ i → HasNames t (map f (take i xs)) → HasNames t (map f xs)
 names_all f xs i t l h = subst (λ ys. HasNames t (map f ys)) (take_all i xs l) h
+
+-- the same of what a list has at a place, whatever it has past its end
+
+map_at : {X : Type 0} (f : X → List ℕ) (xs : List X) (i : ℕ) (d : X) → i < length xs → map f (take i xs) ++ (f (get_or xs i d) ∷ []) ≡ map f (take (i + 1) xs)
+map_at f xs i d l = sym (map-append f (take i xs) (get_or xs i d ∷ [])) ∙ ap (map f) (sym (take_more xs i d l))
+
+pub names_at : {X : Type 0} (f : X → List ℕ) (xs : List X) (i : ℕ) (d : X) → i < length xs → (old new : Firsts) (at : ℕ) → HasNames old (map f (take i xs)) → IsPut (f (get_or xs i d)) at old new → HasNames new (map f (take (i + 1) xs))
+names_at f xs i d l old new at h put = subst (HasNames new) (map_at f xs i d l) (names_more old new (map f (take i xs)) (f (get_or xs i d)) at h put)
+
+pub firsts_at : {X : Type 0} (f : X → List ℕ) (xs : List X) (i : ℕ) (d : X) → i < length xs → (old new : Firsts) → AreFirsts old (map f (take i xs)) → IsPut (f (get_or xs i d)) i old new → AreFirsts new (map f (take (i + 1) xs))
+firsts_at f xs i d l old new h put =
+    let size : i ≡ length (map f (take i xs)) = sym (length-map (take i xs) f ∙ length-take-le i xs (omega (arith, l))) in
+    subst (AreFirsts new) (map_at f xs i d l) (firsts_more old new (map f (take i xs)) (f (get_or xs i d)) i h size put)
+
+pub firsts_all : {X : Type 0} (f : X → List ℕ) (xs : List X) (i : ℕ) (t : Firsts) → length xs ≤ i → AreFirsts t (map f (take i xs)) → AreFirsts t (map f xs)
+firsts_all f xs i t l h = subst (λ ys. AreFirsts t (map f ys)) (take_all i xs l) h

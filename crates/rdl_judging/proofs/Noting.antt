@@ -1,8 +1,8 @@
 -- Failures that are noted one after the other.
-use Rattle.std.proofs.Common.{◌≡◌, ◌∙◌, ℕ, ◌+◌, ◌<◌, length, get_or, take, subst, append_assoc, append-nil, Bool, true, ◌&&◌, List, [], ◌∷◌, ◌++◌, flat_map, Ok, Err, refl, sym, ap}
+use Rattle.std.proofs.Common.{◌≡◌, ◌∙◌, ℕ, ◌+◌, ◌<◌, ◌≤◌, length, get_or, take, subst, append_assoc, append-nil, Bool, true, ◌&&◌, List, [], ◌∷◌, ◌++◌, flat_map, Ok, Err, refl, sym, ap}
 use Rattle.std.specs.Result.{is_ok}
 use Rattle.std.proofs.lemmas.Grind.{flat_map-append}
-use Rattle.std.proofs.lemmas.List.{take_more}
+use Rattle.std.proofs.lemmas.List.{take_all, take_more}
 use Rattle.rb_base.specs.declared.fault.Fault.{Fault}
 use Rattle.rdl_values.specs.Bodies.{standing, standing_from}
 use Rattle.rdl_values.specs.Faults.{failures}
@@ -70,3 +70,23 @@ standing_noted f xs i x l at a b s t u h k =
 -- the same failures
 pub noted_as : (fs gs : List Fault) (b : Bool) (s t : List Fault) → fs ≡ gs → IsNoted fs b s t → IsNoted gs b s t
 noted_as fs gs b s t e h = subst (λ xs. IsNoted xs b s t) e h
+
+-- the same of what a list has at a place, whatever it has past its end
+
+pub step_noted_at : {X : Type 0} (f : X → List Fault) (xs : List X) (i : ℕ) (d : X) → i < length xs → (a b : Bool) (s t u : List Fault) → IsNoted (flat_map f (take i xs)) a s t → IsNoted (f (get_or xs i d)) b t u
+    → IsNoted (flat_map f (take (i + 1) xs)) (a && b) s u
+step_noted_at f xs i d l a b s t u h k =
+    let one = subst (λ fs. IsNoted fs b t u) (sym (append-nil (f (get_or xs i d)))) k in
+    subst (λ ys. IsNoted (flat_map f ys) (a && b) s u) (sym (take_more xs i d l)) (each_noted f (take i xs) (get_or xs i d ∷ []) a b s t u h one)
+
+pub standing_noted_at : {X : Type 0} (f : List X × X → List Fault) (xs : List X) (i : ℕ) (d : X) → i < length xs → (a b : Bool) (s t u : List Fault) → IsNoted (flat_map f (standing (take i xs))) a s t
+    → IsNoted (f (take i xs, get_or xs i d)) b t u → IsNoted (flat_map f (standing (take (i + 1) xs))) (a && b) s u
+standing_noted_at f xs i d l a b s t u h k =
+    let one = subst (λ fs. IsNoted fs b t u) (sym (append-nil (f (take i xs, get_or xs i d)))) k in
+    let both = each_noted f (standing (take i xs)) ((take i xs, get_or xs i d) ∷ []) a b s t u h one in
+    let pushed = ap standing (take_more xs i d l) ∙ standing-push (take i xs) (get_or xs i d) in
+    subst (λ ys. IsNoted (flat_map f ys) (a && b) s u) (sym pushed) both
+
+-- those of all
+pub standing_noted_all : {X : Type 0} (f : List X × X → List Fault) (xs : List X) (i : ℕ) → length xs ≤ i → (a : Bool) (s t : List Fault) → IsNoted (flat_map f (standing (take i xs))) a s t → IsNoted (flat_map f (standing xs)) a s t
+standing_noted_all f xs i l a s t h = subst (λ ys. IsNoted (flat_map f (standing ys)) a s t) (take_all i xs l) h

@@ -1,6 +1,6 @@
 //! The arguments of a use.
 
-ghost use Rattle.std.specs.Prelude.{◌≡◌, map, IfOk};
+ghost use Rattle.std.specs.Prelude.{◌≡◌, map, IfOk, option_map, slice_get};
 ghost use Rattle.rdl_judging.specs.Firsts.{HasNames};
 ghost use Rattle.rdl_params.specs.Bound.{names_of_params};
 
@@ -18,6 +18,13 @@ fn names_of<'a>(alloc: Global, params: &'a [Param<'a>]) -> Result<Firsts<'a>, No
         names.put(param.name.text, index)?;
     }
     Ok(names)
+}
+
+// The value of the argument at a place.
+fn value_at<'a>(list: &[Arg<'a>], place: usize) -> Option<Expr<'a>>
+    ensures { result ≡ option_map (λ a. a.value) (slice_get list.now place) }
+{
+    list.get(place).map(|arg| arg.value)
 }
 
 /// The arguments of a use, of two of one name the first.
@@ -60,11 +67,8 @@ impl<'a> Arguments<'a> {
     pub fn value(&self, name: &Name) -> Option<Expr<'a>>
         ensures { (args : List AnyArg) → AreArguments self.now args → result ≡ argument args name.now }
     {
-        let Some(place) = self.places.find(name.text) else {
-            return None;
-        };
-        match self.list.get(place) {
-            Some(arg) => Some(arg.value),
+        match self.places.find(name.text) {
+            Some(place) => value_at(self.list, place),
             None => None,
         }
     }

@@ -13,18 +13,8 @@ use crate::typing::{default_typed, typed};
 use rb_base::{Fault, NoMemory, Place, Rule};
 use rdl_judging::{Failures, Firsts};
 use rdl_tree::{Bound, Name, Param, Value};
-use rdl_values::{Table, Visible};
+use rdl_values::{Chain, Table};
 use std::alloc::Global;
-
-/// What a use gives a definition's parameters: its arguments and what they see, the bodies round the definition's text, the
-/// nearest first, and where the name of the type stands.
-#[derive(Clone, Copy)]
-pub struct Site<'s, 'a> {
-    pub arguments: &'s Arguments<'a>,
-    pub outside: Visible<'s, 'a>,
-    pub outer: &'s [&'s Table<'a>],
-    pub place: Place,
-}
 
 /// The values of parameters, by name and in order.
 #[derive(Drop)]
@@ -66,45 +56,54 @@ impl<'a> Binding<'a> {
 
     // The value of the parameter behind these: E6 where one of them has its name, or where it has neither an argument nor a
     // default.
-    fn value_behind<'t, 's: 't>(
-        &'t self,
-        alloc: Global,
+    fn value_behind(
+        &self,
         param: &Param<'a>,
-        site: &Site<'s, 'a>,
-    ) -> Result<Result<Value<'a>, Fault>, NoMemory>
-        ensures { IfOk result (λ r. (u : Use) (c : Closure) (bound : BoundOf) → IsSite site.now u c → IsBinding self.now bound → outcome_of r ≡ parameters.value_at u c.scope bound param.now) }
+        arguments: &Arguments<'a>,
+        outside: &Chain<'_, '_, '_, 'a>,
+        inside: &[usize],
+        place: Place,
+    ) -> Result<Value<'a>, Fault>
+        ensures { (u : Use) (c : Closure) (bound : BoundOf) → IsSite arguments.now outside.now inside.now place u c → IsBinding self.now bound → outcome_of result ≡ parameters.value_at u c.scope bound param.now }
     {
         if self.names.find(param.name.text).is_some() {
-            return Ok(Err(Fault {
+            return Err(Fault {
                 place: param.name.place,
                 rule: Rule::E6,
-            }));
+            });
         }
-        match (site.arguments.value(&param.name), &param.default) {
-            (Some(value), _) => Ok(typed(param, &value, &site.outside)),
-            (None, Some(value)) => default_typed(alloc, param, value, &self.table, site.outer),
-            (None, None) => Ok(Err(Fault {
-                place: site.place,
+        if let Some(value) = arguments.value(&param.name) {
+            return typed(param, &value, outside);
+        }
+        match &param.default {
+            Some(value) => default_typed(param, value, &self.table, outside.tables, inside),
+            None => Err(Fault {
+                place,
                 rule: Rule::E6,
-            })),
+            }),
         }
     }
 }
 
 /// The values of a definition's parameters at a use, each its argument, or else its default. Where one has none, its failure is
-/// put in, and what is behind it has no value: E6 where there is neither argument nor default or a name stands twice, and the V rules.
+/// put in, and what is behind it has no value: E6 where there is neither argument nor default or a name stands twice, and the V
+/// rules. Arguments see `outside`, and defaults the bodies round the definition's text, which are `inside` by their numbers in the
+/// same list; E6 stands where the name of the type does.
 pub fn bind<'a>(
     alloc: Global,
     params: &'a [Param<'a>],
-    site: &Site<'_, 'a>,
+    arguments: &Arguments<'a>,
+    outside: &Chain<'_, '_, '_, 'a>,
+    inside: &[usize],
+    place: Place,
     failures: &mut Failures,
 ) -> Result<Option<Binding<'a>>, NoMemory>
-    ensures noted { IfOk result (λ r. (u : Use) (c : Closure) → c.def.params.now ≡ params.now → IsSite site.now u c → IsNoted (faults.failures (parameters.bound_of u c)) (is_some r) failures.old failures.new) }
-    ensures values { IfOk result (λ r. (u : Use) (c : Closure) → c.def.params.now ≡ params.now → IsSite site.now u c → AreValues (parameters.bound_of u c) r) }
+    ensures noted { IfOk result (λ r. (u : Use) (c : Closure) → c.def.params.now ≡ params.now → IsSite arguments.now outside.now inside.now place u c → IsNoted (faults.failures (parameters.bound_of u c)) (is_some r) failures.old failures.new) }
+    ensures values { IfOk result (λ r. (u : Use) (c : Closure) → c.def.params.now ≡ params.now → IsSite arguments.now outside.now inside.now place u c → AreValues (parameters.bound_of u c) r) }
 {
     let mut binding = Binding::new(alloc);
     for param in params {
-        let outcome = binding.value_behind(alloc, param, site)?;
+        let outcome = binding.value_behind(param, arguments, outside, inside, place);
         match failures.value_of(outcome)? {
             Some(value) => binding.add(param.name, value)?,
             None => return Ok(None),

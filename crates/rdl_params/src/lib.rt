@@ -6,4 +6,4 @@ mod binding;
 mod typing;
 
 pub use arguments::Arguments;
-pub use binding::{Binding, Site, bind};
+pub use binding::{Binding, bind};

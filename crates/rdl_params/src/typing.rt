@@ -1,23 +1,22 @@
 //! Values as the types of parameters have them.
 
-ghost use Rattle.std.specs.Prelude.{◌≡◌, ◌∷◌, IfOk, map};
+ghost use Rattle.std.specs.Prelude.{◌≡◌, ◌∷◌};
 ghost use Rattle.rdl_values.specs.Parameters as parameters;
 ghost use Rattle.rdl_values.specs.Seen.{outcome_of};
-ghost use Rattle.rdl_values.specs.Tabled.{tabled};
 ghost use Rattle.rdl_values.specs.Values.{Around};
+ghost use Rattle.rdl_values.specs.Chained.{chained};
 ghost use Rattle.rdl_judging.specs.Shown.{IsAlike, IsShown};
 
-use rb_base::{Fault, NoMemory, Rule};
+use rb_base::{Fault, Rule};
 use rdl_judging::value_seen;
 use rdl_tree::{Expr, Param, Value};
-use rdl_values::{Table, Visible, as_type, start_of};
-use std::alloc::Global;
+use rdl_values::{Chain, Table, as_type, start_of};
 
 /// The value of an expression as the type of a parameter has it, or V2 at its start.
 pub(crate) fn typed<'a>(
     param: &Param<'a>,
     expr: &Expr<'a>,
-    visible: &Visible<'_, 'a>,
+    visible: &Chain<'_, '_, '_, 'a>,
 ) -> Result<Value<'a>, Fault>
     ensures { (around : Around) → IsShown visible.now around → outcome_of result ≡ parameters.typed around param.now expr.now }
 {
@@ -28,36 +27,20 @@ pub(crate) fn typed<'a>(
     })
 }
 
-// A table before others.
-fn nearest_first<'t, 's: 't, 'a>(
-    alloc: Global,
-    table: &'t Table<'a>,
-    outer: &[&'s Table<'a>],
-) -> Result<Vec<&'t Table<'a>>, NoMemory>
-    ensures { IfOk result (λ r. tabled r.items ≡ table.now ∷ tabled outer.now) }
-{
-    let mut tables = Vec::new(alloc);
-    tables.push(table)?;
-    for outer in outer {
-        tables.push(*outer)?;
-    }
-    Ok(tables)
-}
-
 /// The value of a default, which sees the parameters before its own and the bodies round the definition's text.
-pub(crate) fn default_typed<'t, 'a>(
-    alloc: Global,
+pub(crate) fn default_typed<'a>(
     param: &Param<'a>,
     expr: &Expr<'a>,
-    table: &'t Table<'a>,
-    outer: &'t [&'t Table<'a>],
-) -> Result<Result<Value<'a>, Fault>, NoMemory>
-    ensures { IfOk result (λ r. (around : Around) → IsAlike (tabled outer.now) around → outcome_of r ≡ parameters.typed (table.now ∷ around) param.now expr.now) }
+    table: &Table<'a>,
+    tables: &[Table<'a>],
+    inside: &[usize],
+) -> Result<Value<'a>, Fault>
+    ensures { (around : Around) → IsAlike (chained tables.now inside.now) around → outcome_of result ≡ parameters.typed (table.now ∷ around) param.now expr.now }
 {
-    let tables: Vec<&'t Table<'a>> = nearest_first(alloc, table, outer)?;
-    let visible = Visible {
-        tables: &tables,
-        listed: None,
+    let visible = Chain {
+        nearest: Some(table),
+        tables,
+        numbers: inside,
     };
-    Ok(typed(param, expr, &visible))
+    typed(param, expr, &visible)
 }

@@ -1,4 +1,4 @@
-use Rattle.std.proofs.Common.{map, take}
+use Rattle.std.proofs.Common.{take}
 use Rattle.rdl_judging.specs.Firsts.{HasNames}
 use Rattle.rdl_params.specs.Bound.{names_of_params}
 use Rattle.rdl_params.proofs.arguments.names_of.Given as goal

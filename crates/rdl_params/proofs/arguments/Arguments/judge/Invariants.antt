@@ -1,4 +1,4 @@
-use Rattle.std.proofs.Common.{map, flat_map, take}
+use Rattle.std.proofs.Common.{take}
 use Rattle.rdl_judging.specs.Firsts.{AreFirsts}
 use Rattle.rdl_judging.specs.Noted.{IsNoted}
 use Rattle.rdl_params.specs.Bound.{bad_args, names_of_args}
