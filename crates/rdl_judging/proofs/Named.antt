@@ -1,8 +1,9 @@
 -- A table of first places, name by name.
-use Rattle.std.proofs.Common.{◌≡◌, ◌∙◌, ℕ, suc, ◌+◌, Bool, true, false, ◌||◌, cond, if◌then◌else◌, add-zero, zero-add, bytes_eq, List, [], ◌∷◌, ◌++◌, length, map, Option, None, Some, is_some, refl, sym, ap, arith}
+use Rattle.std.proofs.Common.{◌≡◌, ◌∙◌, ℕ, suc, ◌+◌, Bool, true, false, ◌||◌, cond, if◌then◌else◌, add-zero, zero-add, bytes_eq, List, [], ◌∷◌, ◌++◌, ◌<◌, ◌≤◌, length, get_or, take, map, Option, None, Some, is_some, refl, sym, ap, subst, arith}
 use Rattle.std.specs.Cmp.Lexicographic.{bytes_decides}
 use Rattle.std.specs.List.{list_any, position_from}
 use Rattle.std.specs.Option.{option_or}
+use Rattle.std.proofs.lemmas.List.{length-map, length-take-le, map-append, take_all, take_more}
 use Rattle.std.proofs.lemmas.List.Folds.{list_any-append}
 use Rattle.rdl_judging.specs.Firsts.{AreFirsts, HasNames, place_of}
 use Rattle.rdl_judging.specs.declared.firsts.Firsts.{Firsts}
@@ -81,3 +82,20 @@ names_more old new names name at h put = record {
 pub any-named : {X : Type 0} (f : X → List ℕ) (n : List ℕ) (xs : List X) → list_any (λ m. bytes_eq m n) (map f xs) ≡ list_any (λ x. bytes_eq (f x) n) xs
 any-named f n [] = refl
 any-named f n (x ∷ xs) = ap (λ b. bytes_eq (f x) n || b) (any-named f n xs)
+
+-- Things one by one, by their places.
+
+map_step : {X : Type 0} (f : X → List ℕ) (xs : List X) (i : ℕ) (x : X) → i < length xs → x ≡ get_or xs i x → map f (take i xs) ++ (f x ∷ []) ≡ map f (take (i + 1) xs)
+map_step f xs i x l at = sym (map-append f (take i xs) (x ∷ [])) ∙ ap (map f) (sym (take_more xs i x l ∙ ap (λ y. take i xs ++ (y ∷ [])) (sym at)))
+
+pub names_step : {X : Type 0} (f : X → List ℕ) (xs : List X) (i : ℕ) (x : X) → i < length xs → x ≡ get_or xs i x → (old new : Firsts) (at : ℕ) → HasNames old (map f (take i xs)) → IsPut (f x) at old new → HasNames new (map f (take (i + 1) xs))
+names_step f xs i x l is old new at h put = subst (HasNames new) (map_step f xs i x l is) (names_more old new (map f (take i xs)) (f x) at h put)
+
+pub firsts_step : {X : Type 0} (f : X → List ℕ) (xs : List X) (i : ℕ) (x : X) → i < length xs → x ≡ get_or xs i x → (old new : Firsts) → AreFirsts old (map f (take i xs)) → IsPut (f x) i old new → AreFirsts new (map f (take (i + 1) xs))
+firsts_step f xs i x l is old new h put =
+    let size : i ≡ length (map f (take i xs)) = sym (length-map (take i xs) f ∙ length-take-le i xs (omega (arith, l))) in
+    subst (AreFirsts new) (map_step f xs i x l is) (firsts_more old new (map f (take i xs)) (f x) i h size put)
+
+-- all of them
+pub names_all : {X : Type 0} (f : X → List ℕ) (xs : List X) (i : ℕ) (t : Firsts) → length xs ≤ i → HasNames t (map f (take i xs)) → HasNames t (map f xs)
+names_all f xs i t l h = subst (λ ys. HasNames t (map f ys)) (take_all i xs l) h
