@@ -115,3 +115,24 @@ firsts_at f xs i d l old new h put =
 
 pub firsts_all : {X : Type 0} (f : X → List ℕ) (xs : List X) (i : ℕ) (t : Firsts) → length xs ≤ i → AreFirsts t (map f (take i xs)) → AreFirsts t (map f xs)
 firsts_all f xs i t l h = subst (λ ys. AreFirsts t (map f ys)) (take_all i xs l) h
+
+-- the names that have first places are those of the list
+pub firsts-some : (t : Firsts) (names : List (List ℕ)) (n : List ℕ) → AreFirsts t names → is_some (place_of t n) ≡ list_any (λ m. bytes_eq m n) names
+firsts-some t names n h = ap is_some (h.at n) ∙ go 0 names
+  where
+    go : (i : ℕ) (ms : List (List ℕ)) → is_some (position_from (λ m. bytes_eq m n) i ms) ≡ list_any (λ m. bytes_eq m n) ms
+    go i [] = refl
+    go i (m ∷ ms) = here (bytes_eq m n) (go (i + 1) ms)
+      where
+        here : (b : Bool) → is_some (position_from (λ m. bytes_eq m n) (i + 1) ms) ≡ list_any (λ m. bytes_eq m n) ms → is_some (cond b (Some i) (position_from (λ m. bytes_eq m n) (i + 1) ms)) ≡ (b || list_any (λ m. bytes_eq m n) ms)
+        here true h = refl
+        here false h = h
+
+-- a place is none before the one from which it is counted
+pub place-from : (f : List ℕ → Bool) (i : ℕ) (xs : List (List ℕ)) (k : ℕ) → position_from f i xs ≡ Some k → i ≤ k
+place-from f i [] k e = cc
+place-from f i (x ∷ xs) k e = go (f x) e (place-from f (i + 1) xs k)
+  where
+    go : (b : Bool) → cond b (Some i) (position_from f (i + 1) xs) ≡ Some k → (position_from f (i + 1) xs ≡ Some k → i + 1 ≤ k) → i ≤ k
+    go true e ih = let same : i ≡ k = cc in omega (arith, same)
+    go false e ih = let l = ih e in omega (arith, l)

@@ -8,8 +8,8 @@ use Rattle.rdl_values.specs.Bodies.{standing, standing_from}
 use Rattle.rdl_values.specs.Faults.{failures}
 use Rattle.rdl_values.specs.Parts.{is_empty}
 use Rattle.rdl_values.specs.Values.{Outcome}
-use Rattle.rdl_judging.specs.Noted.{IsNoted, with_all}
-use Rattle.rdl_judging.proofs.Sets.{with_all-append}
+use Rattle.rdl_judging.specs.Noted.{Holds, IsNoted, with_all}
+use Rattle.rdl_judging.proofs.Sets.{again, with_all-append}
 
 pub is_empty-append : {A : Type 0} (xs ys : List A) → is_empty (xs ++ ys) ≡ (is_empty xs && is_empty ys)
 is_empty-append [] ys = refl
@@ -90,3 +90,7 @@ standing_noted_at f xs i d l a b s t u h k =
 -- those of all
 pub standing_noted_all : {X : Type 0} (f : List X × X → List Fault) (xs : List X) (i : ℕ) → length xs ≤ i → (a : Bool) (s t : List Fault) → IsNoted (flat_map f (standing (take i xs))) a s t → IsNoted (flat_map f (standing xs)) a s t
 standing_noted_all f xs i l a s t h = subst (λ ys. IsNoted (flat_map f (standing ys)) a s t) (take_all i xs l) h
+
+-- failures that are held are noted without a step
+pub held_noted : (fs list : List Fault) → Holds list fs → IsNoted fs (is_empty fs) list list
+held_noted fs list h = record { none = refl; put = sym (again fs list h) }

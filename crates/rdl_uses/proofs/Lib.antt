@@ -1,0 +1,2 @@
+mod Primaries
+mod Judging
