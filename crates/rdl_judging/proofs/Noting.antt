@@ -50,7 +50,7 @@ step_noted f xs i x l at a b s t u h k =
     let one = subst (λ fs. IsNoted fs b t u) (sym (append-nil (f x))) k in
     subst (λ ys. IsNoted (flat_map f ys) (a && b) s u) (sym last) (each_noted f (take i xs) (x ∷ []) a b s t u h one)
 
-standing_from-push : {X : Type 0} (before xs : List X) (x : X) → standing_from before (xs ++ (x ∷ [])) ≡ standing_from before xs ++ ((before ++ xs, x) ∷ [])
+pub standing_from-push : {X : Type 0} (before xs : List X) (x : X) → standing_from before (xs ++ (x ∷ [])) ≡ standing_from before xs ++ ((before ++ xs, x) ∷ [])
 standing_from-push before [] x = ap (λ b. (b, x) ∷ []) (sym (append-nil before))
 standing_from-push before (y ∷ xs) x = ap (λ zs. (before, y) ∷ zs) (standing_from-push (before ++ (y ∷ [])) xs x ∙ ap (λ b. standing_from (before ++ (y ∷ [])) xs ++ ((b, x) ∷ [])) (append_assoc before (y ∷ []) xs))
 

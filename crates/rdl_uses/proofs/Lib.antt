@@ -1,2 +1,3 @@
 mod Primaries
 mod Judging
+mod Seens

@@ -4,7 +4,9 @@
 mod earlier;
 mod holder;
 mod instance;
+mod instances;
 
 pub use earlier::Earlier;
 pub use holder::{Holder, Parent};
 pub use instance::judge_instance;
+pub use instances::{Given, Visited, judge_instances};
