@@ -7,21 +7,21 @@ ghost use Rattle.rdl_judging.specs.Shown.{IsShown};
 
 use rb_base::Fault;
 use rdl_tree::{Expr, Value};
-use rdl_values::{Visible, eval_in, number_of_in, values_by_look_ups};
+use rdl_values::{Chain, eval_along, number_along, values_by_look_ups};
 
 /// The value of a constant expression, or its first failure, in all bodies whose names stand for what they do here. It takes no
 /// memory (SystemRDL 2.0, clause 6).
-pub fn value_seen<'a>(expr: &Expr<'a>, visible: &Visible<'_, 'a>) -> Result<Value<'a>, Fault>
+pub fn value_seen<'a>(expr: &Expr<'a>, visible: &Chain<'_, '_, '_, 'a>) -> Result<Value<'a>, Fault>
     ensures { (around : Around) → IsShown visible.now around → outcome_of result ≡ value_of around expr.now }
 {
     values_by_look_ups();
-    eval_in(expr, visible)
+    eval_along(expr, visible)
 }
 
 /// The number of a constant expression, or its first failure, in all bodies whose names stand for what they do here.
-pub fn number_seen<'a>(expr: &Expr<'a>, visible: &Visible<'_, 'a>) -> Result<u64, Fault>
+pub fn number_seen<'a>(expr: &Expr<'a>, visible: &Chain<'_, '_, '_, 'a>) -> Result<u64, Fault>
     ensures { (around : Around) → IsShown visible.now around → result ≡ number_of around expr.now }
 {
     values_by_look_ups();
-    number_of_in(expr, visible)
+    number_along(expr, visible)
 }

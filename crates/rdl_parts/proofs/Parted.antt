@@ -12,7 +12,7 @@ use Rattle.rdl_values.specs.Parts.{bad_array, bad_parts, dims_of, has_zero, is_l
 use Rattle.rdl_values.specs.Paths.{Parent, depth_in}
 use Rattle.rdl_values.specs.Uses.{Use, form_of}
 use Rattle.rdl_values.specs.Values.{number_of}
-use Rattle.rdl_values.specs.declared.visible.Visible.{Visible}
+use Rattle.rdl_values.specs.declared.chain.Chain.{Chain}
 use Rattle.rdl_judging.specs.Noted.{IsNoted}
 use Rattle.rdl_judging.proofs.Noting.{each_noted}
 use Rattle.rdl_parts.specs.Judged.{AreDims, IsUseOf, StandsAt, fails_of, other_parts}
@@ -25,7 +25,7 @@ grouped a b c d e f = simp append_assoc
 noted_as : (fs gs : List Fault) (b : Bool) (s t : List Fault) → fs ≡ gs → IsNoted fs b s t → IsNoted gs b s t
 noted_as fs gs b s t e h = subst (λ xs. IsNoted xs b s t) e h
 
-module _ (p : Parent) (u : Use) (k : Kind) (i : Inst) (v : Visible) (at : Standing) (d : Dims) (stands : StandsAt at p) (is : IsUseOf i v u) where
+module _ (p : Parent) (u : Use) (k : Kind) (i : Inst) (v : Chain) (at : Standing) (d : Dims) (stands : StandsAt at p) (is : IsUseOf i v u) where
   abbrev fails : Expr → List Fault
   fails = fails_of (around u.scope)
 

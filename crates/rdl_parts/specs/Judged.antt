@@ -15,13 +15,13 @@ use Rattle.rdl_values.specs.Parts.{bad_parts, bad_array, is_zero, long_path}
 use Rattle.rdl_values.specs.Paths.{Parent, Step, depth_in, joined, steps_in}
 use Rattle.rdl_values.specs.Uses.{Form, Use, form_of, values}
 use Rattle.rdl_values.specs.Values.{Around, Outcome, number_of}
-use Rattle.rdl_values.specs.declared.visible.Visible.{Visible}
+use Rattle.rdl_values.specs.declared.chain.Chain.{Chain}
 use Rattle.rdl_judging.specs.Shown.{IsShown}
 use Rattle.rdl_parts.specs.declared.dims.Dims.{Dims}
 use Rattle.rdl_parts.specs.declared.standing.Standing.{Standing}
 
 -- The use of a definition by this instance, whose expressions see what is visible.
-pub record IsUseOf (i : Inst) (v : Visible) (u : Use) : Type 0 where
+pub record IsUseOf (i : Inst) (v : Chain) (u : Use) : Type 0 where
   pub name : u.name ≡ i.name
   pub dims : u.dims ≡ i.dims.now
   pub form : u.form ≡ form_of i

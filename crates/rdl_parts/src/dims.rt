@@ -15,7 +15,7 @@ use crate::lengths::text_len;
 use rb_base::{Fault, NoMemory};
 use rdl_judging::{Failures, number_seen};
 use rdl_tree::{Expr, Kind};
-use rdl_values::Visible;
+use rdl_values::Chain;
 use std::alloc::Global;
 
 /// Numbers of expressions, as far as they have any.
@@ -57,7 +57,7 @@ impl Dims {
 pub(crate) fn judge_dims<'a>(
     alloc: Global,
     exprs: &[Expr<'a>],
-    visible: &Visible<'_, 'a>,
+    visible: &Chain<'_, '_, '_, 'a>,
     failures: &mut Failures,
 ) -> Result<Dims, NoMemory>
     ensures dims { IfOk result (λ r. (around : Around) → IsShown visible.now around → AreDims around exprs.now r) }

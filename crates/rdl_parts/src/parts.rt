@@ -16,7 +16,7 @@ use crate::standing::Standing;
 use rb_base::{NoMemory, Rule};
 use rdl_judging::{Failures, number_seen};
 use rdl_tree::{Expr, Inst, Kind};
-use rdl_values::Visible;
+use rdl_values::Chain;
 use std::alloc::Global;
 
 /// The most names that a path has, the top's among them (rule E8).
@@ -28,7 +28,7 @@ const MOST_DIMS: usize = 8;
 // Puts in the failure of a part, and answers whether it has none.
 fn note_part<'a>(
     part: &Option<Expr<'a>>,
-    visible: &Visible<'_, 'a>,
+    visible: &Chain<'_, '_, '_, 'a>,
     failures: &mut Failures,
 ) -> Result<bool, NoMemory>
     ensures { IfOk result (λ clean. (around : Around) → IsShown visible.now around → IsNoted (flat_map (fails_of around) (option_to_list part.now)) clean failures.old failures.new) }
@@ -42,7 +42,7 @@ fn note_part<'a>(
 // Puts in the failures of a range of bits, and answers whether there are none.
 fn note_range<'a>(
     range: &Option<(Expr<'a>, Expr<'a>)>,
-    visible: &Visible<'_, 'a>,
+    visible: &Chain<'_, '_, '_, 'a>,
     failures: &mut Failures,
 ) -> Result<bool, NoMemory>
     ensures { IfOk result (λ clean. (around : Around) → IsShown visible.now around
@@ -61,7 +61,7 @@ fn note_range<'a>(
 // Puts in the failures of the parts behind the dimensions, and answers whether there are none.
 fn note_others<'a>(
     inst: &Inst<'a>,
-    visible: &Visible<'_, 'a>,
+    visible: &Chain<'_, '_, '_, 'a>,
     failures: &mut Failures,
 ) -> Result<bool, NoMemory>
     ensures { IfOk result (λ clean. (around : Around) → IsShown visible.now around
@@ -113,7 +113,7 @@ pub fn judge_parts<'a>(
     inst: &Inst<'a>,
     kind: Kind,
     standing: Standing,
-    visible: &Visible<'_, 'a>,
+    visible: &Chain<'_, '_, '_, 'a>,
     failures: &mut Failures,
 ) -> Result<Option<Vec<u64>>, NoMemory>
     ensures noted { IfOk result (λ r. (p : Parent) (u : Use) → StandsAt standing p → IsUseOf inst.now visible.now u → IsNoted (of_parts p u kind) (is_some r) failures.old failures.new) }

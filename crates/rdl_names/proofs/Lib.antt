@@ -1,0 +1,2 @@
+mod Twice
+mod Found

@@ -1,0 +1,3 @@
+mod Primaries
+mod Judging
+mod Seens

@@ -1,0 +1,4 @@
+pub mod Placed
+pub mod Before
+pub mod Judged
+pub mod Given

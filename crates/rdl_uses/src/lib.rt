@@ -1,0 +1,12 @@
+//! The failures of an instance as the use of a definition, and whether it gives nodes.
+#![tactic(auto)]
+
+mod earlier;
+mod holder;
+mod instance;
+mod instances;
+
+pub use earlier::Earlier;
+pub use holder::{Holder, Parent};
+pub use instance::judge_instance;
+pub use instances::{Given, Visited, judge_instances};
