@@ -1,2 +1,3 @@
 mod Covers
 mod Least
+mod Found

@@ -3,3 +3,4 @@ pub mod Bits
 pub mod Layout
 pub mod Rounding
 pub mod Rules
+pub mod Tables
