@@ -1,3 +1,5 @@
 mod Covers
-mod Least
 mod Found
+mod Grouped
+mod Least
+mod Powers
