@@ -14,7 +14,7 @@ use Rattle.rdl_values.proofs.Given.{each-imp, IsAtRoot, held, signals-given}
 use Rattle.rdl_values.proofs.Numbered.{At, Deep, bottom, lower, tops_deep}
 use Rattle.rdl_index.specs.declared.table.Row.{Row}
 use Rattle.rdl_index.specs.Below.{AreBelow, IsBelow, row, no_rows, more_rows}
-use Rattle.rdl_index.specs.Rows.{AreRowsFrom, IsParent, IsRow}
+use Rattle.rdl_index.specs.Rows.{AreInside, AreRowsFrom, IsParent, IsRow}
 
 -- What is left behind the front of a list.
 
@@ -55,23 +55,30 @@ module _ (e : Elab) (all : List Lineage) where
   same-length k (x ∷ xs) (m ∷ ms) h = ap suc (same-length (suc k) xs ms h.1)
 
   first-row : {beside : List Node} {at : ℕ} {r : Node} {n : Instance} (x : Row) (parent : Option ℕ) (above : List Instance) → (out-Node r).id ≡ at → Says beside r n → IsNodeOf e beside r → x.node.now ≡ r → x.parent ≡ parent → IsParent all parent above
-      → IsRow e all at x (record { node = n; ancestors = above })
-  first-row {beside = b} {n = n} x parent above i s stands is p up = record {
+      → AreInside all (n ∷ above) (out-Node r).children.now (children n) → IsRow e all at x (record { node = n; ancestors = above })
+  first-row {beside = b} {n = n} x parent above i s stands is p up within = record {
     number = ap (λ y. (out-Node y).id) is ∙ i;
     beside = b;
     stands = subst (IsNodeOf e b) (sym is) stands;
     says = subst (λ y. Says b y n) (sym is) s;
     parent = subst (λ q. IsParent all q above) (sym p) up;
+    inside = subst (λ y. AreInside all (n ∷ above) (out-Node y).children.now (children n)) (sym is) within;
   }
+
+  none-inside : (rs : List Node) (ns above : List Instance) → rs ≡ [] → ns ≡ [] → AreInside all above rs ns
+  none-inside [] [] above e f = tt
+  none-inside [] (n ∷ ns) above e f = cc
+  none-inside (r ∷ rs) ns above e f = cc
 
   mutual
     pub one : (k : ℕ) {beside : List Node} {at after : ℕ} {r : Node} {n : Instance} {rows : List Row} → Deep k n → IsTreeOf beside at r n after → (parent : Option ℕ) (above : List Instance) (rest : List Lineage) → IsNodeOf e beside r
-        → IsBelow parent r rows → IsParent all parent above → drop at all ≡ lineages_below k above n ++ rest → AreRowsFrom e all at rows (lineages_below k above n) × (at + length rows ≡ after)
+        → IsBelow parent r rows → IsParent all parent above → drop at all ≡ lineages_below k above n ++ rest → AreRowsFrom e all at rows (lineages_below k above n) × (at + length rows ≡ after) × (slice_get all (out-Node r).id ≡ Some (record { node = n; ancestors = above }))
     one zero {at = at} {after = after} {n = n} d (node {r = r} i s ts) parent above rest stands (row {x = x} {rows = inner_rows} is p inner) up here =
         let none_left = no-trees (subst (λ ns. AreTreesOf (out-Node r).children.now (at + 1) (out-Node r).children.now ns after) (bottom n d) ts) in
         let no_inner : inner_rows ≡ [] = no-rows (subst (λ rs. AreBelow (Some (out-Node r).id) rs inner_rows) none_left.0 inner) in (
-          subst (λ rows. AreRowsFrom e all at (x ∷ rows) (record { node = n; ancestors = above } ∷ [])) (sym no_inner) (first-row x parent above i s stands is p up, tt),
+          subst (λ rows. AreRowsFrom e all at (x ∷ rows) (record { node = n; ancestors = above } ∷ [])) (sym no_inner) (first-row x parent above i s stands is p up (none-inside (out-Node r).children.now (children n) (n ∷ above) none_left.0 (bottom n d)), tt),
           (let l = ap length no_inner in let a = none_left.1 in omega (arith, l, a)),
+          subst (λ q. slice_get all q ≡ Some (record { node = n; ancestors = above })) (sym i) (stands-at all at (record { node = n; ancestors = above }) rest here),
         )
     one (suc k) {at = at} {after = after} {n = n} d (node {r = r} i s ts) parent above rest stands (row {x = x} {rows = inner_rows} is p inner) up here =
         let self : Lineage = record { node = n; ancestors = above } in
@@ -80,14 +87,15 @@ module _ (e : Elab) (all : List Lineage) where
         let one_more : at + 1 ≡ suc at = omega arith in
         let next : drop (at + 1) all ≡ tail ++ rest = behind all (self ∷ []) (tail ++ rest) at here in
         let inside = many k (lower k n d) ts (Some (out-Node r).id) (n ∷ above) rest (λ c has. below stands has) inner (self, subst (λ q. slice_get all q ≡ Some self) (sym i) standing, refl) next in (
-          (first-row x parent above i s stands is p up, subst (λ q. AreRowsFrom e all q inner_rows tail) one_more inside.0),
+          (first-row x parent above i s stands is p up inside.2, subst (λ q. AreRowsFrom e all q inner_rows tail) one_more inside.0),
           (let l = inside.1 in omega (arith, l)),
+          subst (λ q. slice_get all q ≡ Some self) (sym i) standing,
         )
 
     pub many : (k : ℕ) {beside : List Node} {at after : ℕ} {rs : List Node} {ns : List Instance} {rows : List Row} → AllByRecursion (Deep k) ns → AreTreesOf beside at rs ns after → (parent : Option ℕ) (above : List Instance) (rest : List Lineage)
         → ((r : Node) → Contains rs r → IsNodeOf e beside r) → AreBelow parent rs rows → IsParent all parent above → drop at all ≡ flat_map (lineages_below k above) ns ++ rest
-        → AreRowsFrom e all at rows (flat_map (lineages_below k above) ns) × (at + length rows ≡ after)
-    many k d none parent above rest stands no_rows up here = (tt, omega arith)
+        → AreRowsFrom e all at rows (flat_map (lineages_below k above) ns) × (at + length rows ≡ after) × AreInside all above rs ns
+    many k d none parent above rest stands no_rows up here = (tt, omega arith, tt)
     many k {at = at} {after = after} d (more {r = r} {n = n} {ns = ns} {next = next} t ts) parent above rest stands (more_rows {rs = rs} {xs = xs} {ys = ys} b bs) up here =
         let tail = flat_map (lineages_below k above) ns in
         let head = one k d.0 t parent above (tail ++ rest) (stands r (0, omega arith, refl)) b up (here ∙ append_assoc (lineages_below k above n) tail rest) in
@@ -97,6 +105,7 @@ module _ (e : Elab) (all : List Lineage) where
         let others = many k d.1 ts parent above rest (λ q c. stands q (let l = c.1 in (suc c.0, omega (arith, l), c.2))) bs up left in (
           rows-append at xs (lineages_below k above n) ys tail head.0 (subst (λ q. AreRowsFrom e all q ys tail) (sym head.1) others.0),
           (let a = head.1 in let c = others.1 in let s = length-append xs ys in omega (arith, a, c, s)),
+          (head.2, others.2),
         )
 
 -- The signals at the root have nothing below them.

@@ -3,7 +3,7 @@ use Rattle.std.specs.Prelude.{◌≡◌, ℕ, suc, List, [], ◌∷◌, Option, 
 use Rattle.rdl_tree.specs.declared.node.Elab.{Elab}
 use Rattle.rdl_tree.specs.declared.node.Node.{Node, out-Node}
 use Rattle.rdl_values.specs.Elaborated.{IsNodeOf, Says}
-use Rattle.rdl_values.specs.Instances.{Instance}
+use Rattle.rdl_values.specs.Instances.{Instance, children}
 use Rattle.rdl_values.specs.Lineages.{Lineage, lineages_of}
 use Rattle.rdl_index.specs.declared.table.Row.{Row}
 
@@ -12,6 +12,12 @@ abbrev pub IsParent : List Lineage → Option ℕ → List Instance → Type 0
 IsParent all None ancestors = ancestors ≡ []
 IsParent all (Some p) ancestors = (q : Lineage) × (slice_get all p ≡ Some q) × (ancestors ≡ q.node ∷ q.ancestors)
 
+-- Nodes in the body of one: each stands in the list at its number, with the nodes that it stands in.
+abbrev pub AreInside : List Lineage → List Instance → List Node → List Instance → Type 0
+AreInside all ancestors [] [] = Unit {0}
+AreInside all ancestors (r ∷ rs) (n ∷ ns) = (slice_get all (out-Node r).id ≡ Some (record { node = n; ancestors = ancestors })) × AreInside all ancestors rs ns
+AreInside all ancestors _ _ = ⊥
+
 -- The row of a number: a node of the tree that says what the instance is, and the number of the node that it stands in.
 pub record IsRow (e : Elab) (all : List Lineage) (k : ℕ) (x : Row) (n : Lineage) : Type 0 where
   pub number : (out-Node x.node.now).id ≡ k
@@ -19,6 +25,7 @@ pub record IsRow (e : Elab) (all : List Lineage) (k : ℕ) (x : Row) (n : Lineag
   pub stands : IsNodeOf e beside x.node.now
   pub says : Says beside x.node.now n.node
   pub parent : IsParent all x.parent n.ancestors
+  pub inside : AreInside all (n.node ∷ n.ancestors) (out-Node x.node.now).children.now (children n.node)
 
 -- one by one, from this number on
 abbrev pub AreRowsFrom : Elab → List Lineage → ℕ → List Row → List Lineage → Type 0
