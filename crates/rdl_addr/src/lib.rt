@@ -8,6 +8,7 @@ mod laws;
 mod map;
 mod part;
 mod placing;
+mod reading;
 mod register;
 mod rounding;
 
