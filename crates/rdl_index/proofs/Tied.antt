@@ -38,6 +38,9 @@ module _ {X : Type 0} where
 no-trees : {b rs : List Node} {at after : ℕ} → AreTreesOf b at rs [] after → (rs ≡ []) × (at ≡ after)
 no-trees none = (refl, refl)
 
+said : {b : List Node} {at after : ℕ} {r : Node} {n : Instance} → IsTreeOf b at r n after → Says b r n
+said (node i s ts) = s
+
 no-rows : {p : Option ℕ} {rows : List Row} → AreBelow p [] rows → rows ≡ []
 no-rows no_rows = refl
 
@@ -55,20 +58,20 @@ module _ (e : Elab) (all : List Lineage) where
   same-length k (x ∷ xs) (m ∷ ms) h = ap suc (same-length (suc k) xs ms h.1)
 
   first-row : {beside : List Node} {at : ℕ} {r : Node} {n : Instance} (x : Row) (parent : Option ℕ) (above : List Instance) → (out-Node r).id ≡ at → Says beside r n → IsNodeOf e beside r → x.node.now ≡ r → x.parent ≡ parent → IsParent all parent above
-      → AreInside all (n ∷ above) (out-Node r).children.now (children n) → IsRow e all at x (record { node = n; ancestors = above })
+      → AreInside all (n ∷ above) (out-Node r).children.now (out-Node r).children.now (children n) → IsRow e all at x (record { node = n; ancestors = above })
   first-row {beside = b} {n = n} x parent above i s stands is p up within = record {
     number = ap (λ y. (out-Node y).id) is ∙ i;
     beside = b;
     stands = subst (IsNodeOf e b) (sym is) stands;
     says = subst (λ y. Says b y n) (sym is) s;
     parent = subst (λ q. IsParent all q above) (sym p) up;
-    inside = subst (λ y. AreInside all (n ∷ above) (out-Node y).children.now (children n)) (sym is) within;
+    inside = subst (λ y. AreInside all (n ∷ above) (out-Node y).children.now (out-Node y).children.now (children n)) (sym is) within;
   }
 
-  none-inside : (rs : List Node) (ns above : List Instance) → rs ≡ [] → ns ≡ [] → AreInside all above rs ns
-  none-inside [] [] above e f = tt
-  none-inside [] (n ∷ ns) above e f = cc
-  none-inside (r ∷ rs) ns above e f = cc
+  none-inside : (beside rs : List Node) (ns above : List Instance) → rs ≡ [] → ns ≡ [] → AreInside all above beside rs ns
+  none-inside b [] [] above e f = tt
+  none-inside b [] (n ∷ ns) above e f = cc
+  none-inside b (r ∷ rs) ns above e f = cc
 
   mutual
     pub one : (k : ℕ) {beside : List Node} {at after : ℕ} {r : Node} {n : Instance} {rows : List Row} → Deep k n → IsTreeOf beside at r n after → (parent : Option ℕ) (above : List Instance) (rest : List Lineage) → IsNodeOf e beside r
@@ -76,7 +79,7 @@ module _ (e : Elab) (all : List Lineage) where
     one zero {at = at} {after = after} {n = n} d (node {r = r} i s ts) parent above rest stands (row {x = x} {rows = inner_rows} is p inner) up here =
         let none_left = no-trees (subst (λ ns. AreTreesOf (out-Node r).children.now (at + 1) (out-Node r).children.now ns after) (bottom n d) ts) in
         let no_inner : inner_rows ≡ [] = no-rows (subst (λ rs. AreBelow (Some (out-Node r).id) rs inner_rows) none_left.0 inner) in (
-          subst (λ rows. AreRowsFrom e all at (x ∷ rows) (record { node = n; ancestors = above } ∷ [])) (sym no_inner) (first-row x parent above i s stands is p up (none-inside (out-Node r).children.now (children n) (n ∷ above) none_left.0 (bottom n d)), tt),
+          subst (λ rows. AreRowsFrom e all at (x ∷ rows) (record { node = n; ancestors = above } ∷ [])) (sym no_inner) (first-row x parent above i s stands is p up (none-inside (out-Node r).children.now (out-Node r).children.now (children n) (n ∷ above) none_left.0 (bottom n d)), tt),
           (let l = ap length no_inner in let a = none_left.1 in omega (arith, l, a)),
           subst (λ q. slice_get all q ≡ Some (record { node = n; ancestors = above })) (sym i) (stands-at all at (record { node = n; ancestors = above }) rest here),
         )
@@ -94,7 +97,7 @@ module _ (e : Elab) (all : List Lineage) where
 
     pub many : (k : ℕ) {beside : List Node} {at after : ℕ} {rs : List Node} {ns : List Instance} {rows : List Row} → AllByRecursion (Deep k) ns → AreTreesOf beside at rs ns after → (parent : Option ℕ) (above : List Instance) (rest : List Lineage)
         → ((r : Node) → Contains rs r → IsNodeOf e beside r) → AreBelow parent rs rows → IsParent all parent above → drop at all ≡ flat_map (lineages_below k above) ns ++ rest
-        → AreRowsFrom e all at rows (flat_map (lineages_below k above) ns) × (at + length rows ≡ after) × AreInside all above rs ns
+        → AreRowsFrom e all at rows (flat_map (lineages_below k above) ns) × (at + length rows ≡ after) × AreInside all above beside rs ns
     many k d none parent above rest stands no_rows up here = (tt, omega arith, tt)
     many k {at = at} {after = after} d (more {r = r} {n = n} {ns = ns} {next = next} t ts) parent above rest stands (more_rows {rs = rs} {xs = xs} {ys = ys} b bs) up here =
         let tail = flat_map (lineages_below k above) ns in
@@ -105,7 +108,7 @@ module _ (e : Elab) (all : List Lineage) where
         let others = many k d.1 ts parent above rest (λ q c. stands q (let l = c.1 in (suc c.0, omega (arith, l), c.2))) bs up left in (
           rows-append at xs (lineages_below k above n) ys tail head.0 (subst (λ q. AreRowsFrom e all q ys tail) (sym head.1) others.0),
           (let a = head.1 in let c = others.1 in let s = length-append xs ys in omega (arith, a, c, s)),
-          (head.2, others.2),
+          (record { here = head.2; says = said t }, others.2),
         )
 
 -- The signals at the root have nothing below them.

@@ -12,11 +12,16 @@ abbrev pub IsParent : List Lineage → Option ℕ → List Instance → Type 0
 IsParent all None ancestors = ancestors ≡ []
 IsParent all (Some p) ancestors = (q : Lineage) × (slice_get all p ≡ Some q) × (ancestors ≡ q.node ∷ q.ancestors)
 
--- Nodes in the body of one: each stands in the list at its number, with the nodes that it stands in.
-abbrev pub AreInside : List Lineage → List Instance → List Node → List Instance → Type 0
-AreInside all ancestors [] [] = Unit {0}
-AreInside all ancestors (r ∷ rs) (n ∷ ns) = (slice_get all (out-Node r).id ≡ Some (record { node = n; ancestors = ancestors })) × AreInside all ancestors rs ns
-AreInside all ancestors _ _ = ⊥
+-- A node in the body of one, of which these are the nodes: it stands in the list at its number, and says what the instance is.
+pub record IsInside (all : List Lineage) (ancestors : List Instance) (beside : List Node) (r : Node) (n : Instance) : Type 0 where
+  pub here : slice_get all (out-Node r).id ≡ Some (record { node = n; ancestors = ancestors })
+  pub says : Says beside r n
+
+-- one by one
+abbrev pub AreInside : List Lineage → List Instance → List Node → List Node → List Instance → Type 0
+AreInside all ancestors beside [] [] = Unit {0}
+AreInside all ancestors beside (r ∷ rs) (n ∷ ns) = IsInside all ancestors beside r n × AreInside all ancestors beside rs ns
+AreInside all ancestors beside _ _ = ⊥
 
 -- The row of a number: a node of the tree that says what the instance is, and the number of the node that it stands in.
 pub record IsRow (e : Elab) (all : List Lineage) (k : ℕ) (x : Row) (n : Lineage) : Type 0 where
@@ -25,7 +30,7 @@ pub record IsRow (e : Elab) (all : List Lineage) (k : ℕ) (x : Row) (n : Lineag
   pub stands : IsNodeOf e beside x.node.now
   pub says : Says beside x.node.now n.node
   pub parent : IsParent all x.parent n.ancestors
-  pub inside : AreInside all (n.node ∷ n.ancestors) (out-Node x.node.now).children.now (children n.node)
+  pub inside : AreInside all (n.node ∷ n.ancestors) (out-Node x.node.now).children.now (out-Node x.node.now).children.now (children n.node)
 
 -- one by one, from this number on
 abbrev pub AreRowsFrom : Elab → List Lineage → ℕ → List Row → List Lineage → Type 0
