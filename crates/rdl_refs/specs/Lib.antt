@@ -3,5 +3,6 @@ pub mod Follows
 pub mod Graph
 pub mod Items
 pub mod Leads
+pub mod Listed
 pub mod Tables
 pub mod Walk

@@ -6,6 +6,7 @@ mod error;
 mod graph;
 mod item;
 mod laws;
+mod listing;
 mod ordering;
 mod refs;
 
