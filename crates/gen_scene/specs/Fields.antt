@@ -1,0 +1,60 @@
+-- What hardware refers to in a field.
+use Rattle.std.specs.Prelude.{◌≡◌, ℕ, Bool, true, Option, Some, None, List, [], ◌++◌, Contains, option_and_then, slice_get}
+use Rattle.std.specs.Option.{option_map}
+use Rattle.rtl_net.specs.Net.{Net}
+use Rattle.rb_model.specs.declared.kinds.RefItem.{RefItem}
+use Rattle.rb_model.specs.declared.kinds.RefItem.TheVariants as item
+use Rattle.rb_model.specs.declared.kinds.Count.{Count}
+use Rattle.rb_model.specs.declared.kinds.Level.{Level}
+use Rattle.rb_model.specs.declared.block.Block.{Block}
+use Rattle.rb_model.specs.declared.block.Field.{Field}
+use Rattle.rb_model.specs.declared.block.View.{View}
+use Rattle.rb_model.specs.Items.{ItemValues, level_value}
+use Rattle.rb_model.specs.Ports.{Outlet, outlets}
+use Rattle.rb_model.specs.References.{Each, feed_refs, gate_refs, mask_refs, level_refs, count_refs}
+use Rattle.gen_scene.specs.declared.scene.Scene.{Scene}
+use Rattle.gen_scene.specs.Bases.{IsBase}
+use Rattle.gen_scene.specs.Items.{IsItem, is_wanted}
+
+abbrev pub limit_refs : Option Level → List RefItem
+limit_refs None = []
+limit_refs (Some l) = level_refs l
+
+-- the levels at which a counter saturates
+abbrev pub limits_refs : Option Count → List RefItem
+limits_refs None = []
+limits_refs (Some c) = limit_refs c.high ++ limit_refs c.low
+
+-- the items that hardware's steps on a field refer to
+abbrev pub hardware_refs : Field → List RefItem
+hardware_refs f = feed_refs f.source ++ gate_refs f.gate ++ count_refs f.count ++ limits_refs f.count ++ feed_refs f.set ++ feed_refs f.clear ++ mask_refs f.keep
+
+-- the level above which a counter doesn't count, and the one below which it doesn't, where there are such
+abbrev pub high_value : ItemValues → Field → Option ℕ
+high_value v f = option_and_then (λ c. option_map (level_value v) c.high) f.count
+
+abbrev pub low_value : ItemValues → Field → Option ℕ
+low_value v f = option_and_then (λ c. option_map (level_value v) c.low) f.count
+
+-- the table has the nodes of these items
+abbrev pub HasNodes : Net → Scene → List RefItem → Type 0
+HasNodes net s is = Each (IsItem s.base.now.block.now s.base.now.inlet net s.items.now) is
+
+-- a netlist has the nodes of what hardware's steps on field k refer to
+pub record HasField (net : Net) (s : Scene) (k : ℕ) (f : Field) : Type 0 where
+  pub base : IsBase net s.base.now
+  pub here : slice_get s.base.now.block.now.fields k ≡ Some f
+  pub refs : HasNodes net s (hardware_refs f)
+
+-- and of the gate of view k
+pub record HasView (net : Net) (s : Scene) (k : ℕ) (u : View) : Type 0 where
+  pub base : IsBase net s.base.now
+  pub here : slice_get s.base.now.block.now.views k ≡ Some u
+  pub refs : HasNodes net s (gate_refs u.gate)
+
+-- what a netlist of the whole block wants
+pub record IsAllWanted (b : Block) (wanted : List Bool) : Type 0 where
+  pub shown : (o : Outlet) → Contains (outlets b) o → is_wanted wanted o.item ≡ true
+  pub values : (k : ℕ) (f : Field) → slice_get b.fields k ≡ Some f → is_wanted wanted (item.Field k) ≡ true
+  pub fields : (k : ℕ) (f : Field) → slice_get b.fields k ≡ Some f → Each (λ i. is_wanted wanted i ≡ true) (hardware_refs f)
+  pub views : (k : ℕ) (u : View) → slice_get b.views k ≡ Some u → Each (λ i. is_wanted wanted i ≡ true) (gate_refs u.gate)

@@ -1,0 +1,148 @@
+//! The nodes that the behaviour of fields and views refers to.
+
+use crate::base::Base;
+use rb_base::NoMemory;
+use rb_model::{Field, RefItem, View};
+use rb_plan::item_place;
+use rtl_net::{Id, Netlist};
+
+/// What a netlist has of a block: its base, and the nodes of its items by their places.
+///
+/// A field is given with its number, and so is a view. Widths are in bits. A node that isn't there has the value 0.
+#[derive(Clone, Copy)]
+pub struct Scene<'a> {
+    pub base: &'a Base<'a>,
+    pub items: &'a [Id],
+}
+
+impl<'a> Scene<'a> {
+    ghost use Rattle.std.specs.Prelude.{◌≡◌, ◌<◌, ◌++◌, IfOk, codes, length};
+    ghost use Rattle.rtl_net.specs.Net.{Net, Grows};
+    ghost use Rattle.rtl_net.specs.Graft.{at};
+    ghost use Rattle.rb_model.specs.Items as spec;
+    ghost use Rattle.rb_model.specs.Machine as machine;
+    ghost use Rattle.rb_plan.specs.Table as places;
+    ghost use Rattle.gen_scene.specs.Worth.{IsSeenAs, IsWorth, MayBeWorth};
+    ghost use Rattle.gen_scene.specs.Fields.{HasField, HasView, high_value, low_value};
+
+    /// The node of an item that has one.
+    pub fn node(&self, item: RefItem) -> Id
+        requires { places.item_place item < length self.now.items.now }
+        ensures { result ≡ at self.now.items.now (places.item_place item) }
+    {
+        self.items[item_place(item)]
+    }
+
+    /// The number that a field loads, and an interrupt's input. It is as wide as the field.
+    pub fn source(&self, number: usize, field: &Field) -> Option<Id>
+        ensures { (net : Net) → HasField net self.now number field.now
+            → MayBeWorth self.now.base.now.block.now self.now.base.now.inlet net result field.now.width (λ n v. spec.source_value n v field.now) }
+    {
+        let _number = number;
+        let _field = field;
+        None
+    }
+
+    /// The gate of a field's load, of one bit.
+    pub fn gate(&self, number: usize, field: &Field) -> Option<Id>
+        ensures { (net : Net) → HasField net self.now number field.now
+            → MayBeWorth self.now.base.now.block.now self.now.base.now.inlet net result 1
+            (λ n v. spec.gated n v field.now.gate (codes "we$") (codes "wel$") field.now.path) }
+    {
+        let _number = number;
+        let _field = field;
+        None
+    }
+
+    /// hwset of a field, of one bit.
+    pub fn set(&self, number: usize, field: &Field) -> Option<Id>
+        ensures { (net : Net) → HasField net self.now number field.now
+            → MayBeWorth self.now.base.now.block.now self.now.base.now.inlet net result 1 (λ n v. spec.fed n v field.now.set (codes "hwset$" ++ field.now.path)) }
+    {
+        let _number = number;
+        let _field = field;
+        None
+    }
+
+    /// hwclr of a field, of one bit.
+    pub fn clear(&self, number: usize, field: &Field) -> Option<Id>
+        ensures { (net : Net) → HasField net self.now number field.now
+            → MayBeWorth self.now.base.now.block.now self.now.base.now.inlet net result 1 (λ n v. spec.fed n v field.now.clear (codes "hwclr$" ++ field.now.path)) }
+    {
+        let _number = number;
+        let _field = field;
+        None
+    }
+
+    /// hwenable or hwmask of a field. It is as wide as the field.
+    pub fn keep(&self, number: usize, field: &Field) -> Option<Id>
+        ensures { (net : Net) → HasField net self.now number field.now
+            → MayBeWorth self.now.base.now.block.now self.now.base.now.inlet net result field.now.width (λ n v. spec.mask_value v field.now.keep) }
+    {
+        let _number = number;
+        let _field = field;
+        None
+    }
+
+    /// How far a counter counts up, as wide as the field: 0 where it is none. The only error is want of memory.
+    pub fn up(&self, net: &mut Netlist, number: usize, field: &Field) -> Result<Id, NoMemory>
+        requires { HasField net.old self.now number field.now }
+        ensures older { Grows net.old net.new }
+        ensures name { net.new.name ≡ net.old.name }
+        ensures worth { IfOk result (λ id. IsWorth self.now.base.now.block.now self.now.base.now.inlet net.new id field.now.width (λ n v. spec.up n v field.now)) }
+    {
+        let _net = net;
+        let _number = number;
+        let _field = field;
+        Err(NoMemory)
+    }
+
+    /// How far a counter counts down, as wide as the field: 0 where it is none. The only error is want of memory.
+    pub fn down(&self, net: &mut Netlist, number: usize, field: &Field) -> Result<Id, NoMemory>
+        requires { HasField net.old self.now number field.now }
+        ensures older { Grows net.old net.new }
+        ensures name { net.new.name ≡ net.old.name }
+        ensures worth { IfOk result (λ id. IsWorth self.now.base.now.block.now self.now.base.now.inlet net.new id field.now.width (λ n v. spec.down n v field.now)) }
+    {
+        let _net = net;
+        let _number = number;
+        let _field = field;
+        Err(NoMemory)
+    }
+
+    /// The level at which a counter saturates upwards, as wide as the field, if there is one. The only error is want of memory.
+    pub fn high(&self, net: &mut Netlist, number: usize, field: &Field) -> Result<Option<Id>, NoMemory>
+        requires { HasField net.old self.now number field.now }
+        ensures older { Grows net.old net.new }
+        ensures name { net.new.name ≡ net.old.name }
+        ensures worth { IfOk result (λ id. IsSeenAs self.now.base.now.block.now self.now.base.now.inlet net.new id field.now.width (λ n v. high_value v field.now)) }
+    {
+        let _net = net;
+        let _number = number;
+        let _field = field;
+        Err(NoMemory)
+    }
+
+    /// The level at which a counter saturates downwards, as wide as the field, if there is one. The only error is want of memory.
+    pub fn low(&self, net: &mut Netlist, number: usize, field: &Field) -> Result<Option<Id>, NoMemory>
+        requires { HasField net.old self.now number field.now }
+        ensures older { Grows net.old net.new }
+        ensures name { net.new.name ≡ net.old.name }
+        ensures worth { IfOk result (λ id. IsSeenAs self.now.base.now.block.now self.now.base.now.inlet net.new id field.now.width (λ n v. low_value v field.now)) }
+    {
+        let _net = net;
+        let _number = number;
+        let _field = field;
+        Err(NoMemory)
+    }
+
+    /// The gate of a view's writes, of one bit.
+    pub fn view_gate(&self, number: usize, view: &View) -> Option<Id>
+        ensures { (net : Net) → HasView net self.now number view.now
+            → MayBeWorth self.now.base.now.block.now self.now.base.now.inlet net result 1 (λ n v. machine.view_gate n v view.now) }
+    {
+        let _number = number;
+        let _view = view;
+        None
+    }
+}
