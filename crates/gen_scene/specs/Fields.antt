@@ -4,14 +4,20 @@ use Rattle.std.specs.Option.{option_map}
 use Rattle.rtl_net.specs.Net.{Net}
 use Rattle.rb_model.specs.declared.kinds.RefItem.{RefItem}
 use Rattle.rb_model.specs.declared.kinds.RefItem.TheVariants as item
+use Rattle.rb_model.specs.declared.kinds.Feed.{Feed}
+use Rattle.rb_model.specs.declared.kinds.Gate.{Gate}
+use Rattle.rb_model.specs.declared.kinds.Gate.TheVariants as gate
 use Rattle.rb_model.specs.declared.kinds.Count.{Count}
 use Rattle.rb_model.specs.declared.kinds.Level.{Level}
 use Rattle.rb_model.specs.declared.block.Block.{Block}
 use Rattle.rb_model.specs.declared.block.Field.{Field}
 use Rattle.rb_model.specs.declared.block.View.{View}
+use Rattle.rb_model.specs.PinsHave.{FeedHas}
+use Rattle.rb_plan.specs.Pins.{IsDataPin}
+use Rattle.rb_plan.specs.Plan.{IsPlaceOf}
 use Rattle.rb_model.specs.Items.{ItemValues, level_value}
 use Rattle.rb_model.specs.Ports.{Outlet, outlets}
-use Rattle.rb_model.specs.References.{Each, feed_refs, gate_refs, mask_refs, level_refs, count_refs}
+use Rattle.rb_model.specs.References.{AreWide, Each, feed_refs, gate_refs, mask_refs, level_refs, count_refs}
 use Rattle.gen_scene.specs.declared.scene.Scene.{Scene}
 use Rattle.gen_scene.specs.Bases.{IsBase}
 use Rattle.gen_scene.specs.Items.{IsItem, is_wanted}
@@ -51,6 +57,19 @@ pub record HasView (net : Net) (s : Scene) (k : ℕ) (u : View) : Type 0 where
   pub base : IsBase net s.base.now
   pub here : slice_get s.base.now.block.now.views k ≡ Some u
   pub refs : HasNodes net s (gate_refs u.gate)
+
+-- a feed of this width whose pin, which has this name, stands at a place, and whose item has its node
+pub record CanFeed (net : Net) (s : Scene) (from : Feed) (name : List ℕ) (w place : ℕ) : Type 0 where
+  pub base : IsBase net s.base.now
+  pub refs : HasNodes net s (feed_refs from)
+  pub wide : AreWide s.base.now.block.now w (feed_refs from)
+  pub pin : FeedHas (IsDataPin s.base.now.block.now) from name w
+  pub at : IsPlaceOf s.base.now.block.now name place
+
+abbrev pub CanGate : Net → Scene → Gate → (high low path : List ℕ) → ℕ → Type 0
+CanGate net s gate.Always high low path place = Unit {0}
+CanGate net s (gate.High from) high low path place = CanFeed net s from (high ++ path) 1 place
+CanGate net s (gate.Low from) high low path place = CanFeed net s from (low ++ path) 1 place
 
 -- what a netlist of the whole block wants
 pub record IsAllWanted (b : Block) (wanted : List Bool) : Type 0 where

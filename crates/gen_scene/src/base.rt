@@ -27,23 +27,36 @@ pub struct Base<'a> {
 }
 
 impl<'a> Base<'a> {
-    ghost use Rattle.std.specs.Prelude.{◌≡◌, ◌<◌, ℕ, Some, IfOk, length, slice_get, if◌then◌else◌};
+    ghost use Rattle.std.specs.Prelude.{◌≡◌, ◌<◌, Bool, Some, IfOk, length, slice_get, if◌then◌else◌};
     ghost use Rattle.rtl_net.specs.Value.{bit_of};
     ghost use Rattle.rtl_net.specs.Net.{Net, Grows};
     ghost use Rattle.rb_model.specs.declared.block.Field.{Field};
-    ghost use Rattle.rb_model.specs.Kept.{Val, Last, Done, is_storage, keeps_last};
+    ghost use Rattle.rb_model.specs.Kept.{Kept, Val, Last, Done, is_storage, keeps_last, register_width};
+    ghost use Rattle.rb_plan.specs.Kept.{IsKeptAt, field_kept};
     ghost use Rattle.rb_model.specs.Machine.{is_asserted};
     ghost use Rattle.gen_scene.specs.Worth.{IsWorth, MayBeWorth};
     ghost use Rattle.gen_scene.specs.Bases.{IsBase};
+
+    /// The register at a place among what the fields keep, if there is one.
+    fn register(&self, place: Option<usize>) -> Option<Id>
+        ensures { (net : Net) (is_kept : Bool) (k : Kept) → IsBase net self.now → IsKeptAt (field_kept self.now.block.now) is_kept k place
+            → MayBeWorth self.now.block.now self.now.inlet net result (register_width self.now.block.now k) (λ n v. if is_kept then n.kept k else 0) }
+    {
+        match place {
+            Some(place) => self.kept.get(place).copied(),
+            None => None,
+        }
+    }
 
     /// The register of the value of the field of a number, if the field keeps it.
     pub fn value(&self, number: usize) -> Option<Id>
         ensures { (net : Net) (f : Field) → IsBase net self.now → slice_get self.now.block.now.fields number ≡ Some f
             → MayBeWorth self.now.block.now self.now.inlet net result f.width (λ n v. if is_storage f.class then n.kept (Val number) else 0) }
     {
-        let places = self.plan.kept.of.get(number)?;
-        let place = places.value?;
-        self.kept.get(place).copied()
+        match self.plan.kept.of.get(number) {
+            Some(places) => self.register(places.value),
+            None => None,
+        }
     }
 
     /// The register of the last input of the interrupt of a number, if the field keeps it.
@@ -51,9 +64,10 @@ impl<'a> Base<'a> {
         ensures { (net : Net) (f : Field) → IsBase net self.now → slice_get self.now.block.now.fields number ≡ Some f
             → MayBeWorth self.now.block.now self.now.inlet net result f.width (λ n v. if keeps_last f.latch then n.kept (Last number) else 0) }
     {
-        let places = self.plan.kept.of.get(number)?;
-        let place = places.last?;
-        self.kept.get(place).copied()
+        match self.plan.kept.of.get(number) {
+            Some(places) => self.register(places.last),
+            None => None,
+        }
     }
 
     /// The register, of one bit, that says that software wrote the field of a number, if the field keeps it.
@@ -61,9 +75,10 @@ impl<'a> Base<'a> {
         ensures { (net : Net) (f : Field) → IsBase net self.now → slice_get self.now.block.now.fields number ≡ Some f
             → MayBeWorth self.now.block.now self.now.inlet net result 1 (λ n v. if f.once then n.kept (Done number) else 0) }
     {
-        let places = self.plan.kept.of.get(number)?;
-        let place = places.done?;
-        self.kept.get(place).copied()
+        match self.plan.kept.of.get(number) {
+            Some(places) => self.register(places.done),
+            None => None,
+        }
     }
 
     /// Whether the reset of the field of a number is asserted, of one bit.

@@ -2,7 +2,7 @@
 
 use crate::base::Base;
 use rb_base::NoMemory;
-use rb_model::{Field, RefItem, View};
+use rb_model::{Feed, Field, Gate, Mask, RefItem, View};
 use rb_plan::item_place;
 use rtl_net::{Id, Netlist};
 
@@ -16,14 +16,15 @@ pub struct Scene<'a> {
 }
 
 impl<'a> Scene<'a> {
-    ghost use Rattle.std.specs.Prelude.{◌≡◌, ◌<◌, ◌++◌, IfOk, codes, length};
+    ghost use Rattle.std.specs.Prelude.{◌≡◌, ◌<◌, ◌∷◌, [], ◌++◌, ℕ, List, IfOk, codes, length};
     ghost use Rattle.rtl_net.specs.Net.{Net, Grows};
     ghost use Rattle.rtl_net.specs.Graft.{at};
     ghost use Rattle.rb_model.specs.Items as spec;
     ghost use Rattle.rb_model.specs.Machine as machine;
     ghost use Rattle.rb_plan.specs.Table as places;
     ghost use Rattle.gen_scene.specs.Worth.{IsSeenAs, IsWorth, MayBeWorth};
-    ghost use Rattle.gen_scene.specs.Fields.{HasField, HasView, high_value, low_value};
+    ghost use Rattle.gen_scene.specs.Fields.{CanFeed, CanGate, HasField, HasNodes, HasView, high_value, low_value};
+    ghost use Rattle.rb_model.specs.References.{item_width};
 
     /// The node of an item that has one.
     pub fn node(&self, item: RefItem) -> Id
@@ -33,14 +34,47 @@ impl<'a> Scene<'a> {
         self.items[item_place(item)]
     }
 
+    /// The node of an item, if it has one.
+    fn item(&self, item: RefItem) -> Option<Id>
+        ensures { (net : Net) (w : ℕ) → HasNodes net self.now (item ∷ []) → item_width self.now.base.now.block.now item ≡ w
+            → MayBeWorth self.now.base.now.block.now self.now.base.now.inlet net result w (λ n v. v item) }
+    {
+        self.items.get(item_place(item)).copied()
+    }
+
+    /// The node of a feed, whose pin stands at a place.
+    fn fed(&self, from: Feed, place: usize) -> Option<Id>
+        ensures { (net : Net) (name : List ℕ) (w : ℕ) → CanFeed net self.now from name w place
+            → MayBeWorth self.now.base.now.block.now self.now.base.now.inlet net result w (λ n v. spec.fed n v from name) }
+    {
+        match from {
+            Feed::Off => None,
+            Feed::Pin => self.base.pins.get(place).copied(),
+            Feed::Item(item) => self.item(item),
+        }
+    }
+
+    /// The node at a gate, whose pin stands at a place.
+    fn gated(&self, gate: Gate, place: usize) -> Option<Id>
+        ensures { (net : Net) (high low path : List ℕ) → CanGate net self.now gate high low path place
+            → MayBeWorth self.now.base.now.block.now self.now.base.now.inlet net result 1 (λ n v. spec.gated n v gate high low path) }
+    {
+        match gate {
+            Gate::Always => None,
+            Gate::High(from) => self.fed(from, place),
+            Gate::Low(from) => self.fed(from, place),
+        }
+    }
+
     /// The number that a field loads, and an interrupt's input. It is as wide as the field.
     pub fn source(&self, number: usize, field: &Field) -> Option<Id>
         ensures { (net : Net) → HasField net self.now number field.now
             → MayBeWorth self.now.base.now.block.now self.now.base.now.inlet net result field.now.width (λ n v. spec.source_value n v field.now) }
     {
-        let _number = number;
-        let _field = field;
-        None
+        match self.base.plan.fields.get(number) {
+            Some(places) => self.fed(field.source, places.source),
+            None => None,
+        }
     }
 
     /// The gate of a field's load, of one bit.
@@ -49,9 +83,10 @@ impl<'a> Scene<'a> {
             → MayBeWorth self.now.base.now.block.now self.now.base.now.inlet net result 1
             (λ n v. spec.gated n v field.now.gate (codes "we$") (codes "wel$") field.now.path) }
     {
-        let _number = number;
-        let _field = field;
-        None
+        match self.base.plan.fields.get(number) {
+            Some(places) => self.gated(field.gate, places.gate),
+            None => None,
+        }
     }
 
     /// hwset of a field, of one bit.
@@ -59,9 +94,10 @@ impl<'a> Scene<'a> {
         ensures { (net : Net) → HasField net self.now number field.now
             → MayBeWorth self.now.base.now.block.now self.now.base.now.inlet net result 1 (λ n v. spec.fed n v field.now.set (codes "hwset$" ++ field.now.path)) }
     {
-        let _number = number;
-        let _field = field;
-        None
+        match self.base.plan.fields.get(number) {
+            Some(places) => self.fed(field.set, places.set),
+            None => None,
+        }
     }
 
     /// hwclr of a field, of one bit.
@@ -69,19 +105,22 @@ impl<'a> Scene<'a> {
         ensures { (net : Net) → HasField net self.now number field.now
             → MayBeWorth self.now.base.now.block.now self.now.base.now.inlet net result 1 (λ n v. spec.fed n v field.now.clear (codes "hwclr$" ++ field.now.path)) }
     {
-        let _number = number;
-        let _field = field;
-        None
+        match self.base.plan.fields.get(number) {
+            Some(places) => self.fed(field.clear, places.clear),
+            None => None,
+        }
     }
 
-    /// hwenable or hwmask of a field. It is as wide as the field.
-    pub fn keep(&self, number: usize, field: &Field) -> Option<Id>
-        ensures { (net : Net) → HasField net self.now number field.now
+    /// hwenable or hwmask of the field of a number. It is as wide as the field.
+    pub fn keep(&self, field: &Field) -> Option<Id>
+        ensures { (net : Net) (number : ℕ) → HasField net self.now number field.now
             → MayBeWorth self.now.base.now.block.now self.now.base.now.inlet net result field.now.width (λ n v. spec.mask_value v field.now.keep) }
     {
-        let _number = number;
-        let _field = field;
-        None
+        match field.keep {
+            Mask::Off => None,
+            Mask::Enable(item) => self.item(item),
+            Mask::Mask(item) => self.item(item),
+        }
     }
 
     /// How far a counter counts up, as wide as the field: 0 where it is none. The only error is want of memory.
@@ -141,8 +180,9 @@ impl<'a> Scene<'a> {
         ensures { (net : Net) → HasView net self.now number view.now
             → MayBeWorth self.now.base.now.block.now self.now.base.now.inlet net result 1 (λ n v. machine.view_gate n v view.now) }
     {
-        let _number = number;
-        let _view = view;
-        None
+        match self.base.plan.gates.get(number) {
+            Some(place) => self.gated(view.gate, *place),
+            None => None,
+        }
     }
 }

@@ -1,5 +1,5 @@
 -- What the fields of a block keep, and its places in a list.
-use Rattle.std.specs.Prelude.{◌≡◌, ℕ, Bool, false, Option, Some, MatchOption, List, map, slice_get}
+use Rattle.std.specs.Prelude.{◌≡◌, ℕ, Bool, true, false, Option, Some, MatchOption, List, map, slice_get}
 use Rattle.std.specs.List.{enumerate_from, flat_map}
 use Rattle.rb_base.specs.declared.ports.Pin.{Pin}
 use Rattle.rb_model.specs.declared.block.Block.{Block}
@@ -25,7 +25,7 @@ kept_seen (value.Done k) = Done k
 
 -- the place of k in a list, if k is kept
 abbrev pub IsKeptAt : List Kept → Bool → Kept → Option ℕ → Type 0
-IsKeptAt all is_kept k place = MatchOption place (is_kept ≡ false) (λ j. slice_get all j ≡ Some k)
+IsKeptAt all is_kept k place = MatchOption place (is_kept ≡ false) (λ j. (is_kept ≡ true) × (slice_get all j ≡ Some k))
 
 -- the places of what field k keeps
 pub record AreFieldKept (all : List Kept) (k : ℕ) (f : Field) (p : FieldKept) : Type 0 where
