@@ -18,8 +18,9 @@ use Rattle.rb_model.specs.declared.kinds.Mask.TheVariants as mask
 use Rattle.rb_model.specs.declared.block.Block.{Block}
 use Rattle.rb_model.specs.declared.block.Field.{Field}
 use Rattle.rb_model.specs.declared.block.View.{View}
+use Rattle.rb_model.specs.declared.block.Signal.{Signal}
 use Rattle.rb_model.specs.Kept.{Kept, Val, Last, Done, of_field, is_storage, keeps_last, register_width}
-use Rattle.rb_model.specs.Ports.{input_pins, pin}
+use Rattle.rb_model.specs.Ports.{input_pins, pin, signal_name}
 use Rattle.rb_model.specs.PinsHave.{FeedHas, GateHas}
 use Rattle.rb_model.specs.Items.{Now, ItemValues, AreItemValues, fed, gated, mask_value, source_value}
 use Rattle.rb_model.specs.Machine.{view_gate}
@@ -33,7 +34,7 @@ use Rattle.rb_plan.specs.Kept.{AreFieldKept, IsKeptAt, field_kept}
 use Rattle.rb_plan.specs.Pins.{IsDataPin}
 use Rattle.rb_plan.specs.Plan.{AreFieldPlaces, IsGatePlace, IsPlaceOf}
 use Rattle.rb_plan.specs.Table.{item_place}
-use Rattle.rb_plan.proofs.DataPins.{field_data, view_data}
+use Rattle.rb_plan.proofs.DataPins.{field_data, signal_data, view_data}
 use Rattle.gen_scene.specs.declared.base.Base.{Base}
 use Rattle.gen_scene.specs.declared.base.Inlet.{Inlet}
 use Rattle.gen_scene.specs.declared.scene.Scene.{Scene}
@@ -155,6 +156,18 @@ mask_worth net s (mask.Mask i) w h wide = item_worth net s i w h wide.0.1
 pub field_sound : (b : Block) → IsSound b → (k : ℕ) (f : Field) → slice_get b.fields k ≡ Some f → FieldIsSoundIn b (k, f)
 field_sound b sound k f here = Each-from_zero (FieldIsSoundIn b) b.fields k f sound.fields here
 
+-- what a field's source gives
+pub given_is : (net : Net) (s : Scene) (k : ℕ) (f : Field) → IsBase net s.base.now → slice_get s.base.now.block.now.fields k ≡ Some f → HasNodes net s (feed_refs f.source) → (p : FieldPlaces) → Some p ≡ slice_get s.base.now.plan.now.fields.items k
+    → MayBeWorth s.base.now.block.now s.base.now.inlet net (fed_node s f.source p.source) f.width (λ n v. source_value n v f)
+given_is net s k f base here refs p e =
+    let b = s.base.now.block.now in
+    let (q, there, are) = base.planned.fields k f here in
+    let at : AreFieldPlaces b f p = subst (AreFieldPlaces b f) (same_Some q p (sym there ∙ sym e)) are in
+    fed_worth net s f.source (codes "in$" ++ f.path) f.width p.source (record { base = base; refs = refs; wide = (field_sound b base.sound k f here).refers.source; pin = (field_data b base.sound k f here).source; at = at.source })
+
+pub given_placed : (net : Net) (s : Scene) (k : ℕ) (f : Field) → IsBase net s.base.now → slice_get s.base.now.block.now.fields k ≡ Some f → None ≡ slice_get s.base.now.plan.now.fields.items k → ⊥
+given_placed net s k f base here e = let (q, there, are) = base.planned.fields k f here in let n : None ≡ Some q = e ∙ there in cc
+
 -- what the look-ups of a field find
 module _ (net : Net) (s : Scene) (k : ℕ) (f : Field) (h : HasField net s k f) where
   abbrev b : Block
@@ -175,8 +188,8 @@ module _ (net : Net) (s : Scene) (k : ℕ) (f : Field) (h : HasField net s k f) 
   pub placed : None ≡ slice_get s.base.now.plan.now.fields.items k → ⊥
   placed e = let (q, there, are) = h.base.planned.fields k f h.here in let n : None ≡ Some q = e ∙ there in cc
 
-  pub source_is : (p : FieldPlaces) → Some p ≡ slice_get s.base.now.plan.now.fields.items k → MayBeWorth b a net (fed_node s f.source p.source) f.width (λ n v. source_value n v f)
-  source_is p e = fed_worth net s f.source (codes "in$" ++ f.path) f.width p.source (record { base = h.base; refs = own_refs.source; wide = own_sound.refers.source; pin = (field_data b h.base.sound k f h.here).source; at = (own_places p e).source })
+  pub source_is : (o : Option Id) → ((net : Net) → IsBase net s.base.now → slice_get s.base.now.block.now.fields k ≡ Some f → HasNodes net s (feed_refs f.source) → MayBeWorth b a net o f.width (λ n v. source_value n v f)) → MayBeWorth b a net o f.width (λ n v. source_value n v f)
+  source_is o given = given net h.base h.here own_refs.source
 
   pub gate_is : (p : FieldPlaces) → Some p ≡ slice_get s.base.now.plan.now.fields.items k → MayBeWorth b a net (gated_node s f.gate p.gate) 1 (λ n v. gated n v f.gate (codes "we$") (codes "wel$") f.path)
   gate_is p e =
@@ -210,3 +223,17 @@ module _ (net : Net) (s : Scene) (k : ℕ) (u : View) (h : HasView net s k u) wh
 
   pub view_placed : None ≡ slice_get s.base.now.plan.now.gates.items k → ⊥
   view_placed e = let (q, there, is) = h.base.planned.gates k u h.here in let n : None ≡ Some q = e ∙ there in cc
+
+-- the pin of a signal
+module _ (net : Net) (s : Scene) (k : ℕ) (g : Signal) (base : IsBase net s.base.now) (here : slice_get s.base.now.block.now.signals k ≡ Some g) where
+  pub signal_is : (place : ℕ) → Some place ≡ slice_get s.base.now.plan.now.signals.items k → MayBeWorth s.base.now.block.now s.base.now.inlet net (slice_get s.base.now.pins.now place) g.width (λ n v. n.pins (signal_name g))
+  signal_is place e =
+      let b = s.base.now.block.now in
+      let (q, there, is) = base.planned.signals k g here in
+      let given = signal_data b base.sound k g here in
+      let at_place : IsPlaceOf b (signal_name g) place = subst (IsPlaceOf b (signal_name g)) (same_Some q place (sym there ∙ sym e)) is in
+      let n = pin_node b net s.base.now.pins.now (pin (signal_name g) g.width) place base.pins given at_place in
+      subst (λ x. MayBeWorth b s.base.now.inlet net x g.width (λ n v. n.pins (signal_name g))) (sym n.0) (may_some b s.base.now.inlet net _ g.width _ (pin_is b s.base.now.inlet net _ (pin (signal_name g) g.width) given n.1))
+
+  pub signal_placed : None ≡ slice_get s.base.now.plan.now.signals.items k → ⊥
+  signal_placed e = let (q, there, is) = base.planned.signals k g here in let n : None ≡ Some q = e ∙ there in cc

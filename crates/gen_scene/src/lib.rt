@@ -8,7 +8,10 @@
 mod base;
 mod counting;
 mod items;
+mod item_node;
 mod kept;
+mod lines;
+mod making;
 mod needed;
 mod resets;
 mod scene;
