@@ -81,7 +81,7 @@ halt_test false true true n = refl
 halt_test false true false n = refl
 halt_test false false r n = refl
 
-raised_is : (b : Block) (v : ItemValues) (halt : Bool) (k : ℕ) (f : Field) → slice_get b.fields k ≡ Some f → raised b v halt k ≡ (has_line halt f && nat_lt 0 (counting (line_mask halt f) f.width (v (item.Field k)) (mask_value v (line_mask halt f))))
+pub raised_is : (b : Block) (v : ItemValues) (halt : Bool) (k : ℕ) (f : Field) → slice_get b.fields k ≡ Some f → raised b v halt k ≡ (has_line halt f && nat_lt 0 (counting (line_mask halt f) f.width (v (item.Field k)) (mask_value v (line_mask halt f))))
 raised_is b v halt k f here = ap (λ o. option_map_or (λ f. has_line halt f && nat_lt 0 (counting (line_mask halt f) f.width (v (item.Field k)) (mask_value v (line_mask halt f)))) o false) here
 
 pub intr_is : (b : Block) (n : Now) (v : ItemValues) (r : ℕ) → bit_of (list_any (raised b v false) (members_among b.fields r)) ≡ made b n v (item.Intr r)

@@ -45,7 +45,7 @@ use Rattle.gen_scene.specs.Worth.{Finds, IsWorth, MayBeWorth}
 use Rattle.gen_scene.proofs.Worths.{may_none, may_some, worth_as}
 
 -- an element of a table that reaches so far
-in_table : (ids : List Id) (k : ℕ) → k < length ids → slice_get ids k ≡ Some (at ids k)
+pub in_table : (ids : List Id) (k : ℕ) → k < length ids → slice_get ids k ≡ Some (at ids k)
 in_table ids k low = slice_get-get_or ids k (record { 0 = 0 }) low
 
 pub field_width : (b : Block) (k : ℕ) (f : Field) → slice_get b.fields k ≡ Some f → of_field b k 0 (λ g. g.width) ≡ f.width

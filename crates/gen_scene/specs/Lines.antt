@@ -1,5 +1,7 @@
 -- The lines of a register's interrupts.
-use Rattle.std.specs.Prelude.{◌≡◌, ℕ, Bool, true, false, not, ◌&&◌, ◌||◌, if◌then◌else◌, nat_lt, Some, List, ◌∷◌, slice_get}
+use Rattle.std.specs.Prelude.{◌≡◌, ℕ, Bool, true, false, not, ◌&&◌, ◌||◌, if◌then◌else◌, nat_lt, Option, Some, None, List, ◌∷◌, slice_get}
+use Rattle.std.specs.Option.{option_map}
+use Rattle.gen_intr.specs.declared.lines.Masked.{Masked}
 use Rattle.rtl_net.specs.Net.{Net}
 use Rattle.rb_model.specs.declared.kinds.RefItem.TheVariants as item
 use Rattle.rb_model.specs.declared.kinds.Mask.{Mask}
@@ -12,7 +14,7 @@ use Rattle.rb_model.specs.Kept.{of_field}
 use Rattle.rb_model.specs.References.{mask_refs}
 use Rattle.rb_plan.specs.Plan.{is_member}
 use Rattle.gen_scene.specs.declared.scene.Scene.{Scene}
-use Rattle.gen_scene.specs.Fields.{HasNodes}
+use Rattle.gen_scene.specs.Fields.{HasNodes, item_node, mask_node}
 
 -- the mask of an interrupt for the line halt, or for intr
 abbrev pub line_mask : Bool → Field → Mask
@@ -34,3 +36,9 @@ raised b v halt k = of_field b k false (λ f. has_line halt f && nat_lt 0 (count
 -- the interrupts of a register and their masks have their nodes
 pub record HasLine (net : Net) (s : Scene) (halt : Bool) (r : ℕ) : Type 0 where
   pub each : (k : ℕ) (f : Field) → slice_get s.base.now.block.now.fields k ≡ Some f → is_member r (k, f) ≡ true → has_line halt f ≡ true → HasNodes net s (item.Field k ∷ mask_refs (line_mask halt f))
+
+-- the bits of interrupt k that count for its register's line, as they are looked up
+abbrev pub line_bits : Scene → Bool → ℕ → Field → Option Masked
+line_bits s halt k f = if has_line halt f
+    then option_map (λ id. record { value = id; mask = mask_node s (line_mask halt f); inverted = is_inverted (line_mask halt f) }) (item_node s (item.Field k))
+    else None

@@ -15,7 +15,7 @@ pub struct Scene<'a> {
 }
 
 impl<'a> Scene<'a> {
-    ghost use Rattle.std.specs.Prelude.{◌≡◌, ◌<◌, ◌++◌, Some, codes, length, slice_get};
+    ghost use Rattle.std.specs.Prelude.{◌≡◌, ◌<◌, ◌++◌, ℕ, Some, codes, length, slice_get};
     ghost use Rattle.rtl_net.specs.Net.{Net};
     ghost use Rattle.rtl_net.specs.Graft.{at};
     ghost use Rattle.gen_scene.specs.Bases.{IsBase};
