@@ -1,5 +1,5 @@
 -- The items that fields, registers and outputs show are the block's.
-use Rattle.std.proofs.Common.{◌≡◌, ℕ, ◌+◌, Bool, true, false, not, ◌&&◌, ◌||◌, if◌then◌else◌, Option, Some, None, List, [], ◌∷◌, ◌++◌, codes, slice_get, map, refl, ap, arith}
+use Rattle.std.proofs.Common.{◌≡◌, ℕ, Bool, true, false, not, ◌||◌, if◌then◌else◌, Some, List, [], ◌∷◌, ◌++◌, codes, slice_get, refl, arith}
 use Rattle.std.specs.Prelude.{Contains, IsTrue, is_some}
 use Rattle.std.specs.List.{enumerate_from, flat_map, list_any}
 use Rattle.std.proofs.lemmas.List.Elements.{Contains-append_left, Contains-append_right}
@@ -11,7 +11,7 @@ use Rattle.rb_model.specs.declared.block.Block.{Block}
 use Rattle.rb_model.specs.declared.block.Field.{Field}
 use Rattle.rb_model.specs.declared.block.Reg.{Reg}
 use Rattle.rb_model.specs.Kept.{when}
-use Rattle.rb_model.specs.Ports.{Outlet, outlet, outlets, field_outlets, reg_outlets, shown_item, shown_word}
+use Rattle.rb_model.specs.Ports.{outlet, outlets, field_outlets, reg_outlets, shown_item, shown_word}
 use Rattle.rb_model.specs.Items.{items, field_items, reg_items}
 use Rattle.rb_model.specs.References.{Each}
 use Rattle.rb_model.specs.SoundField.{FieldIsSoundIn, FieldIsSound, is_of_counter}

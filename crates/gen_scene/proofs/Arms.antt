@@ -1,19 +1,18 @@
 -- What the node of an item is worth, by its kind.
-use Rattle.std.proofs.Common.{◌≡◌, ℕ, zero, suc, ◌+◌, ◌==◌, ◌<◌, ◌-◌, ◌^◌, ◌%◌, Bool, true, false, not, ◌&&◌, ◌||◌, if◌then◌else◌, nat_le, nat_lt, Option, Some, None, List, [], ◌∷◌, ◌++◌, length, map, filter, slice_get, refl, sym, ap, ◌∙◌, subst, arith, count_ones}
-use Rattle.std.specs.List.{enumerate_from, flat_map, list_any}
+use Rattle.std.proofs.Common.{◌≡◌, ℕ, ◌==◌, ◌-◌, ◌^◌, ◌%◌, Bool, true, false, ◌&&◌, ◌||◌, if◌then◌else◌, nat_lt, Option, Some, List, [], ◌∷◌, map, filter, slice_get, refl, sym, ap, ◌∙◌, count_ones}
+use Rattle.std.specs.List.{enumerate_from, list_any}
 use Rattle.std.specs.Option.{option_map_or}
 use Rattle.rb_base.specs.Bits.{ones}
-use Rattle.rtl_net.specs.Value.{At, bit_of}
+use Rattle.rtl_net.specs.Value.{bit_of}
 use Rattle.rtl_net.specs.Net.{Net, Grows, IsNode, seen_or_zero, width_in}
 use Rattle.rtl_net.specs.Graft.{at}
 use Rattle.rtl_net.specs.declared.node.Id.{Id}
 use Rattle.rb_model.specs.declared.kinds.RefItem.TheVariants as item
-use Rattle.rb_model.specs.declared.kinds.Mask.{Mask}
 use Rattle.rb_model.specs.declared.block.Block.{Block}
 use Rattle.rb_model.specs.declared.block.Field.{Field}
 use Rattle.rb_model.specs.declared.block.Signal.{Signal}
 use Rattle.rb_model.specs.Effects.{counting}
-use Rattle.rb_model.specs.Items.{Now, ItemValues, AreItemValues, is_interrupt, is_on, made, mask_value, raises}
+use Rattle.rb_model.specs.Items.{Now, ItemValues, is_interrupt, is_on, made, mask_value, raises}
 use Rattle.rb_model.specs.Kept.{of_field}
 use Rattle.rb_model.specs.Ports.{signal_name}
 use Rattle.rb_model.specs.References.{Each, item_width, mask_refs, raise_refs, refs}
@@ -99,13 +98,17 @@ and_three true false r e q = q
 and_three false i r e q = e
 
 pub intr_line : (net : Net) (s : Scene) (r : ℕ) → HasNodes net s (refs s.base.now.block.now (item.Intr r)) → HasLine net s false r
-intr_line net s r h = record { each = λ k f here member has.
-    let b = s.base.now.block.now in
-    let P = IsItem b s.base.now.inlet net s.items.now in
-    Each-if P (true && is_interrupt f.latch && f.reg == r) (item.Field k ∷ mask_refs f.enable) (and_three true (is_interrupt f.latch) (f.reg == r) refl member) (Each-made P (λ f. raise_refs r true f.1.enable f) b.fields k f h here) }
+intr_line net s r h = record {
+  each = λ k f here member has.
+      let b = s.base.now.block.now in
+      let P = IsItem b s.base.now.inlet net s.items.now in
+      Each-if P (true && is_interrupt f.latch && f.reg == r) (item.Field k ∷ mask_refs f.enable) (and_three true (is_interrupt f.latch) (f.reg == r) refl member) (Each-made P (λ f. raise_refs r true f.1.enable f) b.fields k f h here);
+}
 
 pub halt_line : (net : Net) (s : Scene) (r : ℕ) → HasNodes net s (refs s.base.now.block.now (item.Halt r)) → HasLine net s true r
-halt_line net s r h = record { each = λ k f here member has.
-    let b = s.base.now.block.now in
-    let P = IsItem b s.base.now.inlet net s.items.now in
-    Each-if P (is_on f.halt && is_interrupt f.latch && f.reg == r) (item.Field k ∷ mask_refs f.halt) (and_three (is_on f.halt) (is_interrupt f.latch) (f.reg == r) has member) (Each-made P (λ f. raise_refs r (is_on f.1.halt) f.1.halt f) b.fields k f h here) }
+halt_line net s r h = record {
+  each = λ k f here member has.
+      let b = s.base.now.block.now in
+      let P = IsItem b s.base.now.inlet net s.items.now in
+      Each-if P (is_on f.halt && is_interrupt f.latch && f.reg == r) (item.Field k ∷ mask_refs f.halt) (and_three (is_on f.halt) (is_interrupt f.latch) (f.reg == r) has member) (Each-made P (λ f. raise_refs r (is_on f.1.halt) f.1.halt f) b.fields k f h here);
+}

@@ -1,13 +1,13 @@
 -- What the nodes of counters are worth.
-use Rattle.std.proofs.Common.{◌≡◌, ℕ, ◌==◌, ◌<◌, ◌≤◌, ◌^◌, Bool, true, false, if◌then◌else◌, Option, Some, None, List, [], ◌∷◌, ◌++◌, codes, length, slice_get, refl, sym, ap, ◌∙◌, subst, arith}
+use Rattle.std.proofs.Common.{◌≡◌, ℕ, ◌==◌, ◌<◌, ◌≤◌, ◌^◌, true, false, if◌then◌else◌, Option, Some, None, List, [], ◌∷◌, ◌++◌, codes, length, slice_get, refl, sym, ap, ◌∙◌, subst, arith}
 use Rattle.std.specs.Option.{option_map, option_map_or}
 use Rattle.std.specs.Prelude.{option_and_then}
 use Rattle.std.proofs.lemmas.Option.{same_Some, slice_get_within}
-use Rattle.rtl_net.specs.Value.{At, bit_of}
-use Rattle.rtl_net.specs.Net.{Net, Grows, Has, IsNode, MayHave, Settles, Stands, seen_or_zero, width_in}
+use Rattle.rtl_net.specs.Value.{bit_of}
+use Rattle.rtl_net.specs.Net.{Net, Grows, IsNode, MayHave, Stands, seen_or_zero}
 use Rattle.rtl_net.specs.Graft.{at}
 use Rattle.rtl_net.specs.declared.node.Id.{Id}
-use Rattle.rtl_net.proofs.Nets.{Stands-grows, Stands-has, fits_at}
+use Rattle.rtl_net.proofs.Nets.{fits_at}
 use Rattle.rb_model.specs.declared.kinds.RefItem.{RefItem}
 use Rattle.rb_model.specs.declared.kinds.Amount.{Amount}
 use Rattle.rb_model.specs.declared.kinds.Amount.TheVariants as amount
@@ -18,10 +18,10 @@ use Rattle.rb_model.specs.declared.kinds.Count.{Count}
 use Rattle.rb_model.specs.declared.block.Block.{Block}
 use Rattle.rb_model.specs.declared.block.Field.{Field}
 use Rattle.rb_model.specs.Ports.{pin}
-use Rattle.rb_model.specs.PinsHave.{AmountHas, FeedHas}
+use Rattle.rb_model.specs.PinsHave.{AmountHas}
 use Rattle.rb_model.specs.Items.{Now, ItemValues, amount_value, down, fed, level_value, step, up}
 use Rattle.rb_model.specs.Machine.{is_asserted, reset_pin}
-use Rattle.rb_model.specs.References.{AreWide, AreWithin, Each, WithSome, amount_refs, count_refs, feed_refs, item_width, level_refs, part_refs}
+use Rattle.rb_model.specs.References.{AreWide, AreWithin, WithSome, amount_refs, count_refs, feed_refs, item_width, level_refs, part_refs}
 use Rattle.rb_model.specs.SoundField.{AmountFits, CountFits, FieldIsSoundIn, LevelFits, PartFits}
 use Rattle.rb_model.proofs.Eachs.{Each-left, Each-right}
 use Rattle.rb_plan.specs.declared.plan.FieldPlaces.{FieldPlaces}
@@ -35,12 +35,12 @@ use Rattle.gen_scene.specs.declared.base.Base.{Base}
 use Rattle.gen_scene.specs.declared.base.Inlet.{Inlet}
 use Rattle.gen_scene.specs.declared.scene.Scene.{Scene}
 use Rattle.gen_scene.specs.Bases.{IsBase, signal_place}
-use Rattle.gen_scene.specs.Fields.{CanAmount, CanFeed, CanLevel, CanStep, HasField, HasNodes, fed_node, high_value, limit_refs, limits_refs, low_value}
+use Rattle.gen_scene.specs.Fields.{CanAmount, CanLevel, CanStep, HasNodes, fed_node, high_value, limit_refs, limits_refs, low_value}
 use Rattle.gen_scene.specs.Items.{IsItem}
 use Rattle.gen_scene.specs.Worth.{IsRead, IsSeenAs, IsWorth, MayBeWorth}
 use Rattle.gen_scene.proofs.Worths.{MayBeWorth-grows, read_node, worth1, worth2, worth_as, worth_read}
-use Rattle.gen_scene.proofs.Sources.{fed_worth, field_sound, own_refs, own_sound, pin_is, pin_node}
-use Rattle.gen_scene.proofs.ResetPins.{own_pin, own_reset, pin_worth}
+use Rattle.gen_scene.proofs.Sources.{fed_worth, field_sound, pin_is, pin_node}
+use Rattle.gen_scene.proofs.ResetPins.{pin_worth}
 
 -- an item's node, and what is made of it
 pub item_stands : (net : Net) (s : Scene) (i : RefItem) (from : Id) → HasNodes net s (i ∷ []) → from ≡ at s.items.now (item_place i) → Stands net from (item_width s.base.now.block.now i)

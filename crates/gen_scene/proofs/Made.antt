@@ -1,11 +1,8 @@
 -- What the nodes of items are worth.
-use Rattle.std.proofs.Common.{◌≡◌, ℕ, ◌==◌, ◌<◌, ◌≤◌, ◌^◌, Bool, true, false, not, ◌&&◌, ◌||◌, if◌then◌else◌, nat_le, nat_lt, Option, Some, None, is_some, unwrap_or, List, [], ◌∷◌, ◌++◌, length, slice_get, refl, sym, ap, ◌∙◌, subst, arith}
-use Rattle.std.specs.Option.{option_map_or}
-use Rattle.std.specs.Prelude.{Contains}
+use Rattle.std.proofs.Common.{◌≡◌, ℕ, ◌==◌, ◌<◌, ◌^◌, Bool, true, false, not, ◌&&◌, ◌||◌, if◌then◌else◌, nat_le, nat_lt, Option, Some, None, is_some, unwrap_or, [], ◌∷◌, slice_get, refl, sym, ap, ◌∙◌, subst, arith}
 use Rattle.std.proofs.Math.Pow.{pow_pos}
-use Rattle.std.proofs.lemmas.Option.{same_Some, slice_get_within}
-use Rattle.rtl_net.specs.Value.{At, bit_of}
-use Rattle.rtl_net.specs.Net.{Net, Grows, IsNode, MayHave, Settles, Stands, seen_or_zero, width_in}
+use Rattle.rtl_net.specs.Value.{bit_of}
+use Rattle.rtl_net.specs.Net.{Net, Grows, IsNode, seen_or_zero}
 use Rattle.rtl_net.specs.Graft.{at}
 use Rattle.rtl_net.specs.declared.node.Id.{Id}
 use Rattle.rb_model.specs.declared.kinds.RefItem.TheVariants as item
@@ -13,23 +10,20 @@ use Rattle.rb_plan.specs.Table.{item_place}
 use Rattle.gen_scene.specs.declared.scene.Scene.{Scene}
 use Rattle.gen_scene.specs.Fields.{HasNodes}
 use Rattle.gen_scene.specs.Items.{IsItem}
-use Rattle.rtl_net.proofs.Nets.{Grows-trans}
-use Rattle.rb_model.specs.declared.kinds.Class.{Class}
 use Rattle.rb_model.specs.declared.kinds.Class.TheVariants.{Storage, Wire, Constant}
-use Rattle.rb_model.specs.declared.kinds.Level.{Level}
 use Rattle.rb_model.specs.declared.block.Block.{Block}
 use Rattle.rb_model.specs.declared.block.Field.{Field}
 use Rattle.rb_model.specs.Kept.{Val, is_storage}
-use Rattle.rb_model.specs.Items.{Now, ItemValues, class_value, is_interrupt}
+use Rattle.rb_model.specs.Items.{Now, ItemValues, class_value}
 use Rattle.rb_model.specs.References.{WithSome}
 use Rattle.rb_model.specs.declared.kinds.Count.{Count}
 use Rattle.rb_model.specs.Effects.{is_gated}
 use Rattle.rb_model.specs.Items.{is_on}
-use Rattle.rb_model.specs.SoundField.{FieldIsSoundIn, class_of, is_changed, is_fed, is_latching_or_counting}
+use Rattle.rb_model.specs.SoundField.{is_changed, is_fed, is_latching_or_counting}
 use Rattle.rb_model.specs.Sound.{IsSound}
 use Rattle.gen_scene.specs.declared.base.Inlet.{Inlet}
 use Rattle.gen_scene.specs.Worth.{IsWorth, MayBeWorth}
-use Rattle.gen_scene.proofs.Worths.{IsRead-grows, IsWorth-grows, read_node, read2, worth1, worth_as, worth_read}
+use Rattle.gen_scene.proofs.Worths.{worth_as, worth_read}
 use Rattle.gen_scene.proofs.Sources.{field_sound, field_width}
 
 module _ (b : Block) (a : Inlet) where

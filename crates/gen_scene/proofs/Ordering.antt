@@ -6,14 +6,12 @@ use Rattle.std.proofs.Math.ListN.{set}
 use Rattle.std.proofs.lemmas.List.Sorted.{Contains-permutation, IsPermutation-sym}
 use Rattle.std.proofs.lemmas.Option.{get_or_from_slice_get, same_Some, slice_get-get_or, slice_get_read, slice_get_within}
 use Rattle.rtl_net.specs.Net.{Net, Grows}
-use Rattle.rtl_net.specs.Graft.{at}
 use Rattle.rtl_net.specs.declared.node.Id.{Id}
 use Rattle.rtl_net.proofs.Nets.{Grows-refl, Grows-trans}
 use Rattle.rb_model.specs.declared.kinds.RefItem.{RefItem}
 use Rattle.rb_model.specs.declared.kinds.RefItem.TheVariants as item
 use Rattle.rb_model.specs.declared.block.Block.{Block}
 use Rattle.rb_model.specs.declared.block.Field.{Field}
-use Rattle.rb_model.specs.declared.block.Reg.{Reg}
 use Rattle.rb_model.specs.declared.block.Signal.{Signal}
 use Rattle.rb_model.specs.Kept.{when}
 use Rattle.rb_model.specs.Items.{field_items, items, made, reg_items}
@@ -26,7 +24,7 @@ use Rattle.gen_scene.specs.declared.base.Inlet.{Inlet}
 use Rattle.gen_scene.specs.declared.items.Marks.{Marks}
 use Rattle.gen_scene.specs.Items.{AreMarks, HasItems, IsClosed, IsItem, IsMarked, IsOwn, is_wanted}
 use Rattle.gen_scene.specs.Worth.{IsWorth}
-use Rattle.gen_scene.proofs.Worths.{AreMarks-grows, IsItem-grows}
+use Rattle.gen_scene.proofs.Worths.{IsItem-grows}
 
 -- What the items of a block are
 
@@ -40,8 +38,20 @@ counter_items b k f here true e = ((f, here, e), ((f, here, e), ((f, here, e), (
 counter_items b k f here false e = tt
 
 own_items : (b : Block) (k : ℕ) (f : Field) → slice_get b.fields k ≡ Some f → Each (IsOwn b) (field_items (k, f))
-own_items b k f here = ((f, here), ((f, here), ((f, here), ((f, here), Each-append (IsOwn b) (if is_some f.count then item.IncrThreshold k ∷ item.DecrThreshold k ∷ item.Overflow k ∷ item.Underflow k ∷ [] else []) (item.SwMod k ∷ item.SwAcc k ∷ [])
-    (counter_items b k f here (is_some f.count) refl) ((f, here), ((f, here), tt))))))
+own_items b k f here = (
+  (f, here),
+  (
+    (f, here),
+    (
+      (f, here),
+      (
+        (f, here),
+        Each-append (IsOwn b) (if is_some f.count then item.IncrThreshold k ∷ item.DecrThreshold k ∷ item.Overflow k ∷ item.Underflow k ∷ [] else []) (item.SwMod k ∷ item.SwAcc k ∷ [])
+            (counter_items b k f here (is_some f.count) refl) ((f, here), ((f, here), tt)),
+      ),
+    ),
+  ),
+)
 
 all_own : (b : Block) → Each (IsOwn b) (items b)
 all_own b =
@@ -53,7 +63,7 @@ all_own b =
     (Each-flat_map (IsOwn b) (λ (s : ℕ × Signal). item.Signal s.0 ∷ []) (enumerate_from 0 b.signals) (Each-numbered_all (λ s. Each (IsOwn b) (item.Signal s.0 ∷ [])) b.signals (λ k g here. ((g, here), tt))))
     (Each-flat_map (IsOwn b) field_items (enumerate_from 0 b.fields) (Each-numbered_all (λ f. Each (IsOwn b) (field_items f)) b.fields (own_items b))))
     (Each-flat_map (IsOwn b) reg_items (enumerate_from 0 b.regs) (Each-numbered_all (λ r. Each (IsOwn b) (reg_items r)) b.regs (λ k r here.
-        Each-append (IsOwn b) (when r.intr (item.Intr k)) (when r.halt (item.Halt k)) (when_each (IsOwn b) r.intr (item.Intr k) tt) (when_each (IsOwn b) r.halt (item.Halt k) tt))))
+    Each-append (IsOwn b) (when r.intr (item.Intr k)) (when r.halt (item.Halt k)) (when_each (IsOwn b) r.intr (item.Intr k) tt) (when_each (IsOwn b) r.halt (item.Halt k) tt))))
 
 pub is_own : (b : Block) (i : RefItem) → Contains (items b) i → IsOwn b i
 is_own b i c = let (j, low, is) = c in Each-at (IsOwn b) (items b) j i (all_own b) (slice_get_read (items b) (length (items b)) j i refl low (sym is))
@@ -97,10 +107,15 @@ last_or_before k end l = grind arith
 
 -- one that isn't wanted
 pub one_spared : (b : Block) (a : Inlet) (wanted : List Bool) (first net : Net) (room : ℕ) (table : List Id) (end : ℕ) (i : RefItem) → slice_get b.order end ≡ Some i → is_wanted wanted i ≡ false → MadeTo b a wanted first net room table end → MadeTo b a wanted first net room table (end + 1)
-one_spared b a wanted first net room table end i here spared sofar = record { older = sofar.older; name = sofar.name; long = sofar.long; each = λ k j low there w. elim (last_or_before k end low) [
-  | inl e ↦ let same : i ≡ j = same_Some i j (sym here ∙ (ap (slice_get b.order) (sym e) ∙ there)) in absurd (let q : false ≡ true = sym spared ∙ (ap (is_wanted wanted) same ∙ w) in cc)
-  | inr l ↦ sofar.each k j l there w
-] }
+one_spared b a wanted first net room table end i here spared sofar = record {
+  older = sofar.older;
+  name = sofar.name;
+  long = sofar.long;
+  each = λ k j low there w. elim (last_or_before k end low) [
+    | inl e ↦ let same : i ≡ j = same_Some i j (sym here ∙ (ap (slice_get b.order) (sym e) ∙ there)) in absurd (let q : false ≡ true = sym spared ∙ (ap (is_wanted wanted) same ∙ w) in cc)
+    | inr l ↦ sofar.each k j l there w
+  ];
+}
 
 module _ (b : Block) (a : Inlet) (wanted : List Bool) (first old new : Net) (room : ℕ) (table : List Id) (end : ℕ) (i : RefItem) (id : Id) (sound : IsSound b) (here : slice_get b.order end ≡ Some i)
     (sofar : MadeTo b a wanted first old room table end) (low : item_place i < room) (h : Grows old new) (e : new.name ≡ old.name) (worth : IsWorth b a new id (item_width b i) (λ n v. made b n v i)) where
@@ -144,10 +159,12 @@ refs_made b a wanted first net room table end i sound closed here w sofar =
 
 -- all wanted items have their nodes
 pub all_made : (b : Block) (a : Inlet) (wanted : List Bool) (first net : Net) (room : ℕ) (table : List Id) (end : ℕ) → IsSound b → length b.order ≤ end → MadeTo b a wanted first net room table end → HasItems b a net wanted table
-all_made b a wanted first net room table end sound past sofar = record { each = λ i among w.
-    let held : Contains b.order i = Contains-permutation (items b) b.order i sound.all_items among in
-    let low : held.0 < length b.order = held.1 in
-    sofar.each held.0 i (omega (arith, low, past)) (slice_get_read b.order (length b.order) held.0 i refl held.1 (sym held.2)) w }
+all_made b a wanted first net room table end sound past sofar = record {
+  each = λ i among w.
+      let held : Contains b.order i = Contains-permutation (items b) b.order i sound.all_items among in
+      let low : held.0 < length b.order = held.1 in
+      sofar.each held.0 i (omega (arith, low, past)) (slice_get_read b.order (length b.order) held.0 i refl held.1 (sym held.2)) w;
+}
 
 -- an item that was read
 pub here_at : (b : Block) (read : List RefItem) (k : ℕ) (d : RefItem) → read ≡ b.order → k < length read → slice_get b.order k ≡ Some (get_or read k d)

@@ -1,39 +1,35 @@
 -- Interrupts that count for a register's line, one after another.
-use Rattle.std.proofs.Common.{◌≡◌, ℕ, zero, suc, ◌+◌, ◌-◌, ◌^◌, ◌<◌, ◌≤◌, ◌==◌, Bool, true, false, not, ◌&&◌, ◌||◌, if◌then◌else◌, nat_lt, bit_and, Option, Some, None, List, [], ◌∷◌, ◌++◌, length, map, filter, take, slice_get, get_or, refl, sym, ap, ◌∙◌, subst, arith}
-use Rattle.std.specs.Prelude.{All, Contains}
+use Rattle.std.proofs.Common.{◌≡◌, ℕ, suc, ◌+◌, ◌-◌, ◌^◌, ◌<◌, ◌≤◌, Bool, true, false, ◌&&◌, ◌||◌, if◌then◌else◌, nat_lt, bit_and, Option, Some, None, List, [], ◌∷◌, ◌++◌, length, map, filter, take, slice_get, get_or, refl, sym, ap, ◌∙◌, subst, arith}
+use Rattle.std.specs.Prelude.{All}
 use Rattle.std.specs.List.{enumerate_from, list_any}
-use Rattle.std.specs.Option.{option_map, option_map_or}
+use Rattle.std.specs.Option.{option_map}
 use Rattle.std.proofs.lemmas.List.{take_all, take_more}
 use Rattle.std.proofs.lemmas.List.Folds.{list_any-append}
 use Rattle.std.proofs.lemmas.List.Elements.{All-cons, All-head, All-nil, All-tail}
 use Rattle.std.proofs.lemmas.Option.{same_Some, slice_get-get_or, slice_get_within}
-use Rattle.rtl_net.specs.Value.{At, bit_of}
-use Rattle.rtl_net.specs.Net.{Net, Has, MayHave, Settles, Stands, width_in}
+use Rattle.rtl_net.specs.Value.{At}
+use Rattle.rtl_net.specs.Net.{Net, MayHave, Settles, Stands, width_in}
 use Rattle.rtl_net.specs.Graft.{at}
-use Rattle.rtl_net.specs.declared.node.Id.{Id}
 use Rattle.rtl_net.proofs.Nets.{Stands-has}
-use Rattle.rb_model.specs.declared.kinds.RefItem.{RefItem}
 use Rattle.rb_model.specs.declared.kinds.RefItem.TheVariants as item
 use Rattle.rb_model.specs.declared.kinds.Mask.{Mask}
 use Rattle.rb_model.specs.declared.kinds.Mask.TheVariants as mask
 use Rattle.rb_model.specs.declared.block.Block.{Block}
 use Rattle.rb_model.specs.declared.block.Field.{Field}
 use Rattle.rb_model.specs.Effects.{counting}
-use Rattle.rb_model.specs.Items.{Now, ItemValues, AreItemValues, is_interrupt, is_on, mask_value}
-use Rattle.rb_model.specs.References.{AreWide, Each, item_width, mask_refs}
+use Rattle.rb_model.specs.Items.{Now, ItemValues, AreItemValues, mask_value}
+use Rattle.rb_model.specs.References.{AreWide, Each, mask_refs}
 use Rattle.rb_model.proofs.Eachs.{Each-at, Each-left, Each-right}
-use Rattle.rb_model.proofs.OwnViews.{by_cases}
 use Rattle.rb_plan.specs.Plan.{is_member, members_among}
 use Rattle.rb_plan.specs.Table.{item_place}
 use Rattle.gen_intr.specs.declared.lines.Masked.{Masked}
 use Rattle.gen_intr.specs.Counting.{IsMasked, counts_at, under_mask}
-use Rattle.gen_scene.specs.declared.base.Inlet.{Inlet}
 use Rattle.gen_scene.specs.declared.scene.Scene.{Scene}
 use Rattle.gen_scene.specs.Bases.{IsBase}
 use Rattle.gen_scene.specs.Fields.{HasNodes, item_node, mask_node}
 use Rattle.gen_scene.specs.Items.{IsItem}
 use Rattle.gen_scene.specs.Lines.{HasLine, has_line, is_inverted, line_bits, line_mask, raised}
-use Rattle.gen_scene.specs.Worth.{Finds, IsRead, IsWorth}
+use Rattle.gen_scene.specs.Worth.{Finds, IsRead}
 use Rattle.gen_scene.proofs.Arms.{raised_is}
 use Rattle.gen_scene.proofs.Made.{node_worth}
 use Rattle.gen_scene.proofs.Sources.{field_sound, in_table}
@@ -73,14 +69,16 @@ mask_counts : (net : Net) (s : Scene) (m : Mask) (w : ℕ) → HasNodes net s (m
 mask_counts net s mask.Off w h wide = (tt, λ v t n found items valued x. refl)
 mask_counts net s (mask.Enable i) w h wide =
     let it : IsItem s.base.now.block.now s.base.now.inlet net s.items.now i = h.0 in
-    let e : item_node s i ≡ Some (at s.items.now (item_place i)) = in_table s.items.now (item_place i) it.within in
-    (subst (λ o. MayHave net o w) (sym e) (subst (Stands net (at s.items.now (item_place i))) wide.0.1 it.worth.stands),
-    λ v t n found items valued x. ap (under_mask v w x false) e ∙ ap (bit_and x) (it.worth.value v t n found items valued))
+    let e : item_node s i ≡ Some (at s.items.now (item_place i)) = in_table s.items.now (item_place i) it.within in (
+      subst (λ o. MayHave net o w) (sym e) (subst (Stands net (at s.items.now (item_place i))) wide.0.1 it.worth.stands),
+      λ v t n found items valued x. ap (under_mask v w x false) e ∙ ap (bit_and x) (it.worth.value v t n found items valued),
+    )
 mask_counts net s (mask.Mask i) w h wide =
     let it : IsItem s.base.now.block.now s.base.now.inlet net s.items.now i = h.0 in
-    let e : item_node s i ≡ Some (at s.items.now (item_place i)) = in_table s.items.now (item_place i) it.within in
-    (subst (λ o. MayHave net o w) (sym e) (subst (Stands net (at s.items.now (item_place i))) wide.0.1 it.worth.stands),
-    λ v t n found items valued x. ap (under_mask v w x true) e ∙ ap (λ y. bit_and x (2 ^ w - 1 - y)) (it.worth.value v t n found items valued))
+    let e : item_node s i ≡ Some (at s.items.now (item_place i)) = in_table s.items.now (item_place i) it.within in (
+      subst (λ o. MayHave net o w) (sym e) (subst (Stands net (at s.items.now (item_place i))) wide.0.1 it.worth.stands),
+      λ v t n found items valued x. ap (under_mask v w x true) e ∙ ap (λ y. bit_and x (2 ^ w - 1 - y)) (it.worth.value v t n found items valued),
+    )
 
 mask_wide : (b : Block) (halt : Bool) (f : Field) → AreWide b f.width (mask_refs f.keep ++ mask_refs f.enable ++ mask_refs f.halt) → AreWide b f.width (mask_refs (line_mask halt f))
 mask_wide b true f h = Each-right _ (mask_refs f.keep ++ mask_refs f.enable) (mask_refs f.halt) h
@@ -102,11 +100,13 @@ bits_count net s halt r k f base line here member = by (has_line halt f) refl
         let w : width_in net id ≡ f.width = from.stands.width in
         subst (λ o. Counts net s halt k (option_map (λ id. record { value = id; mask = mask_node s (line_mask halt f); inverted = is_inverted (line_mask halt f) }) o)) (sym (in_table s.items.now (item_place (item.Field k)) it.within)) (
           (Stands-has net id f.width from.stands, subst (MayHave net (mask_node s (line_mask halt f))) (sym w) m.0),
-          record { value = λ v t n found items valued.
-              ap (λ u. nat_lt 0 (under_mask v u (v.node id.0) (is_inverted (line_mask halt f)) (mask_node s (line_mask halt f)))) w
-              ∙ ap (λ y. nat_lt 0 (under_mask v f.width y (is_inverted (line_mask halt f)) (mask_node s (line_mask halt f)))) (from.value v t n found items valued)
-              ∙ ap (nat_lt 0) (m.1 v t n found items valued (items (item.Field k)))
-              ∙ sym (raised_is b items halt k f here ∙ ap (λ c. c && nat_lt 0 (counting (line_mask halt f) f.width (items (item.Field k)) (mask_value items (line_mask halt f)))) e) },
+          record {
+            value = λ v t n found items valued.
+                ap (λ u. nat_lt 0 (under_mask v u (v.node id.0) (is_inverted (line_mask halt f)) (mask_node s (line_mask halt f)))) w
+                ∙ ap (λ y. nat_lt 0 (under_mask v f.width y (is_inverted (line_mask halt f)) (mask_node s (line_mask halt f)))) (from.value v t n found items valued)
+                ∙ ap (nat_lt 0) (m.1 v t n found items valued (items (item.Field k)))
+                ∙ sym (raised_is b items halt k f here ∙ ap (λ c. c && nat_lt 0 (counting (line_mask halt f) f.width (items (item.Field k)) (mask_value items (line_mask halt f)))) e);
+          },
         )
 
 -- The loop
@@ -133,10 +133,15 @@ taken : (b : Block) (v : ItemValues) (halt : Bool) (ks : List ℕ) (end k : ℕ)
 taken b v halt ks end k low is = ap (list_any (raised b v halt)) (take_more ks end 0 low ∙ ap (λ y. take end ks ++ y ∷ []) (sym is)) ∙ any_push (raised b v halt) (take end ks) k
 
 pub bits_same : (net : Net) (s : Scene) (halt : Bool) (ks : List ℕ) (bits : List Masked) (end k : ℕ) (o : Option Masked) → end < length ks → k ≡ get_or ks end 0 → BitsTo net s halt ks bits end → Counts net s halt k o → None ≡ o → BitsTo net s halt ks bits (end + 1)
-bits_same net s halt ks bits end k o low is sofar c e = record { masked = sofar.masked; counts = record { value = λ v t n found items valued.
-    let b = s.base.now.block.now in
-    let no : raised b items halt k ≡ false = subst (Counts net s halt k) (sym e) c items in
-    sofar.counts.value v t n found items valued ∙ sym (taken b items halt ks end k low is ∙ ap (λ c. list_any (raised b items halt) (take end ks) || c) no ∙ or_last _) } }
+bits_same net s halt ks bits end k o low is sofar c e = record {
+  masked = sofar.masked;
+  counts = record {
+    value = λ v t n found items valued.
+        let b = s.base.now.block.now in
+        let no : raised b items halt k ≡ false = subst (Counts net s halt k) (sym e) c items in
+        sofar.counts.value v t n found items valued ∙ sym (taken b items halt ks end k low is ∙ ap (λ c. list_any (raised b items halt) (take end ks) || c) no ∙ or_last _);
+  };
+}
 
 pub bits_more : (net : Net) (s : Scene) (halt : Bool) (ks : List ℕ) (bits bits' : List Masked) (end k : ℕ) (m : Masked) (o : Option Masked) → end < length ks → k ≡ get_or ks end 0 → BitsTo net s halt ks bits end → Counts net s halt k o → Some m ≡ o → bits' ≡ bits ++ m ∷ []
     → BitsTo net s halt ks bits' (end + 1)
@@ -145,9 +150,11 @@ bits_more net s halt ks bits bits' end k m o low is sofar c e pushed =
     let q : IsMasked net m × IsRead b s.base.now.inlet net (λ x. counts_at net x m) (λ n v. raised b v halt k) = subst (Counts net s halt k) (sym e) c in
     record {
       masked = subst (All (IsMasked net)) (sym pushed) (all_push (IsMasked net) bits m sofar.masked q.0);
-      counts = record { value = λ v t n found items valued.
-          ap (list_any (counts_at net v)) pushed ∙ any_push (counts_at net v) bits m ∙ ap (λ c. c || counts_at net v m) (sofar.counts.value v t n found items valued)
-          ∙ ap (λ c. list_any (raised b items halt) (take end ks) || c) (q.1.value v t n found items valued) ∙ sym (taken b items halt ks end k low is) };
+      counts = record {
+        value = λ v t n found items valued.
+            ap (list_any (counts_at net v)) pushed ∙ any_push (counts_at net v) bits m ∙ ap (λ c. c || counts_at net v m) (sofar.counts.value v t n found items valued)
+            ∙ ap (λ c. list_any (raised b items halt) (take end ks) || c) (q.1.value v t n found items valued) ∙ sym (taken b items halt ks end k low is);
+      };
     }
 
 pub all_bits : (net : Net) (s : Scene) (halt : Bool) (ks : List ℕ) (bits : List Masked) (end : ℕ) → length ks ≤ end → BitsTo net s halt ks bits end → IsRead s.base.now.block.now s.base.now.inlet net (λ x. list_any (counts_at net x) bits) (λ n v. list_any (raised s.base.now.block.now v halt) ks)

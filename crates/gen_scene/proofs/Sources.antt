@@ -1,11 +1,10 @@
 -- The nodes that are looked up, and what they are worth.
-use Rattle.std.proofs.Common.{◌≡◌, ℕ, ◌<◌, ◌≤◌, Bool, true, false, if◌then◌else◌, Option, Some, None, MatchOption, List, [], ◌∷◌, ◌++◌, codes, length, slice_get, refl, sym, ap, ◌∙◌, subst, arith}
+use Rattle.std.proofs.Common.{◌≡◌, ℕ, ◌<◌, Bool, true, false, if◌then◌else◌, Option, Some, None, List, [], ◌∷◌, ◌++◌, codes, length, slice_get, refl, sym, ap, ◌∙◌, subst, arith}
 use Rattle.std.specs.Prelude.{Contains}
 use Rattle.std.specs.Option.{option_map_or}
 use Rattle.std.proofs.lemmas.Option.{same_Some, slice_get-get_or, slice_get_within, get_or_from_slice_get}
 use Rattle.rb_base.specs.declared.ports.Pin.{Pin}
-use Rattle.rtl_net.specs.Value.{At}
-use Rattle.rtl_net.specs.Net.{Net, Settles, IsNode, seen_or_zero}
+use Rattle.rtl_net.specs.Net.{Net}
 use Rattle.rtl_net.specs.Graft.{at}
 use Rattle.rtl_net.specs.declared.node.Id.{Id}
 use Rattle.rb_model.specs.declared.kinds.RefItem.{RefItem}
@@ -19,10 +18,10 @@ use Rattle.rb_model.specs.declared.block.Block.{Block}
 use Rattle.rb_model.specs.declared.block.Field.{Field}
 use Rattle.rb_model.specs.declared.block.View.{View}
 use Rattle.rb_model.specs.declared.block.Signal.{Signal}
-use Rattle.rb_model.specs.Kept.{Kept, Val, Last, Done, of_field, is_storage, keeps_last, register_width}
+use Rattle.rb_model.specs.Kept.{Kept, of_field, register_width}
 use Rattle.rb_model.specs.Ports.{input_pins, pin, signal_name}
-use Rattle.rb_model.specs.PinsHave.{FeedHas, GateHas}
-use Rattle.rb_model.specs.Items.{Now, ItemValues, AreItemValues, fed, gated, mask_value, source_value}
+use Rattle.rb_model.specs.PinsHave.{GateHas}
+use Rattle.rb_model.specs.Items.{fed, gated, mask_value, source_value}
 use Rattle.rb_model.specs.Machine.{view_gate}
 use Rattle.rb_model.specs.References.{AreWide, Each, feed_refs, gate_refs, mask_refs, count_refs, item_width}
 use Rattle.rb_model.specs.SoundField.{FieldIsSoundIn}
@@ -30,7 +29,7 @@ use Rattle.rb_model.specs.Sound.{IsSound, ViewIsSound}
 use Rattle.rb_model.proofs.Eachs.{Each-from_zero, Each-left, Each-right}
 use Rattle.rb_plan.specs.declared.kept.FieldKept.{FieldKept}
 use Rattle.rb_plan.specs.declared.plan.FieldPlaces.{FieldPlaces}
-use Rattle.rb_plan.specs.Kept.{AreFieldKept, IsKeptAt, field_kept}
+use Rattle.rb_plan.specs.Kept.{AreFieldKept, field_kept}
 use Rattle.rb_plan.specs.Pins.{IsDataPin}
 use Rattle.rb_plan.specs.Plan.{AreFieldPlaces, IsGatePlace, IsPlaceOf}
 use Rattle.rb_plan.specs.Table.{item_place}
@@ -41,7 +40,7 @@ use Rattle.gen_scene.specs.declared.scene.Scene.{Scene}
 use Rattle.gen_scene.specs.Bases.{HasKept, HasPins, IsBase, IsPinNode}
 use Rattle.gen_scene.specs.Fields.{CanFeed, HasField, HasNodes, HasView, fed_node, gated_node, hardware_refs, item_node, limits_refs, mask_node}
 use Rattle.gen_scene.specs.Items.{IsItem}
-use Rattle.gen_scene.specs.Worth.{Finds, IsWorth, MayBeWorth}
+use Rattle.gen_scene.specs.Worth.{IsWorth, MayBeWorth}
 use Rattle.gen_scene.proofs.Worths.{may_none, may_some, worth_as}
 
 -- an element of a table that reaches so far

@@ -1,5 +1,5 @@
 -- Which items are wanted, where all are.
-use Rattle.std.proofs.Common.{◌≡◌, ℕ, zero, suc, ◌<◌, ◌≤◌, Bool, true, false, Option, Some, None, List, [], ◌∷◌, ◌++◌, length, slice_get, get_or, refl, sym, ap, ◌∙◌, subst, arith}
+use Rattle.std.proofs.Common.{◌≡◌, ℕ, zero, suc, ◌<◌, ◌≤◌, Bool, true, false, Option, Some, None, List, ◌++◌, length, slice_get, get_or, refl, sym, ap, ◌∙◌, arith}
 use Rattle.std.specs.Prelude.{Contains}
 use lib.ListN.{replicate}
 use Rattle.std.proofs.lemmas.List.Sorted.{Contains-permutation}
@@ -16,17 +16,15 @@ use Rattle.rb_model.specs.declared.block.View.{View}
 use Rattle.rb_model.specs.Items.{items}
 use Rattle.rb_model.specs.Ports.{Outlet, outlets}
 use Rattle.rb_model.specs.References.{AreWide, AreWithin, Each, StandsBefore, WithSome, amount_refs, count_refs, feed_refs, gate_refs, item_width, level_refs, mask_refs, part_refs, refs}
-use Rattle.rb_model.specs.SoundField.{FieldIsSoundIn, RefersWell}
+use Rattle.rb_model.specs.SoundField.{RefersWell}
 use Rattle.rb_model.specs.Sound.{IsSound, ViewIsSound}
 use Rattle.rb_model.proofs.Eachs.{Each-append, Each-at, Each-both, Each-from_zero, Each-left, Each-right, Each-weaker}
 use Rattle.rb_plan.specs.Table.{item_place}
-use Rattle.gen_scene.specs.declared.base.Inlet.{Inlet}
 use Rattle.gen_scene.specs.declared.scene.Scene.{Scene}
 use Rattle.gen_scene.specs.Bases.{IsBase}
-use Rattle.gen_scene.specs.Fields.{HasField, HasNodes, HasView, IsAllWanted, hardware_refs, limit_refs, limits_refs}
+use Rattle.gen_scene.specs.Fields.{HasField, HasView, IsAllWanted, hardware_refs, limit_refs, limits_refs}
 use Rattle.gen_scene.specs.Items.{HasItems, IsClosed, IsItem, is_wanted}
 use Rattle.gen_scene.proofs.Among.{outlets_among, value_among}
-use Rattle.gen_scene.proofs.Ordering.{ordered_among}
 use Rattle.gen_scene.proofs.Sources.{field_sound}
 
 -- The items that hardware's steps refer to are the block's
@@ -131,6 +129,8 @@ module _ (b : Block) (sound : IsSound b) (wanted : List Bool) (n : ℕ) (is : wa
   }
 
   pub all_closed : IsClosed b wanted
-  all_closed = record { each = λ i c w.
-      let (k, low, at) = Contains-permutation (items b) b.order i sound.all_items c in
-      Each-weaker (StandsBefore b.order k) (λ j. is_wanted wanted j ≡ true) (λ j h. each_ordered h.0 j h.2) (refs b i) (sound.ordered k i (slice_get_read b.order (length b.order) k i refl low (sym at))) }
+  all_closed = record {
+    each = λ i c w.
+        let (k, low, at) = Contains-permutation (items b) b.order i sound.all_items c in
+        Each-weaker (StandsBefore b.order k) (λ j. is_wanted wanted j ≡ true) (λ j h. each_ordered h.0 j h.2) (refs b i) (sound.ordered k i (slice_get_read b.order (length b.order) k i refl low (sym at)));
+  }

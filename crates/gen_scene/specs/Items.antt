@@ -8,7 +8,7 @@ use Rattle.rb_model.specs.declared.kinds.RefItem.TheVariants as item
 use Rattle.rb_model.specs.declared.block.Block.{Block}
 use Rattle.rb_model.specs.declared.block.Field.{Field}
 use Rattle.rb_model.specs.declared.block.Signal.{Signal}
-use Rattle.rb_model.specs.Items.{Now, ItemValues, items, made}
+use Rattle.rb_model.specs.Items.{items, made}
 use Rattle.rb_model.specs.References.{Each, item_width, refs}
 use Rattle.rb_plan.specs.Table.{item_place}
 use Rattle.gen_scene.specs.declared.base.Inlet.{Inlet}

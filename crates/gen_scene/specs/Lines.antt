@@ -1,5 +1,5 @@
 -- The lines of a register's interrupts.
-use Rattle.std.specs.Prelude.{◌≡◌, ℕ, Bool, true, false, not, ◌&&◌, ◌||◌, if◌then◌else◌, nat_lt, Option, Some, None, List, ◌∷◌, slice_get}
+use Rattle.std.specs.Prelude.{◌≡◌, ℕ, Bool, true, false, not, ◌&&◌, ◌||◌, if◌then◌else◌, nat_lt, Option, Some, None, ◌∷◌, slice_get}
 use Rattle.std.specs.Option.{option_map}
 use Rattle.gen_intr.specs.declared.lines.Masked.{Masked}
 use Rattle.rtl_net.specs.Net.{Net}

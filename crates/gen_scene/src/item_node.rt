@@ -12,9 +12,7 @@ ghost use Rattle.gen_scene.specs.Worth.{IsWorth};
 use crate::base::{field_at, signal_at};
 use crate::items::Marks;
 use crate::lines::line;
-use crate::making::{
-    decr_threshold, field_overflow, field_underflow, field_value, incr_threshold,
-};
+use crate::making::{decr_threshold, field_overflow, field_underflow, field_value, incr_threshold};
 use crate::scene::Scene;
 use net_gates::{nonzero, present};
 use rb_base::NoMemory;

@@ -133,7 +133,14 @@ fn register(
     let field = field_at(block, number_of(kept) as usize);
     let pin = reset_id(plan, pins, field.reset_by);
     let reset = reset_for(pin, field.reset_by, reset_value(kept, field));
-    add(alloc, net, word_of(kept), path_of(field), width_of(kept, field), reset)
+    add(
+        alloc,
+        net,
+        word_of(kept),
+        path_of(field),
+        width_of(kept, field),
+        reset,
+    )
 }
 
 /// Adds the registers of what the fields keep, in the order of the plan, which are still to be driven. A register that has an

@@ -7,8 +7,8 @@
 
 mod base;
 mod counting;
-mod items;
 mod item_node;
+mod items;
 mod kept;
 mod lines;
 mod making;

@@ -1,9 +1,9 @@
-use Rattle.std.proofs.Common.{◌≡◌, ◌∷◌, nat_le, refl, sym, subst}
+use Rattle.std.proofs.Common.{nat_le, refl}
 use Rattle.std.specs.Option.{option_map_or}
 use Rattle.std.proofs.lemmas.Result.{IfOk-weaker}
 use Rattle.rtl_net.specs.Value.{bit_of}
 use Rattle.rb_model.specs.declared.kinds.RefItem.TheVariants as item
-use Rattle.rb_model.specs.Items.{level_value, made}
+use Rattle.rb_model.specs.Items.{level_value}
 use Rattle.gen_scene.proofs.Arms.{anded_worth, field_is, halt_is, halt_line, intr_is, intr_line, ored_worth, signal_worth, xored_worth}
 use Rattle.gen_scene.proofs.Worths.{worth_as}
 use Rattle.gen_scene.proofs.item_node.item_node.Goals as goal

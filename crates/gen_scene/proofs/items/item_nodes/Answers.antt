@@ -1,9 +1,4 @@
-use Rattle.std.proofs.Common.{◌≡◌, ◌<◌, ◌≤◌, ◌∙◌, List, Some, ap, length, slice_get, sym, subst, refl, arith}
-use Rattle.rb_model.specs.declared.kinds.RefItem.{RefItem}
-use Rattle.rtl_net.specs.declared.node.Id.{Id}
-use Rattle.rb_model.specs.References.{Each, refs}
-use Rattle.gen_scene.specs.Items.{IsItem}
-use Rattle.rb_plan.specs.Table.{item_place}
+use Rattle.std.proofs.Common.{◌≡◌, ◌<◌, ◌≤◌, ◌∙◌, ap, length, sym, refl, arith}
 use Rattle.gen_scene.proofs.Ordering.{all_made, here_at, is_marked, is_own, none_made, one_more_at, one_spared, ordered_among, refs_made, room_at}
 use Rattle.gen_scene.proofs.Worths.{AreMarks-grows, IsBase-grows}
 use Rattle.gen_scene.proofs.items.item_nodes.Goals as goal

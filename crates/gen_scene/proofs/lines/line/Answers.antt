@@ -1,4 +1,4 @@
-use Rattle.std.proofs.Common.{◌≡◌, ◌∙◌, List, get_or, refl, sym, ap, subst}
+use Rattle.std.proofs.Common.{◌≡◌, ◌∙◌, get_or, refl, sym, subst}
 use Rattle.std.specs.List.{list_any}
 use Rattle.rtl_net.specs.Value.{bit_of}
 use Rattle.rb_plan.specs.Plan.{members_among}
@@ -48,5 +48,5 @@ returns-clause-worth c =
     let sofar = all_bits net s c.args.halt ks c.loop-place.bits.items c.loop-place.place-index c.loop-place-test.false c.loop-place.invariant in
     let read : IsRead b a net (λ x. list_any (counts_at net x) c.deref.result.now) (λ n v. list_any (raised b v c.args.halt) (members_among b.fields c.args.reg))
     = subst (λ xs. IsRead b a net (λ x. list_any (counts_at net x) xs) (λ n v. list_any (raised b v c.args.halt) (members_among b.fields c.args.reg))) (sym c.deref.ensures.value)
-        (subst (λ xs. IsRead b a net (λ x. list_any (counts_at net x) c.loop-place.bits.items) (λ n v. list_any (raised b v c.args.halt) xs)) e sofar) in
+    (subst (λ xs. IsRead b a net (λ x. list_any (counts_at net x) c.loop-place.bits.items) (λ n v. list_any (raised b v c.args.halt) xs)) e sofar) in
     worth1 b a net c.any.new.net c.in_ok-id.id 1 bit_of (λ x. list_any (counts_at net x) c.deref.result.now) (λ n v. list_any (raised b v c.args.halt) (members_among b.fields c.args.reg)) c.in_ok-id.ensures.older c.in_ok-id.ensures.node read

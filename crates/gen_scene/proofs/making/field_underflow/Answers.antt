@@ -1,5 +1,5 @@
-use Rattle.std.proofs.Common.{◌≡◌, ap, refl, sym, subst, arith}
-use Rattle.rtl_net.specs.Net.{IsNode, width_in}
+use Rattle.std.proofs.Common.{arith}
+use Rattle.rtl_net.specs.Net.{IsNode}
 use Rattle.rb_model.specs.Effects.{underflows}
 use Rattle.rb_model.specs.Kept.{Val}
 use Rattle.rb_model.specs.Items.{down, up}

@@ -1,6 +1,5 @@
 use Rattle.std.proofs.Common.{refl, arith}
 use Rattle.std.proofs.lemmas.Result.{IfOk-weaker}
-use Rattle.rb_model.specs.Items.{source_value}
 use Rattle.gen_scene.proofs.Counts.{width_fits}
 use Rattle.gen_scene.proofs.Made.{present_worth, reset_fits, storage_value}
 use Rattle.gen_scene.proofs.Sources.{field_sound}

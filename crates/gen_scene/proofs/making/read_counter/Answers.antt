@@ -1,4 +1,4 @@
-use Rattle.std.proofs.Common.{if◌then◌else◌, refl, arith, sym, ap, ◌∙◌}
+use Rattle.std.proofs.Common.{if◌then◌else◌, refl, arith, ap}
 use Rattle.rb_model.specs.Kept.{Val, is_storage}
 use Rattle.rb_model.specs.Items.{down, up}
 use Rattle.gen_scene.proofs.Counts.{width_fits}

@@ -1,4 +1,4 @@
-use Rattle.std.proofs.Common.{◌≡◌, ◌∙◌, ap, slice_get}
+use Rattle.std.proofs.Common.{◌∙◌, ap, slice_get}
 use Rattle.gen_scene.proofs.Wanting.{all_closed, all_wanted}
 use Rattle.gen_scene.proofs.needed.wanted.Goals as goal
 

@@ -1,4 +1,3 @@
-use Rattle.std.proofs.Common.{subst, refl, ap, sym}
 use Rattle.std.proofs.lemmas.Result.{IfOk-weaker}
 use Rattle.gen_scene.proofs.Counts.{can_low, low_is, seen_as, width_fits}
 use Rattle.gen_scene.proofs.Sources.{own_refs}
