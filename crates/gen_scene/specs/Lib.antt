@@ -1,0 +1,4 @@
+pub mod Worth
+pub mod Bases
+pub mod Items
+pub mod Fields

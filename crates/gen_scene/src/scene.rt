@@ -1,0 +1,188 @@
+//! The nodes that the behaviour of fields and views refers to.
+
+use crate::base::Base;
+use rb_base::NoMemory;
+use rb_model::{Feed, Field, Gate, Mask, RefItem, View};
+use rb_plan::item_place;
+use rtl_net::{Id, Netlist};
+
+/// What a netlist has of a block: its base, and the nodes of its items by their places.
+///
+/// A field is given with its number, and so is a view. Widths are in bits. A node that isn't there has the value 0.
+#[derive(Clone, Copy)]
+pub struct Scene<'a> {
+    pub base: &'a Base<'a>,
+    pub items: &'a [Id],
+}
+
+impl<'a> Scene<'a> {
+    ghost use Rattle.std.specs.Prelude.{◌≡◌, ◌<◌, ◌∷◌, [], ◌++◌, ℕ, List, IfOk, codes, length};
+    ghost use Rattle.rtl_net.specs.Net.{Net, Grows};
+    ghost use Rattle.rtl_net.specs.Graft.{at};
+    ghost use Rattle.rb_model.specs.Items as spec;
+    ghost use Rattle.rb_model.specs.Machine as machine;
+    ghost use Rattle.rb_plan.specs.Table as places;
+    ghost use Rattle.gen_scene.specs.Worth.{IsSeenAs, IsWorth, MayBeWorth};
+    ghost use Rattle.gen_scene.specs.Fields.{CanFeed, CanGate, HasField, HasNodes, HasView, high_value, low_value};
+    ghost use Rattle.rb_model.specs.References.{item_width};
+
+    /// The node of an item that has one.
+    pub fn node(&self, item: RefItem) -> Id
+        requires { places.item_place item < length self.now.items.now }
+        ensures { result ≡ at self.now.items.now (places.item_place item) }
+    {
+        self.items[item_place(item)]
+    }
+
+    /// The node of an item, if it has one.
+    fn item(&self, item: RefItem) -> Option<Id>
+        ensures { (net : Net) (w : ℕ) → HasNodes net self.now (item ∷ []) → item_width self.now.base.now.block.now item ≡ w
+            → MayBeWorth self.now.base.now.block.now self.now.base.now.inlet net result w (λ n v. v item) }
+    {
+        self.items.get(item_place(item)).copied()
+    }
+
+    /// The node of a feed, whose pin stands at a place.
+    fn fed(&self, from: Feed, place: usize) -> Option<Id>
+        ensures { (net : Net) (name : List ℕ) (w : ℕ) → CanFeed net self.now from name w place
+            → MayBeWorth self.now.base.now.block.now self.now.base.now.inlet net result w (λ n v. spec.fed n v from name) }
+    {
+        match from {
+            Feed::Off => None,
+            Feed::Pin => self.base.pins.get(place).copied(),
+            Feed::Item(item) => self.item(item),
+        }
+    }
+
+    /// The node at a gate, whose pin stands at a place.
+    fn gated(&self, gate: Gate, place: usize) -> Option<Id>
+        ensures { (net : Net) (high low path : List ℕ) → CanGate net self.now gate high low path place
+            → MayBeWorth self.now.base.now.block.now self.now.base.now.inlet net result 1 (λ n v. spec.gated n v gate high low path) }
+    {
+        match gate {
+            Gate::Always => None,
+            Gate::High(from) => self.fed(from, place),
+            Gate::Low(from) => self.fed(from, place),
+        }
+    }
+
+    /// The number that a field loads, and an interrupt's input. It is as wide as the field.
+    pub fn source(&self, number: usize, field: &Field) -> Option<Id>
+        ensures { (net : Net) → HasField net self.now number field.now
+            → MayBeWorth self.now.base.now.block.now self.now.base.now.inlet net result field.now.width (λ n v. spec.source_value n v field.now) }
+    {
+        match self.base.plan.fields.get(number) {
+            Some(places) => self.fed(field.source, places.source),
+            None => None,
+        }
+    }
+
+    /// The gate of a field's load, of one bit.
+    pub fn gate(&self, number: usize, field: &Field) -> Option<Id>
+        ensures { (net : Net) → HasField net self.now number field.now
+            → MayBeWorth self.now.base.now.block.now self.now.base.now.inlet net result 1
+            (λ n v. spec.gated n v field.now.gate (codes "we$") (codes "wel$") field.now.path) }
+    {
+        match self.base.plan.fields.get(number) {
+            Some(places) => self.gated(field.gate, places.gate),
+            None => None,
+        }
+    }
+
+    /// hwset of a field, of one bit.
+    pub fn set(&self, number: usize, field: &Field) -> Option<Id>
+        ensures { (net : Net) → HasField net self.now number field.now
+            → MayBeWorth self.now.base.now.block.now self.now.base.now.inlet net result 1 (λ n v. spec.fed n v field.now.set (codes "hwset$" ++ field.now.path)) }
+    {
+        match self.base.plan.fields.get(number) {
+            Some(places) => self.fed(field.set, places.set),
+            None => None,
+        }
+    }
+
+    /// hwclr of a field, of one bit.
+    pub fn clear(&self, number: usize, field: &Field) -> Option<Id>
+        ensures { (net : Net) → HasField net self.now number field.now
+            → MayBeWorth self.now.base.now.block.now self.now.base.now.inlet net result 1 (λ n v. spec.fed n v field.now.clear (codes "hwclr$" ++ field.now.path)) }
+    {
+        match self.base.plan.fields.get(number) {
+            Some(places) => self.fed(field.clear, places.clear),
+            None => None,
+        }
+    }
+
+    /// hwenable or hwmask of the field of a number. It is as wide as the field.
+    pub fn keep(&self, field: &Field) -> Option<Id>
+        ensures { (net : Net) (number : ℕ) → HasField net self.now number field.now
+            → MayBeWorth self.now.base.now.block.now self.now.base.now.inlet net result field.now.width (λ n v. spec.mask_value v field.now.keep) }
+    {
+        match field.keep {
+            Mask::Off => None,
+            Mask::Enable(item) => self.item(item),
+            Mask::Mask(item) => self.item(item),
+        }
+    }
+
+    /// How far a counter counts up, as wide as the field: 0 where it is none. The only error is want of memory.
+    pub fn up(&self, net: &mut Netlist, number: usize, field: &Field) -> Result<Id, NoMemory>
+        requires { HasField net.old self.now number field.now }
+        ensures older { Grows net.old net.new }
+        ensures name { net.new.name ≡ net.old.name }
+        ensures worth { IfOk result (λ id. IsWorth self.now.base.now.block.now self.now.base.now.inlet net.new id field.now.width (λ n v. spec.up n v field.now)) }
+    {
+        let _net = net;
+        let _number = number;
+        let _field = field;
+        Err(NoMemory)
+    }
+
+    /// How far a counter counts down, as wide as the field: 0 where it is none. The only error is want of memory.
+    pub fn down(&self, net: &mut Netlist, number: usize, field: &Field) -> Result<Id, NoMemory>
+        requires { HasField net.old self.now number field.now }
+        ensures older { Grows net.old net.new }
+        ensures name { net.new.name ≡ net.old.name }
+        ensures worth { IfOk result (λ id. IsWorth self.now.base.now.block.now self.now.base.now.inlet net.new id field.now.width (λ n v. spec.down n v field.now)) }
+    {
+        let _net = net;
+        let _number = number;
+        let _field = field;
+        Err(NoMemory)
+    }
+
+    /// The level at which a counter saturates upwards, as wide as the field, if there is one. The only error is want of memory.
+    pub fn high(&self, net: &mut Netlist, number: usize, field: &Field) -> Result<Option<Id>, NoMemory>
+        requires { HasField net.old self.now number field.now }
+        ensures older { Grows net.old net.new }
+        ensures name { net.new.name ≡ net.old.name }
+        ensures worth { IfOk result (λ id. IsSeenAs self.now.base.now.block.now self.now.base.now.inlet net.new id field.now.width (λ n v. high_value v field.now)) }
+    {
+        let _net = net;
+        let _number = number;
+        let _field = field;
+        Err(NoMemory)
+    }
+
+    /// The level at which a counter saturates downwards, as wide as the field, if there is one. The only error is want of memory.
+    pub fn low(&self, net: &mut Netlist, number: usize, field: &Field) -> Result<Option<Id>, NoMemory>
+        requires { HasField net.old self.now number field.now }
+        ensures older { Grows net.old net.new }
+        ensures name { net.new.name ≡ net.old.name }
+        ensures worth { IfOk result (λ id. IsSeenAs self.now.base.now.block.now self.now.base.now.inlet net.new id field.now.width (λ n v. low_value v field.now)) }
+    {
+        let _net = net;
+        let _number = number;
+        let _field = field;
+        Err(NoMemory)
+    }
+
+    /// The gate of a view's writes, of one bit.
+    pub fn view_gate(&self, number: usize, view: &View) -> Option<Id>
+        ensures { (net : Net) → HasView net self.now number view.now
+            → MayBeWorth self.now.base.now.block.now self.now.base.now.inlet net result 1 (λ n v. machine.view_gate n v view.now) }
+    {
+        match self.base.plan.gates.get(number) {
+            Some(place) => self.gated(view.gate, *place),
+            None => None,
+        }
+    }
+}
