@@ -1,8 +1,10 @@
 //! The nodes that all others are made of.
 
+ghost use Rattle.std.specs.Prelude.{◌≡◌, slice_get};
+
 use rb_base::NoMemory;
 use rb_model::Block;
-use rb_plan::Plan;
+use rb_plan::{FieldKept, Plan};
 use rtl_net::{Id, Netlist};
 
 /// The nodes that say what software does at an edge: whether it accesses a word, whether it writes it, of one bit each, the
@@ -26,6 +28,13 @@ pub struct Base<'a> {
     pub kept: &'a [Id],
 }
 
+/// The node at a place of a table, if there is one.
+pub(crate) fn id_at(ids: &[Id], place: usize) -> Option<Id>
+    ensures { result ≡ slice_get ids.now place }
+{
+    ids.get(place).copied()
+}
+
 impl<'a> Base<'a> {
     ghost use Rattle.std.specs.Prelude.{◌≡◌, ◌<◌, Bool, Some, IfOk, length, slice_get, if◌then◌else◌};
     ghost use Rattle.rtl_net.specs.Value.{bit_of};
@@ -43,9 +52,16 @@ impl<'a> Base<'a> {
             → MayBeWorth self.now.block.now self.now.inlet net result (register_width self.now.block.now k) (λ n v. if is_kept then n.kept k else 0) }
     {
         match place {
-            Some(place) => self.kept.get(place).copied(),
+            Some(place) => id_at(self.kept, place),
             None => None,
         }
+    }
+
+    /// The places of what the field of a number keeps.
+    fn places(&self, number: usize) -> Option<FieldKept>
+        ensures { result ≡ slice_get self.now.plan.now.kept.of.items number }
+    {
+        self.plan.kept.of.get(number).copied()
     }
 
     /// The register of the value of the field of a number, if the field keeps it.
@@ -53,7 +69,7 @@ impl<'a> Base<'a> {
         ensures { (net : Net) (f : Field) → IsBase net self.now → slice_get self.now.block.now.fields number ≡ Some f
             → MayBeWorth self.now.block.now self.now.inlet net result f.width (λ n v. if is_storage f.class then n.kept (Val number) else 0) }
     {
-        match self.plan.kept.of.get(number) {
+        match self.places(number) {
             Some(places) => self.register(places.value),
             None => None,
         }
@@ -64,7 +80,7 @@ impl<'a> Base<'a> {
         ensures { (net : Net) (f : Field) → IsBase net self.now → slice_get self.now.block.now.fields number ≡ Some f
             → MayBeWorth self.now.block.now self.now.inlet net result f.width (λ n v. if keeps_last f.latch then n.kept (Last number) else 0) }
     {
-        match self.plan.kept.of.get(number) {
+        match self.places(number) {
             Some(places) => self.register(places.last),
             None => None,
         }
@@ -75,7 +91,7 @@ impl<'a> Base<'a> {
         ensures { (net : Net) (f : Field) → IsBase net self.now → slice_get self.now.block.now.fields number ≡ Some f
             → MayBeWorth self.now.block.now self.now.inlet net result 1 (λ n v. if f.once then n.kept (Done number) else 0) }
     {
-        match self.plan.kept.of.get(number) {
+        match self.places(number) {
             Some(places) => self.register(places.done),
             None => None,
         }

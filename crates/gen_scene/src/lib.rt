@@ -8,11 +8,11 @@
 mod base;
 mod items;
 mod kept;
-mod scene;
 mod needed;
+mod scene;
 
 pub use base::{Base, Inlet};
 pub use items::{Marks, item_nodes};
 pub use kept::registers;
-pub use scene::Scene;
 pub use needed::wanted;
+pub use scene::Scene;

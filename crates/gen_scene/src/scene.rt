@@ -1,9 +1,9 @@
 //! The nodes that the behaviour of fields and views refers to.
 
-use crate::base::Base;
+use crate::base::{Base, id_at};
 use rb_base::NoMemory;
 use rb_model::{Feed, Field, Gate, Mask, RefItem, View};
-use rb_plan::item_place;
+use rb_plan::{FieldPlaces, item_place};
 use rtl_net::{Id, Netlist};
 
 /// What a netlist has of a block: its base, and the nodes of its items by their places.
@@ -16,15 +16,14 @@ pub struct Scene<'a> {
 }
 
 impl<'a> Scene<'a> {
-    ghost use Rattle.std.specs.Prelude.{◌≡◌, ◌<◌, ◌∷◌, [], ◌++◌, ℕ, List, IfOk, codes, length};
+    ghost use Rattle.std.specs.Prelude.{◌≡◌, ◌<◌, ◌++◌, ℕ, IfOk, codes, length, slice_get};
     ghost use Rattle.rtl_net.specs.Net.{Net, Grows};
     ghost use Rattle.rtl_net.specs.Graft.{at};
     ghost use Rattle.rb_model.specs.Items as spec;
     ghost use Rattle.rb_model.specs.Machine as machine;
     ghost use Rattle.rb_plan.specs.Table as places;
     ghost use Rattle.gen_scene.specs.Worth.{IsSeenAs, IsWorth, MayBeWorth};
-    ghost use Rattle.gen_scene.specs.Fields.{CanFeed, CanGate, HasField, HasNodes, HasView, high_value, low_value};
-    ghost use Rattle.rb_model.specs.References.{item_width};
+    ghost use Rattle.gen_scene.specs.Fields.{HasField, HasView, fed_node, gated_node, high_value, item_node, low_value, mask_node};
 
     /// The node of an item that has one.
     pub fn node(&self, item: RefItem) -> Id
@@ -35,29 +34,26 @@ impl<'a> Scene<'a> {
     }
 
     /// The node of an item, if it has one.
-    fn item(&self, item: RefItem) -> Option<Id>
-        ensures { (net : Net) (w : ℕ) → HasNodes net self.now (item ∷ []) → item_width self.now.base.now.block.now item ≡ w
-            → MayBeWorth self.now.base.now.block.now self.now.base.now.inlet net result w (λ n v. v item) }
+    pub(crate) fn item(&self, item: RefItem) -> Option<Id>
+        ensures { result ≡ item_node self.now item }
     {
-        self.items.get(item_place(item)).copied()
+        id_at(self.items, item_place(item))
     }
 
     /// The node of a feed, whose pin stands at a place.
-    fn fed(&self, from: Feed, place: usize) -> Option<Id>
-        ensures { (net : Net) (name : List ℕ) (w : ℕ) → CanFeed net self.now from name w place
-            → MayBeWorth self.now.base.now.block.now self.now.base.now.inlet net result w (λ n v. spec.fed n v from name) }
+    pub(crate) fn fed(&self, from: Feed, place: usize) -> Option<Id>
+        ensures { result ≡ fed_node self.now from place }
     {
         match from {
             Feed::Off => None,
-            Feed::Pin => self.base.pins.get(place).copied(),
+            Feed::Pin => id_at(self.base.pins, place),
             Feed::Item(item) => self.item(item),
         }
     }
 
     /// The node at a gate, whose pin stands at a place.
     fn gated(&self, gate: Gate, place: usize) -> Option<Id>
-        ensures { (net : Net) (high low path : List ℕ) → CanGate net self.now gate high low path place
-            → MayBeWorth self.now.base.now.block.now self.now.base.now.inlet net result 1 (λ n v. spec.gated n v gate high low path) }
+        ensures { result ≡ gated_node self.now gate place }
     {
         match gate {
             Gate::Always => None,
@@ -66,12 +62,30 @@ impl<'a> Scene<'a> {
         }
     }
 
+    /// The node of a mask.
+    pub(crate) fn mask(&self, mask: Mask) -> Option<Id>
+        ensures { result ≡ mask_node self.now mask }
+    {
+        match mask {
+            Mask::Off => None,
+            Mask::Enable(item) => self.item(item),
+            Mask::Mask(item) => self.item(item),
+        }
+    }
+
+    /// The places of the pins of the field of a number.
+    pub(crate) fn places(&self, number: usize) -> Option<FieldPlaces>
+        ensures { result ≡ slice_get self.now.base.now.plan.now.fields.items number }
+    {
+        self.base.plan.fields.get(number).copied()
+    }
+
     /// The number that a field loads, and an interrupt's input. It is as wide as the field.
     pub fn source(&self, number: usize, field: &Field) -> Option<Id>
         ensures { (net : Net) → HasField net self.now number field.now
             → MayBeWorth self.now.base.now.block.now self.now.base.now.inlet net result field.now.width (λ n v. spec.source_value n v field.now) }
     {
-        match self.base.plan.fields.get(number) {
+        match self.places(number) {
             Some(places) => self.fed(field.source, places.source),
             None => None,
         }
@@ -83,7 +97,7 @@ impl<'a> Scene<'a> {
             → MayBeWorth self.now.base.now.block.now self.now.base.now.inlet net result 1
             (λ n v. spec.gated n v field.now.gate (codes "we$") (codes "wel$") field.now.path) }
     {
-        match self.base.plan.fields.get(number) {
+        match self.places(number) {
             Some(places) => self.gated(field.gate, places.gate),
             None => None,
         }
@@ -94,7 +108,7 @@ impl<'a> Scene<'a> {
         ensures { (net : Net) → HasField net self.now number field.now
             → MayBeWorth self.now.base.now.block.now self.now.base.now.inlet net result 1 (λ n v. spec.fed n v field.now.set (codes "hwset$" ++ field.now.path)) }
     {
-        match self.base.plan.fields.get(number) {
+        match self.places(number) {
             Some(places) => self.fed(field.set, places.set),
             None => None,
         }
@@ -105,7 +119,7 @@ impl<'a> Scene<'a> {
         ensures { (net : Net) → HasField net self.now number field.now
             → MayBeWorth self.now.base.now.block.now self.now.base.now.inlet net result 1 (λ n v. spec.fed n v field.now.clear (codes "hwclr$" ++ field.now.path)) }
     {
-        match self.base.plan.fields.get(number) {
+        match self.places(number) {
             Some(places) => self.fed(field.clear, places.clear),
             None => None,
         }
@@ -116,11 +130,7 @@ impl<'a> Scene<'a> {
         ensures { (net : Net) (number : ℕ) → HasField net self.now number field.now
             → MayBeWorth self.now.base.now.block.now self.now.base.now.inlet net result field.now.width (λ n v. spec.mask_value v field.now.keep) }
     {
-        match field.keep {
-            Mask::Off => None,
-            Mask::Enable(item) => self.item(item),
-            Mask::Mask(item) => self.item(item),
-        }
+        self.mask(field.keep)
     }
 
     /// How far a counter counts up, as wide as the field: 0 where it is none. The only error is want of memory.
@@ -150,7 +160,12 @@ impl<'a> Scene<'a> {
     }
 
     /// The level at which a counter saturates upwards, as wide as the field, if there is one. The only error is want of memory.
-    pub fn high(&self, net: &mut Netlist, number: usize, field: &Field) -> Result<Option<Id>, NoMemory>
+    pub fn high(
+        &self,
+        net: &mut Netlist,
+        number: usize,
+        field: &Field,
+    ) -> Result<Option<Id>, NoMemory>
         requires { HasField net.old self.now number field.now }
         ensures older { Grows net.old net.new }
         ensures name { net.new.name ≡ net.old.name }
@@ -163,7 +178,12 @@ impl<'a> Scene<'a> {
     }
 
     /// The level at which a counter saturates downwards, as wide as the field, if there is one. The only error is want of memory.
-    pub fn low(&self, net: &mut Netlist, number: usize, field: &Field) -> Result<Option<Id>, NoMemory>
+    pub fn low(
+        &self,
+        net: &mut Netlist,
+        number: usize,
+        field: &Field,
+    ) -> Result<Option<Id>, NoMemory>
         requires { HasField net.old self.now number field.now }
         ensures older { Grows net.old net.new }
         ensures name { net.new.name ≡ net.old.name }
@@ -175,13 +195,20 @@ impl<'a> Scene<'a> {
         Err(NoMemory)
     }
 
+    /// The place of the pin of a view's gate.
+    fn view_place(&self, number: usize) -> Option<usize>
+        ensures { result ≡ slice_get self.now.base.now.plan.now.gates.items number }
+    {
+        self.base.plan.gates.get(number).copied()
+    }
+
     /// The gate of a view's writes, of one bit.
     pub fn view_gate(&self, number: usize, view: &View) -> Option<Id>
         ensures { (net : Net) → HasView net self.now number view.now
             → MayBeWorth self.now.base.now.block.now self.now.base.now.inlet net result 1 (λ n v. machine.view_gate n v view.now) }
     {
-        match self.base.plan.gates.get(number) {
-            Some(place) => self.gated(view.gate, *place),
+        match self.view_place(number) {
+            Some(place) => self.gated(view.gate, place),
             None => None,
         }
     }

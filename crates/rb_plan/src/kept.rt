@@ -51,11 +51,7 @@ fn placed(
 }
 
 /// Adds what the field of a number keeps, and gives the places.
-fn placed_of(
-    all: &mut Vec<KeptValue>,
-    number: u32,
-    field: &Field,
-) -> Result<FieldKept, NoMemory>
+fn placed_of(all: &mut Vec<KeptValue>, number: u32, field: &Field) -> Result<FieldKept, NoMemory>
     ensures all { OnOk result (map kept_seen all.new.items ≡ map kept_seen all.old.items ++ kept_of (number, field.now)) }
     ensures places { IfOk result (AreFieldKept (map kept_seen all.new.items) number field.now) }
 {

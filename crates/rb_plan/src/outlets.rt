@@ -85,7 +85,14 @@ fn push_shown(
     ensures { OnOk result (map outlet_seen out.new.items ≡ map outlet_seen out.old.items ++ shown_outlets number path.now shown.now) }
 {
     for item in shown {
-        push_outlet(alloc, out, shown_word(*item), path, 1, shown_item(number, *item))?;
+        push_outlet(
+            alloc,
+            out,
+            shown_word(*item),
+            path,
+            1,
+            shown_item(number, *item),
+        )?;
     }
     Ok(())
 }
@@ -101,7 +108,14 @@ fn push_field(
 {
     let path = &field.path.bytes;
     if field.hw_reads {
-        push_outlet(alloc, out, b"out$", path, field.width, RefItem::Field(number))?;
+        push_outlet(
+            alloc,
+            out,
+            b"out$",
+            path,
+            field.width,
+            RefItem::Field(number),
+        )?;
     }
     push_shown(alloc, out, number, path, &field.shown.items)?;
     Ok(())
