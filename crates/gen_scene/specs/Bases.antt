@@ -1,5 +1,5 @@
 -- The nodes that all others are made of.
-use Rattle.std.specs.Prelude.{◌≡◌, ℕ, ◌<◌, false, if◌then◌else◌, Option, Some, None, List, codes, length, slice_get}
+use Rattle.std.specs.Prelude.{◌≡◌, ℕ, false, if◌then◌else◌, Option, Some, None, List, [], codes, length, slice_get}
 use Rattle.std.specs.Option.{option_map_or}
 use Rattle.rb_base.specs.declared.ports.Pin.{Pin}
 use Rattle.rtl_net.specs.Value.{At}
@@ -55,33 +55,53 @@ pub record IsBase (net : Net) (s : Base) : Type 0 where
 
 -- Resets
 
--- the place of the pin that resets a field
-abbrev pub reset_place : Plan → ResetBy → ℕ
-reset_place p r = option_map_or (λ s. option_map_or (λ place. place) (slice_get p.signals.items s) p.bus.resetn) r.signal p.bus.resetn
+-- the place of the pin of the signal of a number, or of PRESETn
+abbrev pub signal_place : Plan → Option ℕ → ℕ
+signal_place p signal = option_map_or (λ s. option_map_or (λ place. place) (slice_get p.signals.items s) p.bus.resetn) signal p.bus.resetn
 
--- what a reset leaves of a kept value, if it changes it
-abbrev pub reset_value : Block → Kept → Option ℕ
-reset_value b (Val k) = of_field b k None (λ f. f.reset)
-reset_value b (Last k) = Some 0
-reset_value b (Done k) = Some 0
-reset_value b Waited = None
-reset_value b Data = None
-reset_value b Error = None
-
--- how a register is reset, asynchronously, by the field's reset, which leaves this number, if any
+-- how a register is reset, asynchronously, by a reset at this pin that leaves this number, if any
 abbrev pub reset_for : Id → ResetBy → Option ℕ → NetReset
 reset_for pin r None = resets.None
 reset_for pin r (Some x) = if r.sync then resets.None else resets.Async pin r.low x
 
--- the field of a kept value
-abbrev pub field_of : Kept → Option ℕ
-field_of (Val k) = Some k
-field_of (Last k) = Some k
-field_of (Done k) = Some k
-field_of Waited = None
-field_of Data = None
-field_of Error = None
+-- the number of the field of a kept value
+abbrev pub kept_number : Kept → Option ℕ
+kept_number (Val k) = Some k
+kept_number (Last k) = Some k
+kept_number (Done k) = Some k
+kept_number Waited = None
+kept_number Data = None
+kept_number Error = None
+
+-- the word before the field's path in the name of the register of a kept value, how wide it is, and what a reset leaves, if anything
+abbrev pub kept_word : Kept → List ℕ
+kept_word (Val k) = codes "val$"
+kept_word (Last k) = codes "last$"
+kept_word (Done k) = codes "done$"
+kept_word Waited = []
+kept_word Data = []
+kept_word Error = []
+
+abbrev pub kept_width : Kept → Field → ℕ
+kept_width (Val k) f = f.width
+kept_width (Last k) f = f.width
+kept_width (Done k) f = 1
+kept_width Waited f = 0
+kept_width Data f = 0
+kept_width Error f = 0
+
+abbrev pub kept_reset : Kept → Field → Option ℕ
+kept_reset (Val k) f = f.reset
+kept_reset (Last k) f = Some 0
+kept_reset (Done k) f = Some 0
+kept_reset Waited f = None
+kept_reset Data f = None
+kept_reset Error f = None
+
+-- how the register of a kept value of a field is reset
+abbrev pub reset_in : Plan → List Id → Kept → Field → NetReset
+reset_in p pins k f = reset_for (at pins (signal_place p f.reset_by.signal)) f.reset_by (kept_reset k f)
 
 -- how the register of a kept value is reset
 abbrev pub reset_of : Block → Plan → List Id → Kept → NetReset
-reset_of b p pins k = option_map_or (λ m. of_field b m resets.None (λ f. reset_for (at pins (reset_place p f.reset_by)) f.reset_by (reset_value b k))) (field_of k) resets.None
+reset_of b p pins k = option_map_or (λ m. of_field b m resets.None (reset_in p pins k)) (kept_number k) resets.None

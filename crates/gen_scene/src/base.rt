@@ -2,6 +2,8 @@
 
 ghost use Rattle.std.specs.Prelude.{◌≡◌, slice_get};
 
+use crate::resets::reset_id;
+use net_gates::opposite;
 use rb_base::NoMemory;
 use rb_model::Block;
 use rb_plan::{FieldKept, Plan};
@@ -97,7 +99,7 @@ impl<'a> Base<'a> {
         }
     }
 
-    /// Whether the reset of the field of a number is asserted, of one bit.
+    /// Whether the reset of the field of a number is asserted, of one bit. The only error is want of memory.
     pub fn asserted(&self, net: &mut Netlist, number: usize) -> Result<Id, NoMemory>
         requires base { IsBase net.old self.now }
         requires field { number < length self.now.block.now.fields }
@@ -106,8 +108,10 @@ impl<'a> Base<'a> {
         ensures worth { IfOk result (λ id. (f : Field) → slice_get self.now.block.now.fields number ≡ Some f
             → IsWorth self.now.block.now self.now.inlet net.new id 1 (λ n v. bit_of (is_asserted self.now.block.now n.pins f.reset_by))) }
     {
-        let _net = net;
-        let _number = number;
-        Err(NoMemory)
+        let block = self.block;
+        let field = &block.fields.items[number];
+        let by = field.reset_by;
+        let pin = reset_id(self.plan, self.pins, by);
+        if by.low { opposite(net, pin) } else { Ok(pin) }
     }
 }

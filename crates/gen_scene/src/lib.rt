@@ -6,9 +6,11 @@
 #![tactic(auto)]
 
 mod base;
+mod counting;
 mod items;
 mod kept;
 mod needed;
+mod resets;
 mod scene;
 
 pub use base::{Base, Inlet};

@@ -1,10 +1,9 @@
 //! The nodes that the behaviour of fields and views refers to.
 
 use crate::base::{Base, id_at};
-use rb_base::NoMemory;
 use rb_model::{Feed, Field, Gate, Mask, RefItem, View};
 use rb_plan::{FieldPlaces, item_place};
-use rtl_net::{Id, Netlist};
+use rtl_net::Id;
 
 /// What a netlist has of a block: its base, and the nodes of its items by their places.
 ///
@@ -16,14 +15,14 @@ pub struct Scene<'a> {
 }
 
 impl<'a> Scene<'a> {
-    ghost use Rattle.std.specs.Prelude.{◌≡◌, ◌<◌, ◌++◌, ℕ, IfOk, codes, length, slice_get};
-    ghost use Rattle.rtl_net.specs.Net.{Net, Grows};
+    ghost use Rattle.std.specs.Prelude.{◌≡◌, ◌<◌, ◌++◌, ℕ, codes, length, slice_get};
+    ghost use Rattle.rtl_net.specs.Net.{Net};
     ghost use Rattle.rtl_net.specs.Graft.{at};
     ghost use Rattle.rb_model.specs.Items as spec;
     ghost use Rattle.rb_model.specs.Machine as machine;
     ghost use Rattle.rb_plan.specs.Table as places;
-    ghost use Rattle.gen_scene.specs.Worth.{IsSeenAs, IsWorth, MayBeWorth};
-    ghost use Rattle.gen_scene.specs.Fields.{HasField, HasView, fed_node, gated_node, high_value, item_node, low_value, mask_node};
+    ghost use Rattle.gen_scene.specs.Worth.{MayBeWorth};
+    ghost use Rattle.gen_scene.specs.Fields.{HasField, HasView, fed_node, gated_node, item_node, mask_node};
 
     /// The node of an item that has one.
     pub fn node(&self, item: RefItem) -> Id
@@ -131,68 +130,6 @@ impl<'a> Scene<'a> {
             → MayBeWorth self.now.base.now.block.now self.now.base.now.inlet net result field.now.width (λ n v. spec.mask_value v field.now.keep) }
     {
         self.mask(field.keep)
-    }
-
-    /// How far a counter counts up, as wide as the field: 0 where it is none. The only error is want of memory.
-    pub fn up(&self, net: &mut Netlist, number: usize, field: &Field) -> Result<Id, NoMemory>
-        requires { HasField net.old self.now number field.now }
-        ensures older { Grows net.old net.new }
-        ensures name { net.new.name ≡ net.old.name }
-        ensures worth { IfOk result (λ id. IsWorth self.now.base.now.block.now self.now.base.now.inlet net.new id field.now.width (λ n v. spec.up n v field.now)) }
-    {
-        let _net = net;
-        let _number = number;
-        let _field = field;
-        Err(NoMemory)
-    }
-
-    /// How far a counter counts down, as wide as the field: 0 where it is none. The only error is want of memory.
-    pub fn down(&self, net: &mut Netlist, number: usize, field: &Field) -> Result<Id, NoMemory>
-        requires { HasField net.old self.now number field.now }
-        ensures older { Grows net.old net.new }
-        ensures name { net.new.name ≡ net.old.name }
-        ensures worth { IfOk result (λ id. IsWorth self.now.base.now.block.now self.now.base.now.inlet net.new id field.now.width (λ n v. spec.down n v field.now)) }
-    {
-        let _net = net;
-        let _number = number;
-        let _field = field;
-        Err(NoMemory)
-    }
-
-    /// The level at which a counter saturates upwards, as wide as the field, if there is one. The only error is want of memory.
-    pub fn high(
-        &self,
-        net: &mut Netlist,
-        number: usize,
-        field: &Field,
-    ) -> Result<Option<Id>, NoMemory>
-        requires { HasField net.old self.now number field.now }
-        ensures older { Grows net.old net.new }
-        ensures name { net.new.name ≡ net.old.name }
-        ensures worth { IfOk result (λ id. IsSeenAs self.now.base.now.block.now self.now.base.now.inlet net.new id field.now.width (λ n v. high_value v field.now)) }
-    {
-        let _net = net;
-        let _number = number;
-        let _field = field;
-        Err(NoMemory)
-    }
-
-    /// The level at which a counter saturates downwards, as wide as the field, if there is one. The only error is want of memory.
-    pub fn low(
-        &self,
-        net: &mut Netlist,
-        number: usize,
-        field: &Field,
-    ) -> Result<Option<Id>, NoMemory>
-        requires { HasField net.old self.now number field.now }
-        ensures older { Grows net.old net.new }
-        ensures name { net.new.name ≡ net.old.name }
-        ensures worth { IfOk result (λ id. IsSeenAs self.now.base.now.block.now self.now.base.now.inlet net.new id field.now.width (λ n v. low_value v field.now)) }
-    {
-        let _net = net;
-        let _number = number;
-        let _field = field;
-        Err(NoMemory)
     }
 
     /// The place of the pin of a view's gate.

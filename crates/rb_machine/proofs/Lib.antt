@@ -8,6 +8,4 @@ mod Moving
 mod Accessing
 mod Narrow
 mod Stepping
-mod Knowing
-mod Shown
-mod Listing
+mod Placing

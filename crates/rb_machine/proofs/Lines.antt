@@ -10,8 +10,9 @@ use Rattle.rb_model.specs.declared.block.Signal.{Signal}
 use Rattle.rb_model.specs.Items.{ItemValues, is_interrupt, is_on}
 use Rattle.rb_model.proofs.OwnViews.{both_true}
 use Rattle.rb_model.specs.Ports.{signal_name}
-use Rattle.rb_machine.specs.declared.plan.Plan.{Plan}
-use Rattle.rb_machine.specs.Plan.{IsPlaceOf, IsPlanOf, members_of}
+use Rattle.rb_plan.specs.declared.plan.Plan.{Plan}
+use Rattle.rb_plan.specs.Plan.{IsPlaceOf, IsPlanOf, members_of}
+use Rattle.rb_plan.proofs.Interrupts.{member_listed}
 use Rattle.rb_machine.specs.Scene.{raises_line}
 use Rattle.std.proofs.lemmas.Option.{get_or_from_slice_get, slice_get_past, slice_get_read}
 
@@ -55,7 +56,7 @@ none_raised b p v halt r n ks planned are past none = any_none (raises_line v ha
     by k f here false e = refl
     by k f here true e =
         let of = line_of v halt r k f e in
-        let (h, low, is) = subst (λ s. Contains (members_of p s) k) of.1 (planned.members k f here of.0) in
+        let (h, low, is) = subst (λ s. Contains (members_of p s) k) of.1 (subst (λ ks. Contains ks k) (sym (planned.members f.reg)) (member_listed b.fields k f here of.0)) in
         let members = members_of p r in
         let at : get_or ks h 0 ≡ k = ap (λ l. get_or l h 0) are ∙ get_or_from_slice_get members h k 0 (slice_get_read members (length members) h k refl low (sym is)) in
         let within : h < n = omega (arith, low, ap length are, past) in

@@ -1,5 +1,5 @@
 -- What a field of a sound block finds at an edge.
-use Rattle.std.proofs.Common.{◌≡◌, ℕ, ◌<◌, ◌≤◌, if◌then◌else◌, Some, None, List, length, slice_get, get_or, refl, sym, ap, ◌∙◌, subst}
+use Rattle.std.proofs.Common.{◌≡◌, ℕ, ◌<◌, ◌≤◌, if◌then◌else◌, Some, None, List, ◌++◌, length, slice_get, get_or, refl, sym, ap, ◌∙◌, subst}
 use Rattle.std.proofs.lemmas.Option.{slice_get_read, slice_get_past, same_Some}
 use Rattle.rb_model.specs.declared.kinds.Gate.{Gate}
 use Rattle.rb_model.specs.declared.kinds.Gate.TheVariants as gate
@@ -15,21 +15,23 @@ use Rattle.rb_model.specs.declared.kinds.RefItem.TheVariants as item
 use Rattle.rb_machine.specs.Table.{values_of}
 use Rattle.rb_model.proofs.Eachs.{Each-from_zero}
 use Rattle.rb_model.specs.SoundField.{FieldIsSoundIn}
-use Rattle.rb_machine.specs.declared.sight.FieldPlaces.{FieldPlaces}
+use Rattle.rb_plan.specs.declared.plan.FieldPlaces.{FieldPlaces}
 use Rattle.rb_machine.specs.declared.sight.FieldNow.{FieldNow}
 use Rattle.rb_machine.specs.declared.scene.Scene.{Scene}
-use Rattle.rb_machine.specs.Plan.{AreFieldPlaces, IsGatePlace, IsPlaceOf}
+use Rattle.rb_plan.specs.Plan.{AreFieldPlaces, IsGatePlace, IsPlaceOf}
 use Rattle.rb_machine.specs.Scene.{IsAt, IsScene, map_of, now_in, state_at}
 use Rattle.rb_machine.specs.Sight.{GateSees}
+use Rattle.rb_machine.proofs.Placing.{place_at}
+use Rattle.rb_model.specs.Sound.{IsSound}
 
 -- an element that was read stands in a list that is another
 pub read_at : {X : Type 0} (xs ys : List X) (k : ℕ) (x : X) → xs ≡ ys → k < length xs → x ≡ get_or xs k x → slice_get ys k ≡ Some x
 read_at xs ys k x e l is = ap (λ zs. slice_get zs k) (sym e) ∙ slice_get_read xs (length xs) k x refl l is
 
-pub gate_seen : (b : Block) (n : Now) (x : List ℕ) → n.pins ≡ pins_of b x → length x ≡ length (input_pins b) → (g : Gate) (high low path : List ℕ) (place : ℕ) → IsGatePlace b g high low path place → GateSees n g high low path (get_or x place 0)
-gate_seen b n x e l gate.Always high low path place h = tt
-gate_seen b n x e l (gate.High from) high low path place h = rw e (h.at x l)
-gate_seen b n x e l (gate.Low from) high low path place h = rw e (h.at x l)
+pub gate_seen : (b : Block) → IsSound b → (n : Now) (x : List ℕ) → n.pins ≡ pins_of b x → length x ≡ length (input_pins b) → (g : Gate) (high low path : List ℕ) (place : ℕ) → IsGatePlace b g high low path place → GateSees n g high low path (get_or x place 0)
+gate_seen b sound n x e l gate.Always high low path place h = tt
+gate_seen b sound n x e l (gate.High from) high low path place h = rw e (place_at b sound (high ++ path) place h x l)
+gate_seen b sound n x e l (gate.Low from) high low path place h = rw e (place_at b sound (low ++ path) place h x l)
 
 pub is_at : (s : Scene) (values : List ℕ) (k : ℕ) (f : FieldNow) → IsScene s → slice_get s.block.now.fields k ≡ Some f.field.now
     → slice_get s.plan.now.fields.items k ≡ Some f.places.now → state_at s.held.now.fields.items k ≡ f.state → f.pins.now ≡ s.pins.now → f.table.now ≡ values → IsAt s values k f
@@ -39,14 +41,14 @@ is_at s values k f scene here placed state pins table =
     let p : AreFieldPlaces b f.field.now f.places.now = subst (AreFieldPlaces b f.field.now) (same_Some places f.places.now (sym there ∙ placed)) are in
     let sound : FieldIsSoundIn b (k, f.field.now) = Each-from_zero (FieldIsSoundIn b) b.fields k f.field.now scene.sound.fields here in
     let at : (name : List ℕ) (place : ℕ) → IsPlaceOf b name place → pins_of b s.pins.now name ≡ get_or f.pins.now place 0
-    = λ name place h. h.at s.pins.now scene.pins ∙ ap (λ xs. get_or xs place 0) (sym pins) in
+    = λ name place h. place_at b scene.sound name place h s.pins.now scene.pins ∙ ap (λ xs. get_or xs place 0) (sym pins) in
     record {
       here = here;
       table = table;
       wide = sound.alone.wide.1;
       sees = λ a. record {
         source = at _ f.places.now.source p.source;
-        gate = rw pins (gate_seen b (now_in s a) s.pins.now refl scene.pins f.field.now.gate _ _ f.field.now.path f.places.now.gate p.gate);
+        gate = rw pins (gate_seen b scene.sound (now_in s a) s.pins.now refl scene.pins f.field.now.gate _ _ f.field.now.path f.places.now.gate p.gate);
         set = at _ f.places.now.set p.set;
         clear = at _ f.places.now.clear p.clear;
         up_pulse = at _ f.places.now.up.pulse p.up.pulse;

@@ -5,7 +5,6 @@ use Rattle.std.proofs.Math.ListN.{set}
 use Rattle.std.proofs.lemmas.List.Sorted.{Contains-permutation, IsPermutation-sym}
 use Rattle.std.proofs.lemmas.Option.{get_or_from_slice_get, same_Some, slice_get-get_or, slice_get_read, slice_get_within}
 use Rattle.rb_model.specs.declared.kinds.RefItem.{RefItem}
-use Rattle.rb_model.specs.declared.kinds.RefItem.TheVariants as item
 use Rattle.rb_model.specs.declared.block.Block.{Block}
 use Rattle.rb_model.specs.Items.{Now, AreItemValues, items, made}
 use Rattle.rb_model.specs.References.{StandsBefore, refs}
@@ -13,24 +12,9 @@ use Rattle.rb_model.specs.Sound.{IsSound}
 use Rattle.rb_model.proofs.Eachs.{Each-weaker}
 use Rattle.rb_model.proofs.ItemValues.{are_values, item_value}
 use Rattle.rb_model.proofs.Made.{made_same}
-use Rattle.rb_machine.specs.Table.{item_place, values_of}
-
--- an item has its place alone
-place_alone : (i j : RefItem) → item_place i ≡ item_place j → i ≡ j
-place_alone (item.Field k) (item.Field m) e = ap item.Field (omega arith)
-place_alone (item.Signal k) (item.Signal m) e = ap item.Signal (omega arith)
-place_alone (item.Anded k) (item.Anded m) e = ap item.Anded (omega arith)
-place_alone (item.Ored k) (item.Ored m) e = ap item.Ored (omega arith)
-place_alone (item.Xored k) (item.Xored m) e = ap item.Xored (omega arith)
-place_alone (item.IncrThreshold k) (item.IncrThreshold m) e = ap item.IncrThreshold (omega arith)
-place_alone (item.DecrThreshold k) (item.DecrThreshold m) e = ap item.DecrThreshold (omega arith)
-place_alone (item.Overflow k) (item.Overflow m) e = ap item.Overflow (omega arith)
-place_alone (item.Underflow k) (item.Underflow m) e = ap item.Underflow (omega arith)
-place_alone (item.SwMod k) (item.SwMod m) e = ap item.SwMod (omega arith)
-place_alone (item.SwAcc k) (item.SwAcc m) e = ap item.SwAcc (omega arith)
-place_alone (item.Intr k) (item.Intr m) e = ap item.Intr (omega arith)
-place_alone (item.Halt k) (item.Halt m) e = ap item.Halt (omega arith)
-place_alone i j e = absurd (omega arith)
+use Rattle.rb_plan.specs.Table.{item_place}
+use Rattle.rb_plan.proofs.ItemPlaces.{place_alone}
+use Rattle.rb_machine.specs.Table.{values_of}
 
 same_or_other : (m n : ℕ) → (m ≡ n) ⊎ (m ≢ n)
 same_or_other m n = grind arith

@@ -1,9 +1,7 @@
 pub mod Table
 pub mod Sight
-pub mod Plan
 pub mod Scene
 pub mod Slots
 pub mod Moves
 pub mod Transfers
-pub mod Places
 pub mod Machines

@@ -9,9 +9,9 @@ use Rattle.rb_model.specs.Kept.{Map}
 use Rattle.rb_model.specs.Ports.{input_pins}
 use Rattle.rb_model.specs.Sound.{IsSound}
 use Rattle.rb_machine.specs.declared.machine.Machine.{Machine}
-use Rattle.rb_machine.specs.Plan.{IsPlanOf}
+use Rattle.rb_plan.specs.Plan.{IsPlanOf}
 use Rattle.rb_machine.specs.Scene.{map_of}
-use Rattle.rb_machine.specs.Table.{item_place}
+use Rattle.rb_plan.specs.Table.{item_place}
 
 -- the map that a machine holds
 abbrev pub held_map : Machine → Map

@@ -14,7 +14,7 @@ use Rattle.rb_machine.specs.declared.sight.FieldNow.{FieldNow}
 use Rattle.rb_machine.specs.declared.scene.Held.{Held}
 use Rattle.rb_machine.specs.declared.scene.Mark.{Mark}
 use Rattle.rb_machine.specs.declared.scene.Scene.{Scene}
-use Rattle.rb_machine.specs.Plan.{IsPlanOf}
+use Rattle.rb_plan.specs.Plan.{IsPlanOf}
 use Rattle.rb_machine.specs.Sight.{Sees}
 
 -- what is kept of a field that there isn't

@@ -12,17 +12,17 @@ ghost use Rattle.rb_model.specs.Protocol.{bus_of};
 ghost use Rattle.rb_model.specs.Run as run;
 ghost use Rattle.rb_model.specs.Run.{pins_of};
 ghost use Rattle.rb_model.specs.Sound.{IsSound};
-ghost use Rattle.rb_machine.specs.Plan.{IsPlanOf};
+ghost use Rattle.rb_plan.specs.Plan.{IsPlanOf};
 ghost use Rattle.rb_machine.specs.Scene.{map_of};
 ghost use Rattle.rb_machine.specs.Transfers as transfers;
 ghost use Rattle.rb_machine.specs.Transfers.{IsTransfer, access_seen, bus_seen};
 
-use crate::plan::Plan;
 use crate::reset::hold_fields;
 use crate::scene::Held;
 use crate::sight::FieldState;
 use crate::table::number_at;
 use rb_model::Block;
+use rb_plan::Plan;
 
 /// The numbers at the bus's input pins.
 #[derive(Clone, Copy)]
@@ -63,7 +63,7 @@ pub(crate) struct BusOuts {
 
 /// The numbers at the bus's input pins.
 pub(crate) fn bus_at(plan: &Plan, pins: &[u64]) -> Bus
-    ensures { (b : Block) → IsPlanOf b plan.now → length pins.now ≡ length (input_pins b) → bus_seen result ≡ bus_of (pins_of b pins.now) }
+    ensures { (b : Block) → IsSound b → IsPlanOf b plan.now → length pins.now ≡ length (input_pins b) → bus_seen result ≡ bus_of (pins_of b pins.now) }
 {
     Bus {
         resetn: number_at(pins, plan.bus.resetn),
@@ -155,6 +155,7 @@ pub(crate) fn transfer_of(block: &Block, plan: &Plan, bus: &Bus, waited: bool) -
 
 /// Asserted asynchronous resets act before anything is read, and under PRESETn the bus forgets its access.
 pub(crate) fn hold(block: &Block, plan: &Plan, pins: &[u64], bus: &Bus, held: &mut Held)
+    requires sound { IsSound block.now }
     requires planned { IsPlanOf block.now plan.now }
     requires sized { length pins.now ≡ length (input_pins block.now) }
     requires fields { length held.old.fields.items ≡ length block.now.fields }

@@ -1,17 +1,13 @@
 //! The register machine of a block as a program, one rising edge of the clock at a time.
 //!
-//! `Machine` holds what the block keeps. `Plan` is what is looked up once for a block: the `Places` of its pins in a vector, and
-//! the items that it shows. At an edge, `Scene` is what the whole block finds there (the access, the pins, the kept values) and
-//! gives the values of its items; `Sight` is what one field finds there, and what hardware makes of it; `moves` is what the
-//! fields keep after the edge.
+//! `Machine` holds what the block keeps, and rb_plan's `Plan` what is looked up once for a block. At an edge, `Scene` is what the
+//! whole block finds there (the access, the pins, the kept values) and gives the values of its items; `Sight` is what one field
+//! finds there, and what hardware makes of it; `moves` is what the fields keep after the edge.
 #![tactic(auto)]
 
 mod bus;
 mod machine;
 mod moves;
-mod outlets;
-mod places;
-mod plan;
 mod reset;
 mod scene;
 mod sight;

@@ -8,21 +8,21 @@ ghost use Rattle.rb_model.specs.Ports.{input_pins};
 ghost use Rattle.rb_model.specs.Protocol.{bus_of};
 ghost use Rattle.rb_model.specs.Run.{bus_held, pins_of};
 ghost use Rattle.rb_model.specs.Sound.{IsSound};
-ghost use Rattle.rb_machine.specs.Plan.{IsPlanOf};
+ghost use Rattle.rb_plan.specs.Plan.{IsPlanOf};
 ghost use Rattle.rb_machine.specs.Scene.{map_of};
-ghost use Rattle.rb_machine.specs.Table.{item_place};
+ghost use Rattle.rb_plan.specs.Table.{item_place};
 ghost use Rattle.rb_machine.specs.Transfers.{IsThere, IsTransfer, access_seen};
 ghost use Rattle.rb_machine.specs.Machines.{at_edge};
 ghost use Rattle.rb_machine.specs.Table.{values_of};
 
 use crate::bus::{Access, BusOuts, Transfer, bus_at, commit, hold, outs_shown, transfer_of};
 use crate::moves::{answer, mark_access, move_fields};
-use crate::plan::Plan;
 use crate::scene::{Held, Mark, Scene};
 use crate::sight::FieldState;
-use crate::table::{item_value, table_len};
+use crate::table::item_value;
 use rb_base::NoMemory;
-use rb_model::{Block, RefItem};
+use rb_model::Block;
+use rb_plan::{Outlet, Plan, table_len};
 use std::alloc::Global;
 
 /// A register machine of a sound block: what it holds from one clock edge to the next, and room for an edge.
@@ -98,16 +98,16 @@ fn settle_items(
     scene.settle(table);
 }
 
-/// Shows the bus's outputs, and then the items.
-fn show(bus: BusOuts, outlets: &[RefItem], table: &[u64], outs: &mut [u128])
+/// Shows the bus's outputs, and then the items of the others.
+fn show(bus: BusOuts, outlets: &[Outlet], table: &[u64], outs: &mut [u128])
     requires { length outs.old ≡ 3 + length outlets.now }
-    ensures { outs.new ≡ bus.ready ∷ bus.«data» ∷ bus.error ∷ map (values_of table.now) outlets.now }
+    ensures { outs.new ≡ bus.ready ∷ bus.«data» ∷ bus.error ∷ map (λ o. values_of table.now o.item) outlets.now }
 {
     outs[0] = u128::from(bus.ready);
     outs[1] = u128::from(bus.data);
     outs[2] = u128::from(bus.error);
-    for (index, item) in outlets.iter().enumerate() {
-        outs[index + 3] = u128::from(item_value(table, *item));
+    for (index, outlet) in outlets.iter().enumerate() {
+        outs[index + 3] = u128::from(item_value(table, outlet.item));
     }
 }
 

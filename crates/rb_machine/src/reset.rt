@@ -5,18 +5,20 @@ ghost use Rattle.rb_model.specs.declared.block.Field.{Field};
 ghost use Rattle.rb_model.specs.Machine as spec;
 ghost use Rattle.rb_model.specs.Ports.{input_pins, signal_name};
 ghost use Rattle.rb_model.specs.Run.{pins_of};
+ghost use Rattle.rb_model.specs.Sound.{IsSound};
 ghost use Rattle.rb_machine.specs.Moves as moves;
-ghost use Rattle.rb_machine.specs.Plan.{IsPlanOf};
+ghost use Rattle.rb_plan.specs.Plan.{IsPlanOf};
 ghost use Rattle.rb_machine.specs.Scene.{state_at};
 
-use crate::plan::Plan;
 use crate::sight::FieldState;
 use crate::table::number_at;
 use rb_effects::{is_storage, keeps_last};
 use rb_model::{Block, Field, ResetBy};
+use rb_plan::Plan;
 
 /// The number at the pin of the signal of a number, or 0 where there is none.
 pub(crate) fn signal_pin(block: &Block, plan: &Plan, pins: &[u64], number: u32) -> u64
+    requires sound { IsSound block.now }
     requires planned { IsPlanOf block.now plan.now }
     requires sized { length pins.now ≡ length (input_pins block.now) }
     ensures { result ≡ option_map_or (λ g. pins_of block.now pins.now (signal_name g)) (slice_get block.now.signals number) 0 }
@@ -32,6 +34,7 @@ pub(crate) fn signal_pin(block: &Block, plan: &Plan, pins: &[u64], number: u32) 
 
 /// The number at the pin of a reset.
 fn reset_pin(block: &Block, plan: &Plan, pins: &[u64], by: ResetBy) -> u64
+    requires sound { IsSound block.now }
     requires planned { IsPlanOf block.now plan.now }
     requires sized { length pins.now ≡ length (input_pins block.now) }
     ensures { result ≡ spec.reset_pin block.now (pins_of block.now pins.now) by }
@@ -44,6 +47,7 @@ fn reset_pin(block: &Block, plan: &Plan, pins: &[u64], by: ResetBy) -> u64
 
 /// Whether a reset is asserted.
 pub(crate) fn is_asserted(block: &Block, plan: &Plan, pins: &[u64], by: ResetBy) -> bool
+    requires sound { IsSound block.now }
     requires planned { IsPlanOf block.now plan.now }
     requires sized { length pins.now ≡ length (input_pins block.now) }
     ensures { result ≡ spec.is_asserted block.now (pins_of block.now pins.now) by }
@@ -69,6 +73,7 @@ pub(crate) fn reset_state(field: &Field, asserted: bool, state: FieldState) -> F
 
 /// An asserted asynchronous reset acts on what the fields keep before anything is read.
 pub(crate) fn hold_fields(block: &Block, plan: &Plan, pins: &[u64], states: &mut [FieldState])
+    requires sound { IsSound block.now }
     requires planned { IsPlanOf block.now plan.now }
     requires sized { length pins.now ≡ length (input_pins block.now) }
     requires states { length states.old ≡ length block.now.fields }

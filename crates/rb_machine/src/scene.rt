@@ -1,12 +1,12 @@
 //! What a block finds at an edge, and the values of its items.
 ghost use Rattle.std.specs.Prelude.{◌≡◌};
 
-use crate::plan::Plan;
 use crate::reset::signal_pin;
 use crate::sight::{FieldNow, FieldState};
-use crate::table::{item_place, item_value};
+use crate::table::item_value;
 use rb_effects::ones;
 use rb_model::{Block, RefItem};
+use rb_plan::{Plan, item_place};
 
 /// What is held from one edge to the next: of each field, and of a bus with a wait state that the vector before carried
 /// an access, and the data and the error that answer it.
@@ -37,7 +37,7 @@ pub(crate) struct Scene<'a> {
 
 impl<'a> Scene<'a> {
     ghost use Rattle.std.specs.Prelude.{◌≡◌, ◌<◌, ℕ, false, None, Some, MatchOption, length, slice_get};
-    ghost use Rattle.rb_machine.specs.Plan.{members_of};
+    ghost use Rattle.rb_plan.specs.Plan.{members_of};
     ghost use Rattle.std.specs.List.{enumerate_from, list_any};
     ghost use Rattle.std.specs.Option.{option_map_or};
     ghost use Rattle.rb_model.specs.declared.kinds.RefItem.{RefItem};
@@ -45,7 +45,7 @@ impl<'a> Scene<'a> {
     ghost use Rattle.rb_model.specs.Items.{Access, AreItemValues};
     ghost use Rattle.rb_model.specs.Ports.{signal_name};
     ghost use Rattle.rb_model.specs.Run.{pins_of};
-    ghost use Rattle.rb_machine.specs.Table as places;
+    ghost use Rattle.rb_plan.specs.Table as places;
     ghost use Rattle.rb_machine.specs.Table.{values_of};
     ghost use Rattle.rb_machine.specs.Scene.{AreMarks, IsAt, IsScene, mark_at, now_in, raises_line};
 

@@ -11,6 +11,7 @@ use rb_effects::{
     counted, counting, finished, is_interrupt, is_on, latched, loaded, overflows, underflows,
 };
 use rb_model::{Amount, Class, Feed, Field, Gate, Level, Mask, Part, RefItem};
+use rb_plan::FieldPlaces;
 
 /// What a field keeps from one edge to the next.
 #[derive(Clone, Copy)]
@@ -18,24 +19,6 @@ pub(crate) struct FieldState {
     pub value: u64,
     pub last: u64,
     pub done: bool,
-}
-
-/// The places of the pins of one direction of a counter.
-#[derive(Clone, Copy)]
-pub(crate) struct PartPlaces {
-    pub pulse: usize,
-    pub amount: usize,
-}
-
-/// The places of a field's pins in a vector.
-#[derive(Clone, Copy)]
-pub(crate) struct FieldPlaces {
-    pub source: usize,
-    pub gate: usize,
-    pub set: usize,
-    pub clear: usize,
-    pub up: PartPlaces,
-    pub down: PartPlaces,
 }
 
 /// A field at an edge, with the pins, the values of the items, and what it keeps.

@@ -1,10 +1,9 @@
 //! The table of the items' values.
-ghost use Rattle.std.specs.Prelude.{◌≡◌, ◌<◌, ◌^◌, ℕ, Some, length, slice_get, slice_index};
-ghost use Rattle.rb_model.specs.declared.kinds.RefItem.{RefItem};
-ghost use Rattle.rb_machine.specs.Table as spec;
+ghost use Rattle.std.specs.Prelude.{◌≡◌, slice_index};
 ghost use Rattle.rb_machine.specs.Table.{values_of};
 
 use rb_model::RefItem;
+use rb_plan::item_place;
 
 /// The number at a place, or 0 behind the last.
 pub(crate) fn number_at(numbers: &[u64], place: usize) -> u64
@@ -16,45 +15,9 @@ pub(crate) fn number_at(numbers: &[u64], place: usize) -> u64
     }
 }
 
-/// The place of an item's value. A number has thirteen places, one for each kind of item.
-pub(crate) fn item_place(item: RefItem) -> usize
-    ensures place { result ≡ spec.item_place item }
-    ensures small { result < 2 ^ 36 }
-{
-    match item {
-        RefItem::Field(number) => number as usize * 13,
-        RefItem::Signal(number) => number as usize * 13 + 1,
-        RefItem::Anded(number) => number as usize * 13 + 2,
-        RefItem::Ored(number) => number as usize * 13 + 3,
-        RefItem::Xored(number) => number as usize * 13 + 4,
-        RefItem::IncrThreshold(number) => number as usize * 13 + 5,
-        RefItem::DecrThreshold(number) => number as usize * 13 + 6,
-        RefItem::Overflow(number) => number as usize * 13 + 7,
-        RefItem::Underflow(number) => number as usize * 13 + 8,
-        RefItem::SwMod(number) => number as usize * 13 + 9,
-        RefItem::SwAcc(number) => number as usize * 13 + 10,
-        RefItem::Intr(number) => number as usize * 13 + 11,
-        RefItem::Halt(number) => number as usize * 13 + 12,
-    }
-}
-
 /// An item's value.
 pub(crate) fn item_value(table: &[u64], item: RefItem) -> u64
     ensures { result ≡ values_of table.now item }
 {
     number_at(table, item_place(item))
-}
-
-/// How many places a table of these items has.
-pub(crate) fn table_len(items: &[RefItem]) -> usize
-    ensures { (k : ℕ) (i : RefItem) → slice_get items.now k ≡ Some i → spec.item_place i < result }
-{
-    let mut len = 0;
-    for item in items {
-        let end = item_place(*item) + 1;
-        if end > len {
-            len = end;
-        }
-    }
-    len
 }

@@ -1,5 +1,5 @@
 -- The pins that fields, views, signals and resets use are pins of the block behind any bus.
-use Rattle.std.proofs.Common.{◌≡◌, ℕ, ◌==◌, Bool, true, false, if◌then◌else◌, Option, Some, None, List, ◌++◌, codes, slice_get, refl}
+use Rattle.std.proofs.Common.{◌≡◌, ℕ, Bool, true, false, if◌then◌else◌, Option, Some, None, List, ◌++◌, codes, slice_get, refl}
 use Rattle.rb_base.specs.declared.ports.Pin.{Pin}
 use Rattle.rb_model.specs.declared.kinds.Feed.{Feed}
 use Rattle.rb_model.specs.declared.kinds.Feed.TheVariants as feed

@@ -1,7 +1,7 @@
 -- Kept values and their places, as they are listed.
-use Rattle.std.proofs.Common.{◌≡◌, ℕ, zero, suc, ◌+◌, ◌<◌, Bool, true, false, Option, Some, None, List, [], ◌∷◌, ◌++◌, length, map, slice_get, refl, sym, ap, ◌∙◌, subst, arith}
+use Rattle.std.proofs.Common.{ℕ, Bool, Option, Some, None, List, ◌++◌}
 use Rattle.rb_model.specs.declared.block.Field.{Field}
-use Rattle.rb_model.specs.Kept.{Kept, kept_of}
+use Rattle.rb_model.specs.Kept.{Kept}
 use Rattle.rb_plan.specs.declared.kept.FieldKept.{FieldKept}
 use Rattle.rb_plan.specs.Kept.{AreFieldKept, IsKeptAt}
 use Rattle.rb_plan.proofs.Pairing.{front}

@@ -5,3 +5,5 @@ mod Numbered
 mod Keeping
 pub mod PinUses
 pub mod DataPins
+pub mod Interrupts
+pub mod ItemPlaces

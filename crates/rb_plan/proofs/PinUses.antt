@@ -1,5 +1,5 @@
 -- What holds of each input pin of a block holds of the pins that its fields, views and signals use.
-use Rattle.std.proofs.Common.{◌≡◌, ℕ, zero, suc, ◌+◌, ◌<◌, ◌==◌, Bool, true, false, not, ◌&&◌, if◌then◌else◌, Option, Some, None, List, [], ◌∷◌, ◌++◌, codes, length, slice_get, map, filter, refl, ap, sym, ◌∙◌, subst, arith}
+use Rattle.std.proofs.Common.{◌≡◌, ℕ, zero, suc, ◌+◌, ◌==◌, Bool, true, false, not, ◌&&◌, if◌then◌else◌, Option, Some, None, List, [], ◌∷◌, ◌++◌, codes, slice_get, map, filter, refl, ap, sym, ◌∙◌, subst, arith}
 use Rattle.std.specs.List.{enumerate_from, flat_map}
 use Rattle.std.proofs.lemmas.Option.{same_Some}
 use Rattle.rb_base.specs.declared.ports.Pin.{Pin}
@@ -22,8 +22,8 @@ use Rattle.rb_model.specs.PinsHave.{FeedHas, GateHas, AmountHas, ViewHas}
 use Rattle.rb_model.specs.References.{Each}
 use Rattle.rb_model.specs.SoundField.{FieldIsSoundIn}
 use Rattle.rb_model.specs.Sound.{IsSound, ViewIsSound}
-use Rattle.rb_model.proofs.Eachs.{Each-left, Each-right, Each-at, Each-from_zero}
-use Rattle.rb_model.proofs.OwnViews.{by_cases, TheOne, one_passes, own_test, field_pins-own, filter_one}
+use Rattle.rb_model.proofs.Eachs.{Each-left, Each-right, Each-from_zero}
+use Rattle.rb_model.proofs.OwnViews.{by_cases, TheOne, one_passes, own_test, field_pins-own}
 use Rattle.rb_model.proofs.InputPins.{bus_pins, input_pins_are}
 
 abbrev pub PartHas : (Pin → Type 0) → Option Part → (pulse value : List ℕ) → Type 0

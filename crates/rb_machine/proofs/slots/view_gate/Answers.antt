@@ -17,5 +17,5 @@ returns c =
     let s = c.args.scene.now in
     let (place, there, is) = c.requires.scene.planned.gates c.args.number c.args.view.now c.requires.there in
     let same : c.index-place.result.now ≡ place = c.index-place.ensures ∙ get_or_from_slice_get s.plan.now.gates.items c.args.number place c.index-place.result.now there in
-    let seen = gate_seen s.block.now (now_in s NoAccess) s.pins.now refl c.requires.scene.pins c.args.view.now.gate _ _ c.args.view.now.path place is in
+    let seen = gate_seen s.block.now c.requires.scene.sound (now_in s NoAccess) s.pins.now refl c.requires.scene.pins c.args.view.now.gate _ _ c.args.view.now.path place is in
     c.gated.ensures (now_in s NoAccess) _ _ c.args.view.now.path (rw (c.number_at.ensures, same) seen)

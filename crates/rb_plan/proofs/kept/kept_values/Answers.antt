@@ -1,4 +1,4 @@
-use Rattle.std.proofs.Common.{◌≡◌, ◌<◌, ℕ, Some, ◌+◌, ◌++◌, ◌∷◌, [], List, slice_get, length, map, sym, ap, ◌∙◌, subst, arith}
+use Rattle.std.proofs.Common.{◌≡◌, ◌<◌, ℕ, Some, ◌++◌, ◌∷◌, [], List, slice_get, length, map, sym, ap, ◌∙◌, subst, arith}
 use Rattle.std.proofs.lemmas.List.{length-append, take_all}
 use Rattle.std.specs.List.{flat_map, enumerate_from}
 use Rattle.rb_model.specs.declared.block.Field.{Field}

@@ -1,7 +1,0 @@
-use Rattle.std.proofs.Common.{◌≡◌, ◌++◌, map, take}
-use Rattle.std.specs.List.{flat_map, enumerate_from}
-use Rattle.rb_model.specs.Ports.{field_outlets}
-use Rattle.rb_machine.proofs.outlets.push_fields.Given as goal
-
-abbrev pub invariant-loop-index : goal.invariant-loop-index
-invariant-loop-index l = l.out.items ≡ l.initial.out.items ++ map (λ o. o.item) (flat_map field_outlets (enumerate_from 0 (take l.index l.fields)))
