@@ -1,0 +1,5 @@
+pub mod Reaching
+mod Puts
+pub mod Turns
+mod Loops
+mod MarkSteps
