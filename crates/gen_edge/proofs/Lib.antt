@@ -1,0 +1,3 @@
+pub mod Edging
+mod Tabling
+mod Answering
