@@ -1,24 +1,24 @@
 -- The registers of what the fields keep, one after another.
-use Rattle.std.proofs.Common.{◌≡◌, ℕ, zero, suc, ◌+◌, ◌<◌, ◌≤◌, Bool, true, false, ◌||◌, if◌then◌else◌, Option, Some, None, List, [], ◌∷◌, ◌++◌, length, map, take, slice_get, get_or, refl, sym, ap, ◌∙◌, subst, arith, inl, inr, ◌⊎◌, append_assoc}
+use Rattle.std.proofs.Common.{◌≡◌, ℕ, zero, suc, ◌+◌, ◌<◌, ◌≤◌, Bool, true, false, ◌||◌, if◌then◌else◌, Some, List, [], ◌∷◌, ◌++◌, length, map, take, slice_get, get_or, refl, sym, ap, ◌∙◌, subst, arith, inl, inr, ◌⊎◌, append_assoc}
 use Rattle.std.specs.Prelude.{Contains}
 use Rattle.std.specs.List.{list_any}
 use Rattle.std.specs.Str.{bytes_eq}
-use Rattle.std.proofs.lemmas.List.{length-append, length-map, map-append, take_more, take_all}
-use Rattle.std.proofs.lemmas.Option.{same_Some, slice_get_within, slice_get-get_or, get_or_from_slice_get, slice_get_read}
+use Rattle.std.proofs.lemmas.List.{length-append, length-map, map-append, take_more}
+use Rattle.std.proofs.lemmas.Option.{same_Some, slice_get_within, slice_get-get_or, get_or_from_slice_get}
 use Rattle.rb_base.specs.declared.ports.Pin.{Pin}
 use Rattle.v_design.specs.WellFormed.{distinct}
 use Rattle.rtl_net.specs.Names.{Lacks}
-use Rattle.rtl_net.specs.Value.{At, under}
+use Rattle.rtl_net.specs.Value.{under}
 use Rattle.rtl_net.specs.Net.{Net, Awaits, Extends, Keeps, IsNode, registers_of, undriven}
 use Rattle.rtl_net.specs.Graft.{at}
-use Rattle.rtl_net.specs.Ports.{IsNew, register_names, seat_names}
+use Rattle.rtl_net.specs.Ports.{IsNew, seat_names}
 use Rattle.rtl_net.specs.declared.node.Id.{Id}
 use Rattle.rtl_net.proofs.Nets.{Extends-refl, Extends-trans, Keeps-refl, Keeps-trans, IsNode-extends}
 use Rattle.rb_model.specs.declared.block.Block.{Block}
 use Rattle.rb_model.specs.Kept.{Kept, Waited, Data, Error, has_wait, kept, kept_pins, register_name, register_width}
 use Rattle.rb_model.specs.Ports.{ports}
 use Rattle.rb_model.specs.Sound.{IsSound}
-use Rattle.rb_model.proofs.Apart.{Apart, Apart-from, Apart-place, bytes_eq-to}
+use Rattle.rb_model.proofs.Apart.{Apart-from, Apart-place, bytes_eq-to}
 use Rattle.rb_model.proofs.OwnViews.{by_cases}
 use Rattle.rb_plan.specs.declared.plan.Plan.{Plan}
 use Rattle.rb_plan.specs.declared.kept.KeptValue.{KeptValue}
@@ -26,7 +26,6 @@ use Rattle.rb_plan.specs.Kept.{field_kept, kept_pin, kept_seen}
 use Rattle.rb_plan.specs.Plan.{IsPlanOf}
 use Rattle.gen_scene.specs.declared.base.Inlet.{Inlet}
 use Rattle.gen_scene.specs.Bases.{HasKept, HasPins, reset_of}
-use Rattle.gen_scene.specs.Worth.{IsWorth}
 use Rattle.gen_scene.proofs.ResetPins.{under_held}
 
 -- Lists
@@ -114,10 +113,10 @@ next_new b p pins first net ids end k apart sofar here new = record {
   registers = subst (λ rs. Lacks (map (λ r. r.name) rs) (register_name b k)) (sym sofar.registers)
       (subst (λ ns. Lacks ns (register_name b k)) (sym (map-append (λ (r : Pin). r.name) (registers_of first.nodes) (map (kept_pin b) (take end (field_kept b))) ∙ ap (λ ns. map (λ r. r.name) (registers_of first.nodes) ++ ns) (mapped (λ (r : Pin). r.name) (kept_pin b) (take end (field_kept b)))))
       (none_both (bytes_eq (register_name b k)) (map (λ r. r.name) (registers_of first.nodes)) (map (register_name b) (take end (field_kept b))) new.registers (none_mapped (take end (field_kept b)) (λ i m at_i.
-          let r = taken_at (field_kept b) end i m at_i in
-          by_cases (bytes_eq (register_name b k) (register_name b m)) (λ t.
-              let e : end ≡ i = one_place b apart end i k m here r.1 (bytes_eq-to (register_name b k) (register_name b m) t) in
-              absurd (omega (arith, e, r.0))) (λ f. f)))));
+      let r = taken_at (field_kept b) end i m at_i in
+      by_cases (bytes_eq (register_name b k) (register_name b m)) (λ t.
+      let e : end ≡ i = one_place b apart end i k m here r.1 (bytes_eq-to (register_name b k) (register_name b m) t) in
+      absurd (omega (arith, e, r.0))) (λ f. f)))));
 }
   where
     none_mapped : (ks : List Kept) → ((i : ℕ) (m : Kept) → slice_get ks i ≡ Some m → bytes_eq (register_name b k) (register_name b m) ≡ false) → list_any (bytes_eq (register_name b k)) (map (register_name b) ks) ≡ false

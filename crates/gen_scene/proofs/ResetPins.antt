@@ -1,35 +1,32 @@
 -- The pins of resets, and what they make of registers.
-use Rattle.std.proofs.Common.{◌≡◌, ℕ, ◌==◌, ◌<◌, ◌^◌, Bool, true, false, not, ◌&&◌, ◌||◌, if◌then◌else◌, Option, Some, None, unwrap_or, List, ◌++◌, codes, length, map, slice_get, zero, suc, [], ◌∷◌, lit<, refl, sym, ap, ◌∙◌, subst, arith}
+use Rattle.std.proofs.Common.{◌≡◌, ℕ, ◌==◌, ◌<◌, ◌^◌, Bool, true, false, not, ◌&&◌, if◌then◌else◌, Option, Some, None, unwrap_or, List, ◌++◌, codes, length, map, slice_get, zero, suc, [], ◌∷◌, lit<, refl, sym, ap, ◌∙◌, subst, arith}
 use Rattle.std.specs.Prelude.{Contains, IsTrue}
-use Rattle.std.specs.List.{enumerate_from, list_all, flat_map}
+use Rattle.std.specs.List.{enumerate_from, list_all}
 use Rattle.std.specs.Option.{option_map_or}
 use Rattle.std.specs.Str.{bytes_eq}
 use Rattle.std.proofs.Math.Pow.{pow_pos}
 use Rattle.std.proofs.lemmas.Bool.Decides.{nat_tests}
-use Rattle.std.proofs.lemmas.Option.{same_Some, slice_get_within, get_or_from_slice_get, slice_get_read}
+use Rattle.std.proofs.lemmas.Option.{same_Some, slice_get_within, slice_get_read}
 use Rattle.rb_base.specs.declared.ports.Pin.{Pin}
 use Rattle.v_design.specs.Expr.{Values}
 use Rattle.v_design.specs.Lexemes as design
 use Rattle.v_design.specs.WellFormed.{distinct}
 use Rattle.rtl_net.specs.Names as names
 use Rattle.rtl_net.specs.Names.{clock, is_net_name}
-use Rattle.rtl_net.specs.Value.{At, under, bit_of}
+use Rattle.rtl_net.specs.Value.{At, under}
 use Rattle.rtl_net.specs.Net.{Net, Settles, Stands, CanReset, IsInput, IsWidth}
 use Rattle.rtl_net.specs.Graft.{at}
 use Rattle.rtl_net.specs.declared.node.Id.{Id}
-use Rattle.rtl_net.specs.declared.node.NetReset.{NetReset}
 use Rattle.rtl_net.specs.declared.node.NetReset.TheVariants as resets
-use Rattle.rtl_net.proofs.Nets.{fits_at}
 use Rattle.rb_model.specs.declared.kinds.ResetBy.{ResetBy}
 use Rattle.rb_model.specs.declared.block.Block.{Block}
 use Rattle.rb_model.specs.declared.block.Field.{Field}
 use Rattle.rb_model.specs.declared.block.Signal.{Signal}
 use Rattle.rb_model.specs.Kept.{Kept, Val, Last, Done, Waited, Data, Error, Map, of_field, kept_of, when, is_storage, keeps_last, register_name, register_width}
-use Rattle.rb_model.specs.Ports.{input_pins, pin, signal_name}
+use Rattle.rb_model.specs.Ports.{pin, signal_name}
 use Rattle.rb_model.specs.Items.{Now, ItemValues, AreItemValues}
 use Rattle.rb_model.specs.Machine.{held, reset_pin, is_asserted}
 use Rattle.rb_model.specs.References.{Each, WithSome}
-use Rattle.rb_model.specs.SoundField.{FieldIsSoundIn}
 use Rattle.rb_model.specs.Sound.{IsSound, is_path}
 use Rattle.rb_model.proofs.Eachs.{Each-append, Each-at, Each-flat_map, Each-numbered_all}
 use Rattle.rb_plan.specs.declared.plan.Plan.{Plan}
@@ -37,9 +34,8 @@ use Rattle.rb_plan.specs.Kept.{field_kept}
 use Rattle.rb_plan.specs.Pins.{IsDataPin}
 use Rattle.rb_plan.specs.Plan.{IsPlanOf, IsPlaceOf}
 use Rattle.rb_plan.proofs.DataPins.{resetn_data, signal_data}
-use Rattle.gen_scene.specs.declared.base.Base.{Base}
 use Rattle.gen_scene.specs.declared.base.Inlet.{Inlet}
-use Rattle.gen_scene.specs.Bases.{HasKept, HasPins, IsBase, IsPinNode, kept_number, kept_reset, kept_width, kept_word, reset_for, reset_in, reset_of, signal_place}
+use Rattle.gen_scene.specs.Bases.{HasPins, IsPinNode, kept_number, kept_reset, kept_width, kept_word, reset_for, reset_in, reset_of, signal_place}
 use Rattle.gen_scene.specs.Worth.{Finds, IsWorth}
 use Rattle.gen_scene.proofs.Sources.{field_sound, pin_is, pin_node}
 

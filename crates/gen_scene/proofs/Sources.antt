@@ -1,11 +1,10 @@
 -- The nodes that are looked up, and what they are worth.
-use Rattle.std.proofs.Common.{◌≡◌, ℕ, ◌<◌, ◌≤◌, Bool, true, false, if◌then◌else◌, Option, Some, None, MatchOption, List, [], ◌∷◌, ◌++◌, codes, length, slice_get, refl, sym, ap, ◌∙◌, subst, arith}
+use Rattle.std.proofs.Common.{◌≡◌, ℕ, ◌<◌, Bool, true, false, if◌then◌else◌, Option, Some, None, List, [], ◌∷◌, ◌++◌, codes, length, slice_get, refl, sym, ap, ◌∙◌, subst, arith}
 use Rattle.std.specs.Prelude.{Contains}
 use Rattle.std.specs.Option.{option_map_or}
 use Rattle.std.proofs.lemmas.Option.{same_Some, slice_get-get_or, slice_get_within, get_or_from_slice_get}
 use Rattle.rb_base.specs.declared.ports.Pin.{Pin}
-use Rattle.rtl_net.specs.Value.{At}
-use Rattle.rtl_net.specs.Net.{Net, Settles, IsNode, seen_or_zero}
+use Rattle.rtl_net.specs.Net.{Net}
 use Rattle.rtl_net.specs.Graft.{at}
 use Rattle.rtl_net.specs.declared.node.Id.{Id}
 use Rattle.rb_model.specs.declared.kinds.RefItem.{RefItem}
@@ -18,10 +17,11 @@ use Rattle.rb_model.specs.declared.kinds.Mask.TheVariants as mask
 use Rattle.rb_model.specs.declared.block.Block.{Block}
 use Rattle.rb_model.specs.declared.block.Field.{Field}
 use Rattle.rb_model.specs.declared.block.View.{View}
-use Rattle.rb_model.specs.Kept.{Kept, Val, Last, Done, of_field, is_storage, keeps_last, register_width}
-use Rattle.rb_model.specs.Ports.{input_pins, pin}
-use Rattle.rb_model.specs.PinsHave.{FeedHas, GateHas}
-use Rattle.rb_model.specs.Items.{Now, ItemValues, AreItemValues, fed, gated, mask_value, source_value}
+use Rattle.rb_model.specs.declared.block.Signal.{Signal}
+use Rattle.rb_model.specs.Kept.{Kept, of_field, register_width}
+use Rattle.rb_model.specs.Ports.{input_pins, pin, signal_name}
+use Rattle.rb_model.specs.PinsHave.{GateHas}
+use Rattle.rb_model.specs.Items.{fed, gated, mask_value, source_value}
 use Rattle.rb_model.specs.Machine.{view_gate}
 use Rattle.rb_model.specs.References.{AreWide, Each, feed_refs, gate_refs, mask_refs, count_refs, item_width}
 use Rattle.rb_model.specs.SoundField.{FieldIsSoundIn}
@@ -29,22 +29,22 @@ use Rattle.rb_model.specs.Sound.{IsSound, ViewIsSound}
 use Rattle.rb_model.proofs.Eachs.{Each-from_zero, Each-left, Each-right}
 use Rattle.rb_plan.specs.declared.kept.FieldKept.{FieldKept}
 use Rattle.rb_plan.specs.declared.plan.FieldPlaces.{FieldPlaces}
-use Rattle.rb_plan.specs.Kept.{AreFieldKept, IsKeptAt, field_kept}
+use Rattle.rb_plan.specs.Kept.{AreFieldKept, field_kept}
 use Rattle.rb_plan.specs.Pins.{IsDataPin}
 use Rattle.rb_plan.specs.Plan.{AreFieldPlaces, IsGatePlace, IsPlaceOf}
 use Rattle.rb_plan.specs.Table.{item_place}
-use Rattle.rb_plan.proofs.DataPins.{field_data, view_data}
+use Rattle.rb_plan.proofs.DataPins.{field_data, signal_data, view_data}
 use Rattle.gen_scene.specs.declared.base.Base.{Base}
 use Rattle.gen_scene.specs.declared.base.Inlet.{Inlet}
 use Rattle.gen_scene.specs.declared.scene.Scene.{Scene}
 use Rattle.gen_scene.specs.Bases.{HasKept, HasPins, IsBase, IsPinNode}
 use Rattle.gen_scene.specs.Fields.{CanFeed, HasField, HasNodes, HasView, fed_node, gated_node, hardware_refs, item_node, limits_refs, mask_node}
 use Rattle.gen_scene.specs.Items.{IsItem}
-use Rattle.gen_scene.specs.Worth.{Finds, IsWorth, MayBeWorth}
+use Rattle.gen_scene.specs.Worth.{IsWorth, MayBeWorth}
 use Rattle.gen_scene.proofs.Worths.{may_none, may_some, worth_as}
 
 -- an element of a table that reaches so far
-in_table : (ids : List Id) (k : ℕ) → k < length ids → slice_get ids k ≡ Some (at ids k)
+pub in_table : (ids : List Id) (k : ℕ) → k < length ids → slice_get ids k ≡ Some (at ids k)
 in_table ids k low = slice_get-get_or ids k (record { 0 = 0 }) low
 
 pub field_width : (b : Block) (k : ℕ) (f : Field) → slice_get b.fields k ≡ Some f → of_field b k 0 (λ g. g.width) ≡ f.width
@@ -155,6 +155,18 @@ mask_worth net s (mask.Mask i) w h wide = item_worth net s i w h wide.0.1
 pub field_sound : (b : Block) → IsSound b → (k : ℕ) (f : Field) → slice_get b.fields k ≡ Some f → FieldIsSoundIn b (k, f)
 field_sound b sound k f here = Each-from_zero (FieldIsSoundIn b) b.fields k f sound.fields here
 
+-- what a field's source gives
+pub given_is : (net : Net) (s : Scene) (k : ℕ) (f : Field) → IsBase net s.base.now → slice_get s.base.now.block.now.fields k ≡ Some f → HasNodes net s (feed_refs f.source) → (p : FieldPlaces) → Some p ≡ slice_get s.base.now.plan.now.fields.items k
+    → MayBeWorth s.base.now.block.now s.base.now.inlet net (fed_node s f.source p.source) f.width (λ n v. source_value n v f)
+given_is net s k f base here refs p e =
+    let b = s.base.now.block.now in
+    let (q, there, are) = base.planned.fields k f here in
+    let at : AreFieldPlaces b f p = subst (AreFieldPlaces b f) (same_Some q p (sym there ∙ sym e)) are in
+    fed_worth net s f.source (codes "in$" ++ f.path) f.width p.source (record { base = base; refs = refs; wide = (field_sound b base.sound k f here).refers.source; pin = (field_data b base.sound k f here).source; at = at.source })
+
+pub given_placed : (net : Net) (s : Scene) (k : ℕ) (f : Field) → IsBase net s.base.now → slice_get s.base.now.block.now.fields k ≡ Some f → None ≡ slice_get s.base.now.plan.now.fields.items k → ⊥
+given_placed net s k f base here e = let (q, there, are) = base.planned.fields k f here in let n : None ≡ Some q = e ∙ there in cc
+
 -- what the look-ups of a field find
 module _ (net : Net) (s : Scene) (k : ℕ) (f : Field) (h : HasField net s k f) where
   abbrev b : Block
@@ -175,8 +187,8 @@ module _ (net : Net) (s : Scene) (k : ℕ) (f : Field) (h : HasField net s k f) 
   pub placed : None ≡ slice_get s.base.now.plan.now.fields.items k → ⊥
   placed e = let (q, there, are) = h.base.planned.fields k f h.here in let n : None ≡ Some q = e ∙ there in cc
 
-  pub source_is : (p : FieldPlaces) → Some p ≡ slice_get s.base.now.plan.now.fields.items k → MayBeWorth b a net (fed_node s f.source p.source) f.width (λ n v. source_value n v f)
-  source_is p e = fed_worth net s f.source (codes "in$" ++ f.path) f.width p.source (record { base = h.base; refs = own_refs.source; wide = own_sound.refers.source; pin = (field_data b h.base.sound k f h.here).source; at = (own_places p e).source })
+  pub source_is : (o : Option Id) → ((net : Net) → IsBase net s.base.now → slice_get s.base.now.block.now.fields k ≡ Some f → HasNodes net s (feed_refs f.source) → MayBeWorth b a net o f.width (λ n v. source_value n v f)) → MayBeWorth b a net o f.width (λ n v. source_value n v f)
+  source_is o given = given net h.base h.here own_refs.source
 
   pub gate_is : (p : FieldPlaces) → Some p ≡ slice_get s.base.now.plan.now.fields.items k → MayBeWorth b a net (gated_node s f.gate p.gate) 1 (λ n v. gated n v f.gate (codes "we$") (codes "wel$") f.path)
   gate_is p e =
@@ -210,3 +222,17 @@ module _ (net : Net) (s : Scene) (k : ℕ) (u : View) (h : HasView net s k u) wh
 
   pub view_placed : None ≡ slice_get s.base.now.plan.now.gates.items k → ⊥
   view_placed e = let (q, there, is) = h.base.planned.gates k u h.here in let n : None ≡ Some q = e ∙ there in cc
+
+-- the pin of a signal
+module _ (net : Net) (s : Scene) (k : ℕ) (g : Signal) (base : IsBase net s.base.now) (here : slice_get s.base.now.block.now.signals k ≡ Some g) where
+  pub signal_is : (place : ℕ) → Some place ≡ slice_get s.base.now.plan.now.signals.items k → MayBeWorth s.base.now.block.now s.base.now.inlet net (slice_get s.base.now.pins.now place) g.width (λ n v. n.pins (signal_name g))
+  signal_is place e =
+      let b = s.base.now.block.now in
+      let (q, there, is) = base.planned.signals k g here in
+      let given = signal_data b base.sound k g here in
+      let at_place : IsPlaceOf b (signal_name g) place = subst (IsPlaceOf b (signal_name g)) (same_Some q place (sym there ∙ sym e)) is in
+      let n = pin_node b net s.base.now.pins.now (pin (signal_name g) g.width) place base.pins given at_place in
+      subst (λ x. MayBeWorth b s.base.now.inlet net x g.width (λ n v. n.pins (signal_name g))) (sym n.0) (may_some b s.base.now.inlet net _ g.width _ (pin_is b s.base.now.inlet net _ (pin (signal_name g) g.width) given n.1))
+
+  pub signal_placed : None ≡ slice_get s.base.now.plan.now.signals.items k → ⊥
+  signal_placed e = let (q, there, is) = base.planned.signals k g here in let n : None ≡ Some q = e ∙ there in cc

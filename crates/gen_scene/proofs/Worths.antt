@@ -1,7 +1,7 @@
 -- From nodes to what they are worth, and on to netlists that have more.
-use Rattle.std.proofs.Common.{◌≡◌, ℕ, Bool, true, Option, Some, None, List, slice_get, refl, sym, ap, ◌∙◌, subst}
+use Rattle.std.proofs.Common.{◌≡◌, ℕ, Bool, Option, Some, None, List, refl, ap, ◌∙◌, subst}
 use Rattle.rtl_net.specs.Value.{At}
-use Rattle.rtl_net.specs.Net.{Net, Extends, Grows, Settles, Stands, IsNode, IsInput, MayHave, seen, seen_or_zero}
+use Rattle.rtl_net.specs.Net.{Net, Extends, Grows, Stands, IsNode, MayHave, seen, seen_or_zero}
 use Rattle.rtl_net.specs.Graft.{at}
 use Rattle.rtl_net.specs.declared.node.Id.{Id}
 use Rattle.rtl_net.proofs.Nets.{Extends-grows, IsNode-extends, Stands-extends}
@@ -20,7 +20,7 @@ use Rattle.gen_scene.specs.declared.scene.Scene.{Scene}
 use Rattle.gen_scene.specs.Bases.{HasInlet, HasKept, HasPins, IsBase, IsPinNode}
 use Rattle.gen_scene.specs.Fields.{HasField, HasNodes, HasView}
 use Rattle.gen_scene.specs.Items.{AreMarks, HasItems, IsItem}
-use Rattle.gen_scene.specs.Worth.{Finds, IsRead, IsSeenAs, IsWorth, MayBeWorth}
+use Rattle.gen_scene.specs.Worth.{IsRead, IsSeenAs, IsWorth, MayBeWorth}
 
 MayHave-extends : (old new : Net) (o : Option Id) (w : ℕ) → Extends old new → MayHave old o w → MayHave new o w
 MayHave-extends old new None w h m = tt

@@ -2,7 +2,6 @@
 use Rattle.std.specs.Prelude.{◌≡◌, ℕ, false, if◌then◌else◌, Option, Some, None, List, [], codes, length, slice_get}
 use Rattle.std.specs.Option.{option_map_or}
 use Rattle.rb_base.specs.declared.ports.Pin.{Pin}
-use Rattle.rtl_net.specs.Value.{At}
 use Rattle.rtl_net.specs.Net.{Net, Stands, IsInput, IsNode}
 use Rattle.rtl_net.specs.Graft.{at}
 use Rattle.rtl_net.specs.declared.node.Id.{Id}
@@ -13,7 +12,6 @@ use Rattle.rb_model.specs.declared.block.Block.{Block}
 use Rattle.rb_model.specs.declared.block.Field.{Field}
 use Rattle.rb_model.specs.Kept.{Kept, Val, Last, Done, Waited, Data, Error, of_field, register_width}
 use Rattle.rb_model.specs.Ports.{input_pins}
-use Rattle.rb_model.specs.Items.{Now, ItemValues}
 use Rattle.rb_model.specs.Sound.{IsSound}
 use Rattle.rb_plan.specs.declared.plan.Plan.{Plan}
 use Rattle.rb_plan.specs.Kept.{field_kept}

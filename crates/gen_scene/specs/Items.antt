@@ -1,5 +1,5 @@
 -- The nodes of a block's items.
-use Rattle.std.specs.Prelude.{◌≡◌, ℕ, ◌<◌, Bool, true, false, Some, List, Contains, length, slice_get, slice_index_or}
+use Rattle.std.specs.Prelude.{◌≡◌, ℕ, ◌<◌, Bool, true, false, Some, List, Contains, is_some, length, slice_get, slice_index_or}
 use Rattle.rtl_net.specs.Net.{Net}
 use Rattle.rtl_net.specs.Graft.{at}
 use Rattle.rtl_net.specs.declared.node.Id.{Id}
@@ -7,7 +7,8 @@ use Rattle.rb_model.specs.declared.kinds.RefItem.{RefItem}
 use Rattle.rb_model.specs.declared.kinds.RefItem.TheVariants as item
 use Rattle.rb_model.specs.declared.block.Block.{Block}
 use Rattle.rb_model.specs.declared.block.Field.{Field}
-use Rattle.rb_model.specs.Items.{Now, ItemValues, items, made}
+use Rattle.rb_model.specs.declared.block.Signal.{Signal}
+use Rattle.rb_model.specs.Items.{items, made}
 use Rattle.rb_model.specs.References.{Each, item_width, refs}
 use Rattle.rb_plan.specs.Table.{item_place}
 use Rattle.gen_scene.specs.declared.base.Inlet.{Inlet}
@@ -40,3 +41,25 @@ pub record AreMarks (b : Block) (a : Inlet) (net : Net) (wanted : List Bool) (ma
   pub long : length marks ≡ length b.fields
   pub modified : (k : ℕ) (f : Field) → slice_get b.fields k ≡ Some f → is_wanted wanted (item.SwMod k) ≡ true → IsWorth b a net (mark_at marks k).modified 1 (λ n v. made b n v (item.SwMod k))
   pub accessed : (k : ℕ) (f : Field) → slice_get b.fields k ≡ Some f → is_wanted wanted (item.SwAcc k) ≡ true → IsWorth b a net (mark_at marks k).accessed 1 (λ n v. made b n v (item.SwAcc k))
+
+-- the marks have an item that says what an access does to a field
+abbrev pub IsMarked : Block → Inlet → Net → List Marks → RefItem → Type 0
+IsMarked b a net marks (item.SwMod k) = (k < length marks) × IsWorth b a net (mark_at marks k).modified 1 (λ n v. made b n v (item.SwMod k))
+IsMarked b a net marks (item.SwAcc k) = (k < length marks) × IsWorth b a net (mark_at marks k).accessed 1 (λ n v. made b n v (item.SwAcc k))
+IsMarked b a net marks _ = Unit {0}
+
+-- what an item says of the block that it is one of
+abbrev pub IsOwn : Block → RefItem → Type 0
+IsOwn b (item.Signal s) = (g : Signal) × (slice_get b.signals s ≡ Some g)
+IsOwn b (item.Field k) = (f : Field) × (slice_get b.fields k ≡ Some f)
+IsOwn b (item.Anded k) = (f : Field) × (slice_get b.fields k ≡ Some f)
+IsOwn b (item.Ored k) = (f : Field) × (slice_get b.fields k ≡ Some f)
+IsOwn b (item.Xored k) = (f : Field) × (slice_get b.fields k ≡ Some f)
+IsOwn b (item.IncrThreshold k) = (f : Field) × (slice_get b.fields k ≡ Some f) × (is_some f.count ≡ true)
+IsOwn b (item.DecrThreshold k) = (f : Field) × (slice_get b.fields k ≡ Some f) × (is_some f.count ≡ true)
+IsOwn b (item.Overflow k) = (f : Field) × (slice_get b.fields k ≡ Some f) × (is_some f.count ≡ true)
+IsOwn b (item.Underflow k) = (f : Field) × (slice_get b.fields k ≡ Some f) × (is_some f.count ≡ true)
+IsOwn b (item.SwMod k) = (f : Field) × (slice_get b.fields k ≡ Some f)
+IsOwn b (item.SwAcc k) = (f : Field) × (slice_get b.fields k ≡ Some f)
+IsOwn b (item.Intr r) = Unit {0}
+IsOwn b (item.Halt r) = Unit {0}

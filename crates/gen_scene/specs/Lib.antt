@@ -2,3 +2,4 @@ pub mod Worth
 pub mod Bases
 pub mod Items
 pub mod Fields
+pub mod Lines

@@ -1,5 +1,5 @@
 -- What the nodes of a netlist are worth to a block.
-use Rattle.std.specs.Prelude.{◌≡◌, ℕ, ◌==◌, Bool, true, false, if◌then◌else◌, Option, List, Contains}
+use Rattle.std.specs.Prelude.{◌≡◌, ℕ, ◌==◌, false, if◌then◌else◌, Option, Contains}
 use Rattle.rb_base.specs.declared.ports.Pin.{Pin}
 use Rattle.rtl_net.specs.Value.{At}
 use Rattle.rtl_net.specs.Net.{Net, Settles, Stands, MayHave, seen, seen_or_zero}

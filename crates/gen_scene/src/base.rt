@@ -1,11 +1,11 @@
 //! The nodes that all others are made of.
 
-ghost use Rattle.std.specs.Prelude.{◌≡◌, slice_get};
+ghost use Rattle.std.specs.Prelude.{◌≡◌, ◌<◌, Some, length, slice_get};
 
 use crate::resets::reset_id;
 use net_gates::opposite;
 use rb_base::NoMemory;
-use rb_model::Block;
+use rb_model::{Block, Field, Signal};
 use rb_plan::{FieldKept, Plan};
 use rtl_net::{Id, Netlist};
 
@@ -35,6 +35,22 @@ pub(crate) fn id_at(ids: &[Id], place: usize) -> Option<Id>
     ensures { result ≡ slice_get ids.now place }
 {
     ids.get(place).copied()
+}
+
+/// The field of a number.
+pub(crate) fn field_at(block: &Block, number: usize) -> &Field
+    requires { number < length block.now.fields }
+    ensures { slice_get block.now.fields number ≡ Some result.now }
+{
+    &block.fields.items[number]
+}
+
+/// The signal of a number.
+pub(crate) fn signal_at(block: &Block, number: usize) -> &Signal
+    requires { number < length block.now.signals }
+    ensures { slice_get block.now.signals number ≡ Some result.now }
+{
+    &block.signals.items[number]
 }
 
 impl<'a> Base<'a> {
@@ -108,9 +124,7 @@ impl<'a> Base<'a> {
         ensures worth { IfOk result (λ id. (f : Field) → slice_get self.now.block.now.fields number ≡ Some f
             → IsWorth self.now.block.now self.now.inlet net.new id 1 (λ n v. bit_of (is_asserted self.now.block.now n.pins f.reset_by))) }
     {
-        let block = self.block;
-        let field = &block.fields.items[number];
-        let by = field.reset_by;
+        let by = field_at(self.block, number).reset_by;
         let pin = reset_id(self.plan, self.pins, by);
         if by.low { opposite(net, pin) } else { Ok(pin) }
     }

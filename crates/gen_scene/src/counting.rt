@@ -49,7 +49,7 @@ impl<'a> Scene<'a> {
         match amount {
             Amount::Number(value) => number(net, width, u128::from(value)),
             Amount::Item(item) => self.wide_item(net, item, width),
-            Amount::Pin(_) => widened(net, self.base.pins[place], width),
+            Amount::Pin(_) => widened(net, self.pin(place), width),
         }
     }
 

@@ -2,11 +2,19 @@
 
 ghost use Rattle.std.specs.Prelude.{◌≡◌, IfOk};
 ghost use Rattle.rtl_net.specs.Net.{Grows};
+ghost use Rattle.rb_model.specs.Items.{made};
+ghost use Rattle.rb_model.specs.References.{Each, item_width, refs};
 ghost use Rattle.gen_scene.specs.Bases.{IsBase};
-ghost use Rattle.gen_scene.specs.Items.{AreMarks, HasItems, IsClosed};
+ghost use Rattle.gen_scene.specs.Items as spec;
+ghost use Rattle.gen_scene.specs.Items.{AreMarks, HasItems, IsClosed, IsItem, IsMarked, IsOwn};
+ghost use Rattle.gen_scene.specs.Worth.{IsWorth};
 
 use crate::base::Base;
+use crate::item_node::item_node;
+use crate::scene::Scene;
 use rb_base::NoMemory;
+use rb_model::RefItem;
+use rb_plan::{item_place, table_len};
 use rtl_net::{Id, Netlist};
 use std::alloc::Global;
 
@@ -15,6 +23,37 @@ use std::alloc::Global;
 pub struct Marks {
     pub modified: Id,
     pub accessed: Id,
+}
+
+/// Whether an item is wanted.
+fn is_wanted(wanted: &[bool], item: RefItem) -> bool
+    ensures { result ≡ spec.is_wanted wanted.now item }
+{
+    match wanted.get(item_place(item)) {
+        Some(wanted) => *wanted,
+        None => false,
+    }
+}
+
+/// The node of an item, where those that it refers to have theirs in the table.
+fn node_in(
+    alloc: Global,
+    net: &mut Netlist,
+    base: &Base,
+    marks: &[Marks],
+    table: &[Id],
+    item: RefItem,
+) -> Result<Id, NoMemory>
+    requires base { IsBase net.old base.now }
+    requires refs { Each (IsItem base.now.block.now base.now.inlet net.old table.now) (refs base.now.block.now item) }
+    requires own { IsOwn base.now.block.now item }
+    requires marked { IsMarked base.now.block.now base.now.inlet net.old marks.now item }
+    ensures older { Grows net.old net.new }
+    ensures name { net.new.name ≡ net.old.name }
+    ensures worth { IfOk result (λ id. IsWorth base.now.block.now base.now.inlet net.new id (item_width base.now.block.now item) (λ n v. made base.now.block.now n v item)) }
+{
+    let scene = Scene { base, items: table };
+    item_node(alloc, net, &scene, marks, item)
 }
 
 /// The nodes of the items that are wanted, by their places. `marks` has the marks of each field, which count where `wanted` has
@@ -33,10 +72,14 @@ pub fn item_nodes(
     ensures name { net.new.name ≡ net.old.name }
     ensures items { IfOk result (λ table. HasItems base.now.block.now base.now.inlet net.new wanted.now table.items) }
 {
-    let _alloc = alloc;
-    let _net = net;
-    let _base = base;
-    let _marks = marks;
-    let _wanted = wanted;
-    Err(NoMemory)
+    let block = base.block;
+    let mut table = vec![in alloc; Id(0); table_len(&block.order.items)]?;
+    for item in &block.order.items {
+        if !is_wanted(wanted, *item) {
+            continue;
+        }
+        let id = node_in(alloc, net, base, marks, &table, *item)?;
+        table[item_place(*item)] = id;
+    }
+    Ok(table)
 }

@@ -13,6 +13,7 @@ ghost use Rattle.rb_plan.specs.Plan.{IsPlanOf};
 ghost use Rattle.gen_scene.specs.declared.base.Inlet.{Inlet};
 ghost use Rattle.gen_scene.specs.Bases.{HasKept, HasPins, kept_number, kept_reset, kept_width, kept_word, reset_in, reset_of};
 
+use crate::base::field_at;
 use crate::resets::{reset_for, reset_id};
 use rb_base::NoMemory;
 use rb_model::{Block, Field, names_differ};
@@ -65,14 +66,6 @@ fn reset_value(kept: KeptValue, field: &Field) -> Option<u128>
         KeptValue::Last(_) => Some(0),
         KeptValue::Done(_) => Some(0),
     }
-}
-
-/// The field of a number.
-fn field_at(block: &Block, number: u32) -> &Field
-    requires { number < length block.now.fields }
-    ensures { slice_get block.now.fields number ≡ Some result.now }
-{
-    &block.fields.items[number as usize]
 }
 
 /// The path of a field.
@@ -137,10 +130,17 @@ fn register(
     ensures node { IfOk result (λ id. IsNode net.new id (register_width block.now (kept_seen kept))
         (λ v. under v.node (reset_of block.now plan.now pins.now (kept_seen kept)) (v.kept (register_name block.now (kept_seen kept))))) }
 {
-    let field = field_at(block, number_of(kept));
+    let field = field_at(block, number_of(kept) as usize);
     let pin = reset_id(plan, pins, field.reset_by);
     let reset = reset_for(pin, field.reset_by, reset_value(kept, field));
-    add(alloc, net, word_of(kept), path_of(field), width_of(kept, field), reset)
+    add(
+        alloc,
+        net,
+        word_of(kept),
+        path_of(field),
+        width_of(kept, field),
+        reset,
+    )
 }
 
 /// Adds the registers of what the fields keep, in the order of the plan, which are still to be driven. A register that has an

@@ -7,8 +7,11 @@
 
 mod base;
 mod counting;
+mod item_node;
 mod items;
 mod kept;
+mod lines;
+mod making;
 mod needed;
 mod resets;
 mod scene;

@@ -15,14 +15,18 @@ pub struct Scene<'a> {
 }
 
 impl<'a> Scene<'a> {
-    ghost use Rattle.std.specs.Prelude.{◌≡◌, ◌<◌, ◌++◌, ℕ, codes, length, slice_get};
+    ghost use Rattle.std.specs.Prelude.{◌≡◌, ◌<◌, ◌++◌, ℕ, Some, codes, length, slice_get};
     ghost use Rattle.rtl_net.specs.Net.{Net};
     ghost use Rattle.rtl_net.specs.Graft.{at};
+    ghost use Rattle.gen_scene.specs.Bases.{IsBase};
+    ghost use Rattle.rb_model.specs.declared.block.Signal.{Signal};
+    ghost use Rattle.rb_model.specs.Ports.{signal_name};
+    ghost use Rattle.rb_model.specs.References.{feed_refs};
     ghost use Rattle.rb_model.specs.Items as spec;
     ghost use Rattle.rb_model.specs.Machine as machine;
     ghost use Rattle.rb_plan.specs.Table as places;
     ghost use Rattle.gen_scene.specs.Worth.{MayBeWorth};
-    ghost use Rattle.gen_scene.specs.Fields.{HasField, HasView, fed_node, gated_node, item_node, mask_node};
+    ghost use Rattle.gen_scene.specs.Fields.{HasField, HasNodes, HasView, fed_node, gated_node, item_node, mask_node};
 
     /// The node of an item that has one.
     pub fn node(&self, item: RefItem) -> Id
@@ -30,6 +34,14 @@ impl<'a> Scene<'a> {
         ensures { result ≡ at self.now.items.now (places.item_place item) }
     {
         self.items[item_place(item)]
+    }
+
+    /// The node of the pin at a place.
+    pub(crate) fn pin(&self, place: usize) -> Id
+        requires { place < length self.now.base.now.pins.now }
+        ensures { result ≡ at self.now.base.now.pins.now place }
+    {
+        self.base.pins[place]
     }
 
     /// The node of an item, if it has one.
@@ -79,15 +91,41 @@ impl<'a> Scene<'a> {
         self.base.plan.fields.get(number).copied()
     }
 
-    /// The number that a field loads, and an interrupt's input. It is as wide as the field.
-    pub fn source(&self, number: usize, field: &Field) -> Option<Id>
-        ensures { (net : Net) → HasField net self.now number field.now
+    /// The place of the pin of a signal.
+    fn signal_place(&self, number: usize) -> Option<usize>
+        ensures { result ≡ slice_get self.now.base.now.plan.now.signals.items number }
+    {
+        self.base.plan.signals.get(number).copied()
+    }
+
+    /// The pin of the signal of a number.
+    pub(crate) fn signal(&self, number: usize) -> Option<Id>
+        ensures { (net : Net) (g : Signal) → IsBase net self.now.base.now → slice_get self.now.base.now.block.now.signals number ≡ Some g
+            → MayBeWorth self.now.base.now.block.now self.now.base.now.inlet net result g.width (λ n v. n.pins (signal_name g)) }
+    {
+        match self.signal_place(number) {
+            Some(place) => id_at(self.base.pins, place),
+            None => None,
+        }
+    }
+
+    /// The number that a field's source gives, where an item that it refers to has its node. It is as wide as the field.
+    pub(crate) fn given(&self, number: usize, field: &Field) -> Option<Id>
+        ensures { (net : Net) → IsBase net self.now.base.now → slice_get self.now.base.now.block.now.fields number ≡ Some field.now → HasNodes net self.now (feed_refs field.now.source)
             → MayBeWorth self.now.base.now.block.now self.now.base.now.inlet net result field.now.width (λ n v. spec.source_value n v field.now) }
     {
         match self.places(number) {
             Some(places) => self.fed(field.source, places.source),
             None => None,
         }
+    }
+
+    /// The number that a field loads, and an interrupt's input. It is as wide as the field.
+    pub fn source(&self, number: usize, field: &Field) -> Option<Id>
+        ensures { (net : Net) → HasField net self.now number field.now
+            → MayBeWorth self.now.base.now.block.now self.now.base.now.inlet net result field.now.width (λ n v. spec.source_value n v field.now) }
+    {
+        self.given(number, field)
     }
 
     /// The gate of a field's load, of one bit.

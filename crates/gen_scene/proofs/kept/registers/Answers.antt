@@ -1,8 +1,7 @@
-use Rattle.std.proofs.Common.{◌≡◌, ◌<◌, ℕ, ◌++◌, ◌∷◌, [], Some, List, OnOk, length, map, take, slice_get, get_or, refl, sym, ap, ◌∙◌, subst, arith}
+use Rattle.std.proofs.Common.{◌<◌, ◌++◌, length, map, ap, ◌∙◌, arith}
 use Rattle.std.proofs.lemmas.List.{take_all}
 use Rattle.std.proofs.lemmas.Option.{slice_get_within}
-use Rattle.rtl_net.specs.Net.{registers_of, undriven}
-use Rattle.rtl_net.proofs.Nets.{Extends-refl}
+use Rattle.rtl_net.specs.Net.{registers_of}
 use Rattle.rb_plan.specs.Kept.{field_kept, kept_pin}
 use Rattle.gen_scene.proofs.Registering.{all_listed, kept_among, kept_at, kept_worths, next_new, none_yet, one_register}
 use Rattle.gen_scene.proofs.Worths.{HasPins-extends}

@@ -1,7 +1,5 @@
-use Rattle.std.proofs.Common.{if◌then◌else◌, subst}
 use Rattle.rb_model.specs.Kept.{Done}
-use Rattle.gen_scene.specs.Worth.{MayBeWorth}
-use Rattle.gen_scene.proofs.Sources.{field_width, places_known, places_there}
+use Rattle.gen_scene.proofs.Sources.{places_known, places_there}
 use Rattle.gen_scene.proofs.base.Base.done.Goals as goal
 
 pub returns-in-Some : goal.returns-in-Some

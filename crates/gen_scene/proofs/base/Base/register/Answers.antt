@@ -1,6 +1,6 @@
-use Rattle.std.proofs.Common.{Bool, sym, ap, subst}
+use Rattle.std.proofs.Common.{subst}
 use Rattle.rb_plan.specs.Kept.{IsKeptAt, field_kept}
-use Rattle.gen_scene.proofs.Sources.{kept_worth, unkept_worth}
+use Rattle.gen_scene.proofs.Sources.{kept_worth}
 use Rattle.gen_scene.proofs.base.Base.register.Goals as goal
 
 pub returns-in-Some : goal.returns-in-Some

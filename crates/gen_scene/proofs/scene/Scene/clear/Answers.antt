@@ -1,4 +1,3 @@
-use Rattle.std.proofs.Common.{sym, subst}
 use Rattle.gen_scene.proofs.Sources.{clear_is, placed}
 use Rattle.gen_scene.proofs.scene.Scene.clear.Goals as goal
 

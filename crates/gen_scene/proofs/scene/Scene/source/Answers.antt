@@ -1,9 +1,5 @@
-use Rattle.std.proofs.Common.{sym, subst}
-use Rattle.gen_scene.proofs.Sources.{source_is, placed}
+use Rattle.gen_scene.proofs.Sources.{source_is}
 use Rattle.gen_scene.proofs.scene.Scene.source.Goals as goal
 
-pub returns-in-Some : goal.returns-in-Some
-returns-in-Some c net h = rw c.fed.ensures (source_is net c.args.self.now c.args.number c.args.field.now h c.in-Some.places c.in-Some.ensures)
-
-pub returns-in-None : goal.returns-in-None
-returns-in-None c net h = absurd (placed net c.args.self.now c.args.number c.args.field.now h c.in-None.ensures)
+pub returns : goal.returns
+returns c net h = source_is net c.args.self.now c.args.number c.args.field.now h c.given.result c.given.ensures

@@ -1,0 +1,136 @@
+-- Which items are wanted, where all are.
+use Rattle.std.proofs.Common.{◌≡◌, ℕ, zero, suc, ◌<◌, ◌≤◌, Bool, true, false, Option, Some, None, List, ◌++◌, length, slice_get, get_or, refl, sym, ap, ◌∙◌, arith}
+use Rattle.std.specs.Prelude.{Contains}
+use lib.ListN.{replicate}
+use Rattle.std.proofs.lemmas.List.Sorted.{Contains-permutation}
+use Rattle.std.proofs.lemmas.Option.{slice_get_read}
+use Rattle.rtl_net.specs.Net.{Net}
+use Rattle.rb_model.specs.declared.kinds.RefItem.{RefItem}
+use Rattle.rb_model.specs.declared.kinds.RefItem.TheVariants as item
+use Rattle.rb_model.specs.declared.kinds.Part.{Part}
+use Rattle.rb_model.specs.declared.kinds.Count.{Count}
+use Rattle.rb_model.specs.declared.kinds.Level.{Level}
+use Rattle.rb_model.specs.declared.block.Block.{Block}
+use Rattle.rb_model.specs.declared.block.Field.{Field}
+use Rattle.rb_model.specs.declared.block.View.{View}
+use Rattle.rb_model.specs.Items.{items}
+use Rattle.rb_model.specs.Ports.{Outlet, outlets}
+use Rattle.rb_model.specs.References.{AreWide, AreWithin, Each, StandsBefore, WithSome, amount_refs, count_refs, feed_refs, gate_refs, item_width, level_refs, mask_refs, part_refs, refs}
+use Rattle.rb_model.specs.SoundField.{RefersWell}
+use Rattle.rb_model.specs.Sound.{IsSound, ViewIsSound}
+use Rattle.rb_model.proofs.Eachs.{Each-append, Each-at, Each-both, Each-from_zero, Each-left, Each-right, Each-weaker}
+use Rattle.rb_plan.specs.Table.{item_place}
+use Rattle.gen_scene.specs.declared.scene.Scene.{Scene}
+use Rattle.gen_scene.specs.Bases.{IsBase}
+use Rattle.gen_scene.specs.Fields.{HasField, HasView, IsAllWanted, hardware_refs, limit_refs, limits_refs}
+use Rattle.gen_scene.specs.Items.{HasItems, IsClosed, IsItem, is_wanted}
+use Rattle.gen_scene.proofs.Among.{outlets_among, value_among}
+use Rattle.gen_scene.proofs.Sources.{field_sound}
+
+-- The items that hardware's steps refer to are the block's
+
+abbrev pub Own : Block → List RefItem → Type 0
+Own b is = Each (λ i. Contains (items b) i) is
+
+wide_own : (b : Block) (w : ℕ) (is : List RefItem) → AreWide b w is → Own b is
+wide_own b w is h = Each-weaker (λ i. Contains (items b) i × (item_width b i ≡ w)) (λ i. Contains (items b) i) (λ i q. q.0) is h
+
+within_own : (b : Block) (w : ℕ) (is : List RefItem) → AreWithin b w is → Own b is
+within_own b w is h = Each-weaker (λ i. Contains (items b) i × (item_width b i ≤ w)) (λ i. Contains (items b) i) (λ i q. q.0) is h
+
+part_own : (b : Block) (w : ℕ) (o : Option Part) → WithSome o (λ p. AreWide b 1 (feed_refs p.pulse)) → WithSome o (λ p. AreWithin b w (amount_refs p.amount)) → Own b (part_refs o)
+part_own b w None p q = tt
+part_own b w (Some p) h q = Each-append _ (feed_refs p.pulse) (amount_refs p.amount) (wide_own b 1 (feed_refs p.pulse) h) (within_own b w (amount_refs p.amount) q)
+
+limit_own : (b : Block) (w : ℕ) (o : Option Level) → WithSome o (λ l. AreWithin b w (level_refs l)) → Own b (limit_refs o)
+limit_own b w None h = tt
+limit_own b w (Some l) h = within_own b w (level_refs l) h
+
+counts_own : (b : Block) (w : ℕ) (o : Option Count) → WithSome o (λ c. WithSome c.up (λ p. AreWide b 1 (feed_refs p.pulse)) × WithSome c.down (λ p. AreWide b 1 (feed_refs p.pulse)))
+    → WithSome o (λ c. WithSome c.up (λ p. AreWithin b w (amount_refs p.amount)) × WithSome c.down (λ p. AreWithin b w (amount_refs p.amount))) → Own b (count_refs o)
+counts_own b w None h q = tt
+counts_own b w (Some c) h q = Each-append _ (part_refs c.up) (part_refs c.down) (part_own b w c.up h.0 q.0) (part_own b w c.down h.1 q.1)
+
+limits_own : (b : Block) (w : ℕ) (o : Option Count) → WithSome o (λ c. WithSome c.high (λ l. AreWithin b w (level_refs l)) × WithSome c.low (λ l. AreWithin b w (level_refs l)) × AreWithin b w (level_refs c.above ++ level_refs c.below)) → Own b (limits_refs o)
+limits_own b w None h = tt
+limits_own b w (Some c) h = Each-append _ (limit_refs c.high) (limit_refs c.low) (limit_own b w c.high h.0) (limit_own b w c.low h.1)
+
+pub hardware_own : (b : Block) (f : Field) → RefersWell b f → Own b (hardware_refs f)
+hardware_own b f h =
+    let P : RefItem → Type 0 = λ i. Contains (items b) i in
+    let bits = wide_own b 1 (gate_refs f.gate ++ feed_refs f.set ++ feed_refs f.clear) h.bits in
+    let masks = wide_own b f.width (mask_refs f.keep ++ mask_refs f.enable ++ mask_refs f.halt) h.masks in
+    let first = Each-left P (gate_refs f.gate ++ feed_refs f.set) (feed_refs f.clear) bits in
+    Each-append P (feed_refs f.source ++ gate_refs f.gate ++ count_refs f.count ++ limits_refs f.count ++ feed_refs f.set ++ feed_refs f.clear) (mask_refs f.keep)
+    (Each-append P (feed_refs f.source ++ gate_refs f.gate ++ count_refs f.count ++ limits_refs f.count ++ feed_refs f.set) (feed_refs f.clear)
+    (Each-append P (feed_refs f.source ++ gate_refs f.gate ++ count_refs f.count ++ limits_refs f.count) (feed_refs f.set)
+    (Each-append P (feed_refs f.source ++ gate_refs f.gate ++ count_refs f.count) (limits_refs f.count)
+    (Each-append P (feed_refs f.source ++ gate_refs f.gate) (count_refs f.count)
+    (Each-append P (feed_refs f.source) (gate_refs f.gate) (wide_own b f.width (feed_refs f.source) h.source) (Each-left P (gate_refs f.gate) (feed_refs f.set) first))
+    (counts_own b f.width f.count h.pulses h.amounts))
+    (limits_own b f.width f.count h.levels))
+    (Each-right P (gate_refs f.gate) (feed_refs f.set) first))
+    (Each-right P (gate_refs f.gate ++ feed_refs f.set) (feed_refs f.clear) bits))
+    (Each-left P (mask_refs f.keep) (mask_refs f.enable) (Each-left P (mask_refs f.keep ++ mask_refs f.enable) (mask_refs f.halt) masks))
+
+pub view_own : (b : Block) → IsSound b → (k : ℕ) (u : View) → slice_get b.views k ≡ Some u → Own b (gate_refs u.gate)
+view_own b sound k u here = let s : ViewIsSound b (k, u) = Each-from_zero (ViewIsSound b) b.views k u sound.views here in wide_own b 1 (gate_refs u.gate) s.gate_bit
+
+-- Where the wanted items have their nodes, so have those that a field or a view refers to.
+
+pub field_nodes : (net : Net) (s : Scene) (wanted : List Bool) (k : ℕ) (f : Field) → IsBase net s.base.now → HasItems s.base.now.block.now s.base.now.inlet net wanted s.items.now → IsAllWanted s.base.now.block.now wanted → slice_get s.base.now.block.now.fields k ≡ Some f → HasField net s k f
+field_nodes net s wanted k f base has all here = record {
+  base = base;
+  here = here;
+  refs = Each-both (λ i. Contains (items s.base.now.block.now) i) (λ i. is_wanted wanted i ≡ true) (IsItem s.base.now.block.now s.base.now.inlet net s.items.now) (λ i c w. has.each i c w) (hardware_refs f)
+      (hardware_own s.base.now.block.now f (field_sound s.base.now.block.now base.sound k f here).refers) (all.fields k f here);
+}
+
+pub view_nodes : (net : Net) (s : Scene) (wanted : List Bool) (k : ℕ) (u : View) → IsBase net s.base.now → HasItems s.base.now.block.now s.base.now.inlet net wanted s.items.now → IsAllWanted s.base.now.block.now wanted → slice_get s.base.now.block.now.views k ≡ Some u → HasView net s k u
+view_nodes net s wanted k u base has all here = record {
+  base = base;
+  here = here;
+  refs = Each-both (λ i. Contains (items s.base.now.block.now) i) (λ i. is_wanted wanted i ≡ true) (IsItem s.base.now.block.now s.base.now.inlet net s.items.now) (λ i c w. has.each i c w) (gate_refs u.gate) (view_own s.base.now.block.now base.sound k u here) (all.views k u here);
+}
+
+-- and each field has its value's node
+pub value_node : (net : Net) (s : Scene) (wanted : List Bool) (k : ℕ) (f : Field) → IsBase net s.base.now → HasItems s.base.now.block.now s.base.now.inlet net wanted s.items.now → IsAllWanted s.base.now.block.now wanted → slice_get s.base.now.block.now.fields k ≡ Some f
+    → IsItem s.base.now.block.now s.base.now.inlet net s.items.now (item.Field k)
+value_node net s wanted k f base has all here = has.each (item.Field k) (value_among s.base.now.block.now k f here) (all.values k f here)
+
+-- and so has what an output shows
+pub outlet_node : (net : Net) (s : Scene) (wanted : List Bool) (o : Outlet) → IsBase net s.base.now → HasItems s.base.now.block.now s.base.now.inlet net wanted s.items.now → IsAllWanted s.base.now.block.now wanted → Contains (outlets s.base.now.block.now) o
+    → IsItem s.base.now.block.now s.base.now.inlet net s.items.now o.item
+outlet_node net s wanted o base has all c = has.each o.item (outlet_item s.base.now.block.now base.sound o c) (all.shown o c)
+  where
+    outlet_item : (b : Block) → IsSound b → (o : Outlet) → Contains (outlets b) o → Contains (items b) o.item
+    outlet_item b sound o c = let (j, low, is) = c in Each-at (λ o. Contains (items b) o.item) (outlets b) j o (outlets_among b sound) (slice_get_read (outlets b) (length (outlets b)) j o refl low (sym is))
+
+-- All items are wanted
+
+filled : (n k : ℕ) → k < n → get_or (replicate n true) k false ≡ true
+filled zero k low = absurd (omega (arith, low))
+filled (suc n) zero low = refl
+filled (suc n) (suc k) low = filled n k (omega (arith, low))
+
+module _ (b : Block) (sound : IsSound b) (wanted : List Bool) (n : ℕ) (is : wanted ≡ replicate n true) (room : (k : ℕ) (i : RefItem) → slice_get b.order k ≡ Some i → item_place i < n) where
+  each_ordered : (k : ℕ) (i : RefItem) → slice_get b.order k ≡ Some i → is_wanted wanted i ≡ true
+  each_ordered k i here = ap (λ w. get_or w (item_place i) false) is ∙ filled n (item_place i) (room k i here)
+
+  each_item : (i : RefItem) → Contains (items b) i → is_wanted wanted i ≡ true
+  each_item i c = let (k, low, at) = Contains-permutation (items b) b.order i sound.all_items c in each_ordered k i (slice_get_read b.order (length b.order) k i refl low (sym at))
+
+  pub all_wanted : IsAllWanted b wanted
+  all_wanted = record {
+    shown = λ o c. let (j, low, at) = c in each_item o.item (Each-at (λ o. Contains (items b) o.item) (outlets b) j o (outlets_among b sound) (slice_get_read (outlets b) (length (outlets b)) j o refl low (sym at)));
+    values = λ k f here. each_item (item.Field k) (value_among b k f here);
+    fields = λ k f here. Each-weaker (λ i. Contains (items b) i) (λ i. is_wanted wanted i ≡ true) each_item (hardware_refs f) (hardware_own b f (field_sound b sound k f here).refers);
+    views = λ k u here. Each-weaker (λ i. Contains (items b) i) (λ i. is_wanted wanted i ≡ true) each_item (gate_refs u.gate) (view_own b sound k u here);
+  }
+
+  pub all_closed : IsClosed b wanted
+  all_closed = record {
+    each = λ i c w.
+        let (k, low, at) = Contains-permutation (items b) b.order i sound.all_items c in
+        Each-weaker (StandsBefore b.order k) (λ j. is_wanted wanted j ≡ true) (λ j h. each_ordered h.0 j h.2) (refs b i) (sound.ordered k i (slice_get_read b.order (length b.order) k i refl low (sym at)));
+  }
