@@ -1,12 +1,11 @@
 -- The read data, slot by slot and word by word.
-use Rattle.std.proofs.Common.{◌≡◌, ℕ, zero, suc, ◌+◌, ◌-◌, ◌*◌, ◌^◌, ◌<◌, ◌≤◌, ◌==◌, nat_lt, lt-ltb, bit_or, Bool, true, false, ◌&&◌, if◌then◌else◌, Option, Some, None, List, [], ◌∷◌, ◌++◌, length, fold, take, slice_get, get_or, refl, sym, ap, ◌∙◌, subst, arith, inl, inr, ◌⊎◌}
+use Rattle.std.proofs.Common.{◌≡◌, ℕ, suc, ◌+◌, ◌-◌, ◌*◌, ◌^◌, ◌<◌, ◌≤◌, ◌==◌, nat_lt, lt-ltb, bit_or, Bool, true, false, if◌then◌else◌, Option, Some, None, List, [], ◌∷◌, ◌++◌, length, fold, take, slice_get, get_or, refl, sym, ap, ◌∙◌, subst, arith, inl, inr, ◌⊎◌}
 use Rattle.std.specs.Option.{option_map_or}
 use Rattle.std.proofs.lemmas.List.{length-append, get_or_append_left, get_or_at, take_more, take_all}
-use Rattle.std.proofs.lemmas.Option.{same_Some}
 use Rattle.std.specs.Int.Bits.{or_zero_l, or_zero_r}
 use Rattle.rb_base.specs.Bits.{part}
 use Rattle.rtl_net.specs.Value.{At, bit_of}
-use Rattle.rtl_net.specs.Net.{Net, Grows, IsNode, Settles, Stands}
+use Rattle.rtl_net.specs.Net.{Net, Grows, IsNode, Stands}
 use Rattle.rtl_net.specs.Graft.{at}
 use Rattle.rtl_net.specs.declared.node.Id.{Id}
 use Rattle.rtl_net.proofs.Nets.{Grows-refl, Grows-trans}
@@ -17,17 +16,15 @@ use Rattle.rb_model.specs.declared.block.Field.{Field}
 use Rattle.rb_model.specs.declared.block.View.{View}
 use Rattle.rb_model.specs.declared.block.Slot.{Slot}
 use Rattle.rb_model.specs.declared.block.Word.{Word}
-use Rattle.rb_model.specs.Items.{Access, NoAccess, Read, Write, Now, ItemValues, AreItemValues, slots_of}
+use Rattle.rb_model.specs.Items.{Access, NoAccess, Read, Write, ItemValues, slots_of}
 use Rattle.rb_model.specs.Machine.{read_data, slot_value}
 use Rattle.rb_plan.specs.Behind.{IsThere}
-use Rattle.rb_plan.specs.Table.{item_place}
 use Rattle.gen_scene.specs.declared.base.Inlet.{Inlet}
-use Rattle.gen_scene.specs.declared.scene.Scene.{Scene}
-use Rattle.gen_scene.specs.Worth.{Finds, IsWorth}
+use Rattle.gen_scene.specs.Worth.{IsWorth}
 use Rattle.gen_scene.proofs.Worths.{IsWorth-grows}
-use Rattle.gen_access.specs.Words.{SlotFits, is_at, read_word}
+use Rattle.gen_access.specs.Words.{is_at, read_word}
 use Rattle.gen_moves.specs.Moves.{IsMade}
-use Rattle.gen_edge.specs.Edges.{IsAnswerOf, IsScene, shown_by}
+use Rattle.gen_edge.specs.Edges.{IsAnswerOf, shown_by}
 
 -- One slot
 
@@ -56,13 +53,13 @@ slot_made b a old n1 n2 new s u f value bits shown acc id w some here on h1 h2 h
         let q0 = h1.settles x q1 in
         let e : s.from + (s.bits - 1) ≡ s.from + s.bits - 1 = omega (arith, some) in
         let cut_is : x.node bits.0 ≡ part (items (item.Field u.field)) (s.from + s.bits - 1) s.from
-          = cut.value x q1 ∙ ap (λ y. part y (s.from + (s.bits - 1)) s.from) (at.value x q0 n found items c) ∙ ap (λ h. part (items (item.Field u.field)) h s.from) e in
+        = cut.value x q1 ∙ ap (λ y. part y (s.from + (s.bits - 1)) s.from) (at.value x q0 n found items c) ∙ ap (λ h. part (items (item.Field u.field)) h s.from) e in
         let is : slot_value b items s ≡ part (items (item.Field u.field)) (s.from + s.bits - 1) s.from * 2 ^ s.low
-          = ap (λ o. option_map_or (λ w. if w.reads then part (items (item.Field w.field)) (s.from + s.bits - 1) s.from * 2 ^ s.low else 0) o 0) here
-            ∙ ap (λ c. if c then part (items (item.Field u.field)) (s.from + s.bits - 1) s.from * 2 ^ s.low else 0) on in
+        = ap (λ o. option_map_or (λ w. if w.reads then part (items (item.Field w.field)) (s.from + s.bits - 1) s.from * 2 ^ s.low else 0) o 0) here
+        ∙ ap (λ c. if c then part (items (item.Field u.field)) (s.from + s.bits - 1) s.from * 2 ^ s.low else 0) on in
         node.value x q
-          ∙ ap (λ y. bit_or y (x.node shown.0)) (was.value x q0 n found items c)
-          ∙ ap (λ y. bit_or (g n items) y) (raised.value x q2 ∙ ap (λ y. y * 2 ^ s.low) cut_is ∙ sym is);
+        ∙ ap (λ y. bit_or y (x.node shown.0)) (was.value x q0 n found items c)
+        ∙ ap (λ y. bit_or (g n items) y) (raised.value x q2 ∙ ap (λ y. y * 2 ^ s.low) cut_is ∙ sym is);
   };
 }
 
@@ -106,10 +103,10 @@ chosen b a old net new hit all none id slots w wide h1 h2 at zeros node = record
     value = λ x q n found items c.
         let q1 = h2.settles x q in
         node.value x q
-          ∙ ap (λ y. if y == 1 then x.node all.0 else x.node none.0) (on.value x (h1.settles x q1) n found items c)
-          ∙ ap (λ y. if bit_of (is_at j (read_word n.access)) == 1 then y else x.node none.0) (at.value x q1 n found items c)
-          ∙ ap (λ y. if bit_of (is_at j (read_word n.access)) == 1 then shown_by b items slots else y) (zeros.value x q1)
-          ∙ bit (is_at j (read_word n.access)) (shown_by b items slots);
+        ∙ ap (λ y. if y == 1 then x.node all.0 else x.node none.0) (on.value x (h1.settles x q1) n found items c)
+        ∙ ap (λ y. if bit_of (is_at j (read_word n.access)) == 1 then y else x.node none.0) (at.value x q1 n found items c)
+        ∙ ap (λ y. if bit_of (is_at j (read_word n.access)) == 1 then shown_by b items slots else y) (zeros.value x q1)
+        ∙ bit (is_at j (read_word n.access)) (shown_by b items slots);
   };
 }
   where
@@ -143,10 +140,10 @@ answers_more b a first net new ids more words end word hit id here to h e answer
         (sym (ap (λ t. at t k) added ∙ get_or_append_left ids (id ∷ []) (record { 0 = 0 }) k (let z = to.long in omega arith)))
         (IsWorth-grows b a net new (at ids k) 32 (λ n v. if is_at k (read_word n.access) then shown_by b v (slots_of words k) else 0) h (to.each k p))
     | inr p ↦
-      let slots : slots_of words end ≡ word.slots = ap (λ o. option_map_or (λ w. w.slots) o []) here in
-      let r = subst (λ ss. IsWorth b a new id 32 (λ n v. if is_at end (read_word n.access) then shown_by b v ss else 0)) (sym slots) (answer.worth end on) in
-      let R : ℕ → Type 0 = λ k. IsWorth b a new (at more k) 32 (λ n v. if is_at k (read_word n.access) then shown_by b v (slots_of words k) else 0) in
-      subst R (sym p) (subst (λ i. IsWorth b a new i 32 (λ n v. if is_at end (read_word n.access) then shown_by b v (slots_of words end) else 0))
+        let slots : slots_of words end ≡ word.slots = ap (λ o. option_map_or (λ w. w.slots) o []) here in
+        let r = subst (λ ss. IsWorth b a new id 32 (λ n v. if is_at end (read_word n.access) then shown_by b v ss else 0)) (sym slots) (answer.worth end on) in
+        let R : ℕ → Type 0 = λ k. IsWorth b a new (at more k) 32 (λ n v. if is_at k (read_word n.access) then shown_by b v (slots_of words k) else 0) in
+        subst R (sym p) (subst (λ i. IsWorth b a new i 32 (λ n v. if is_at end (read_word n.access) then shown_by b v (slots_of words end) else 0))
         (sym (ap (λ t. at t end) added ∙ get_or_at ids id [] (record { 0 = 0 }) end to.long)) r)
   ];
 }
@@ -167,7 +164,7 @@ or_one x (id ∷ ids) o i D h =
     let zero_plus : o + 0 ≡ o = omega arith in
     let first : x.node id.0 ≡ (if is_at o i then D o else 0) = h 0 (omega arith) ∙ ap (λ k. if is_at k i then D k else 0) zero_plus in
     let rest : or_of x ids ≡ option_map_or (λ j. if nat_lt j (o + 1) then 0 else (if nat_lt j (o + 1 + length ids) then D j else 0)) i 0
-      = or_one x ids (o + 1) i D (λ k l. h (suc k) (omega arith) ∙ ap (λ m. if is_at m i then D m else 0) (let z : o + suc k ≡ o + 1 + k = omega arith in z)) in
+    = or_one x ids (o + 1) i D (λ k l. h (suc k) (omega arith) ∙ ap (λ m. if is_at m i then D m else 0) (let z : o + suc k ≡ o + 1 + k = omega arith in z)) in
     ap (λ y. bit_or y (or_of x ids)) first ∙ ap (λ y. bit_or (if is_at o i then D o else 0) y) rest ∙ join i (length ids)
   where
     where_is : (j o l : ℕ) → ((j ≡ o) × ((j == o) ≡ true) × (nat_lt j o ≡ false) × (nat_lt j (o + 1) ≡ true) × (nat_lt j (o + suc l) ≡ true))
@@ -189,9 +186,9 @@ answered b a net new ids id h long each node = record {
   stands = node.stands;
   value = λ x q n found items c.
       node.value x q
-        ∙ or_one x ids 0 (read_word n.access) (λ k. shown_by b items (slots_of b.reads k))
-            (λ k l. (each k (omega arith)).value x (h.settles x q) n found items c ∙ ap (λ m. if is_at m (read_word n.access) then shown_by b items (slots_of b.reads m) else 0) (let z : k ≡ 0 + k = omega arith in z))
-        ∙ by items n.access found.there;
+      ∙ or_one x ids 0 (read_word n.access) (λ k. shown_by b items (slots_of b.reads k))
+      (λ k l. (each k (omega arith)).value x (h.settles x q) n found items c ∙ ap (λ m. if is_at m (read_word n.access) then shown_by b items (slots_of b.reads m) else 0) (let z : k ≡ 0 + k = omega arith in z))
+      ∙ by items n.access found.there;
 }
   where
     by : (items : ItemValues) (acc : Access) → IsThere b acc → option_map_or (λ j. if nat_lt j 0 then 0 else (if nat_lt j (0 + length ids) then shown_by b items (slots_of b.reads j) else 0)) (read_word acc) 0 ≡ read_data b items acc

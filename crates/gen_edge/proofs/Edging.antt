@@ -1,12 +1,11 @@
 -- What software and hardware make of a field, in the order of its precedence.
-use Rattle.std.proofs.Common.{◌≡◌, ℕ, ◌+◌, ◌<◌, ◌==◌, nat_lt, Bool, true, false, not, ◌&&◌, ◌||◌, if◌then◌else◌, Option, Some, None, List, [], ◌∷◌, length, fold, slice_get, refl, sym, ap, ◌∙◌, subst, arith}
+use Rattle.std.proofs.Common.{◌≡◌, ℕ, ◌<◌, nat_lt, Bool, true, false, not, ◌&&◌, ◌||◌, if◌then◌else◌, Some, List, [], ◌∷◌, length, fold, slice_get, refl, sym, ap, ◌∙◌, subst, arith}
 use Rattle.std.specs.List.{list_any}
 use Rattle.std.specs.Option.{option_map_or}
 use Rattle.std.proofs.lemmas.Option.{slice_get_within}
-use Rattle.rtl_net.specs.Net.{Net, Grows, Stands}
+use Rattle.rtl_net.specs.Net.{Net, Grows}
 use Rattle.rtl_net.specs.Graft.{at}
 use Rattle.rtl_net.specs.declared.node.Id.{Id}
-use Rattle.rtl_net.proofs.Nets.{Grows-trans}
 use Rattle.rb_model.specs.declared.kinds.Class.{Class}
 use Rattle.rb_model.specs.declared.kinds.Class.TheVariants.{Storage, Wire, Constant}
 use Rattle.rb_model.specs.declared.kinds.RefItem.{RefItem}
@@ -16,9 +15,9 @@ use Rattle.rb_model.specs.declared.block.Field.{Field}
 use Rattle.rb_model.specs.declared.block.Slot.{Slot}
 use Rattle.rb_model.specs.Effects.{acts}
 use Rattle.rb_model.specs.Kept.{Done, Val, is_storage}
-use Rattle.rb_model.specs.Items.{Access, NoAccess, Read, Write, Now, ItemValues, AreItemValues, class_value, made, shows, slots_of}
+use Rattle.rb_model.specs.Items.{Access, NoAccess, Read, Write, Now, ItemValues, AreItemValues, class_value, shows, slots_of}
 use Rattle.rb_model.specs.Machine.{changed, hardware, slot_read, slot_written, software, uses_up, view_gate}
-use Rattle.std.specs.Prelude.{Contains, ◌++◌}
+use Rattle.std.specs.Prelude.{Contains}
 use Rattle.std.specs.List.{enumerate_from, flat_map}
 use Rattle.std.proofs.lemmas.List.Elements.{Contains-append_left, Contains-append_right}
 use Rattle.rtl_net.proofs.Places.{item_at}
@@ -28,8 +27,7 @@ use Rattle.rb_plan.specs.Behind.{IsThere}
 use Rattle.rb_plan.specs.Table.{item_place}
 use Rattle.gen_scene.specs.declared.base.Inlet.{Inlet}
 use Rattle.gen_scene.specs.declared.scene.Scene.{Scene}
-use Rattle.gen_scene.specs.Items.{IsItem}
-use Rattle.gen_scene.specs.Worth.{Finds, IsWorth}
+use Rattle.gen_scene.specs.Worth.{IsWorth}
 use Rattle.gen_scene.proofs.Worths.{IsBase-grows, IsItem-grows, worth_as}
 use Rattle.gen_access.specs.declared.software.Effect.TheVariants as effect
 use Rattle.gen_access.specs.Tables.{AreNodes, AreWorth, Changes}
@@ -37,7 +35,7 @@ use Rattle.gen_access.specs.Words.{below, data_of, read_word, written_word}
 use Rattle.gen_access.specs.Effects.{reached_by, slot_effect, words_of}
 use Rattle.gen_access.specs.Touches.{one_bit}
 use Rattle.gen_access.proofs.Turns.{HasViews-grows, Changes-trans}
-use Rattle.gen_moves.specs.Moves.{HasFields, moved_in}
+use Rattle.gen_moves.specs.Moves.{moved_in}
 use Rattle.gen_moves.proofs.Sweeps.{HasFields-grows}
 use Rattle.gen_edge.specs.Edges.{AreMoved, AreUsed, AreValues, HasPlaces, IsScene, edge_step}
 
@@ -55,15 +53,15 @@ within i j l = grind arith
 -- the accessed word is among all words
 pub software_is : (b : Block) (n : Now) (v : ItemValues) (k : ℕ) (f : Field) (x : ℕ) → IsThere b n.access
     → below (words_of b effect.Read) (reached_by effect.Read) (slot_effect b effect.Read) (length (words_of b effect.Read)) n v k f
-        (below (words_of b effect.Written) (reached_by effect.Written) (slot_effect b effect.Written) (length (words_of b effect.Written)) n v k f x)
+    (below (words_of b effect.Written) (reached_by effect.Written) (slot_effect b effect.Written) (length (words_of b effect.Written)) n v k f x)
     ≡ software b n v n.access k f x
 software_is b n v k f x there = by n.access refl there
   where
     by : (a : Access) → n.access ≡ a → IsThere b a
         → option_map_or (λ i. if nat_lt i (length b.reads) then fold (slot_read b k f)
-            (option_map_or (λ i. if nat_lt i (length b.writes) then fold (slot_written b n v k f (data_of n.access)) x (slots_of b.writes i) else x) (written_word a) x) (slots_of b.reads i)
-            else option_map_or (λ i. if nat_lt i (length b.writes) then fold (slot_written b n v k f (data_of n.access)) x (slots_of b.writes i) else x) (written_word a) x)
-            (read_word a) (option_map_or (λ i. if nat_lt i (length b.writes) then fold (slot_written b n v k f (data_of n.access)) x (slots_of b.writes i) else x) (written_word a) x)
+        (option_map_or (λ i. if nat_lt i (length b.writes) then fold (slot_written b n v k f (data_of n.access)) x (slots_of b.writes i) else x) (written_word a) x) (slots_of b.reads i)
+        else option_map_or (λ i. if nat_lt i (length b.writes) then fold (slot_written b n v k f (data_of n.access)) x (slots_of b.writes i) else x) (written_word a) x)
+        (read_word a) (option_map_or (λ i. if nat_lt i (length b.writes) then fold (slot_written b n v k f (data_of n.access)) x (slots_of b.writes i) else x) (written_word a) x)
         ≡ software b n v a k f x
     by NoAccess e t = refl
     by (Read i) e t = ap (λ c. if c then fold (slot_read b k f) x (slots_of b.reads i) else x) (within i (length b.reads) t)
@@ -84,8 +82,8 @@ changed_is b n v k f x storage = by f.hw_first storage
 value_among : (b : Block) (k : ℕ) (f : Field) → slice_get b.fields k ≡ Some f → Contains (items b) (item.Field k)
 value_among b k f e =
     Contains-append_left _ (flat_map reg_items (enumerate_from 0 b.regs)) (item.Field k)
-      (Contains-append_right (flat_map (λ s. item.Signal s.0 ∷ []) (enumerate_from 0 b.signals)) (flat_map field_items (enumerate_from 0 b.fields)) (item.Field k)
-      (Each-from_zero (λ x. (y : RefItem) → Contains (field_items x) y → Contains (flat_map field_items (enumerate_from 0 b.fields)) y) b.fields k f (Each-parts field_items (enumerate_from 0 b.fields)) e (item.Field k) (0, omega arith, refl)))
+    (Contains-append_right (flat_map (λ s. item.Signal s.0 ∷ []) (enumerate_from 0 b.signals)) (flat_map field_items (enumerate_from 0 b.fields)) (item.Field k)
+    (Each-from_zero (λ x. (y : RefItem) → Contains (field_items x) y → Contains (flat_map field_items (enumerate_from 0 b.fields)) y) b.fields k f (Each-parts field_items (enumerate_from 0 b.fields)) e (item.Field k) (0, omega arith, refl)))
 
 pub has_places : (net : Net) (s : Scene) → IsScene net s → HasPlaces s
 has_places net s h = record { each = λ k l. let r = item_at s.base.now.block.now.fields k l in (h.values k r.0 r.1).within }

@@ -1,5 +1,5 @@
 -- Tables built one field after the other.
-use Rattle.std.proofs.Common.{◌≡◌, ℕ, ◌+◌, ◌<◌, ◌≤◌, if◌then◌else◌, Some, List, [], ◌∷◌, ◌++◌, length, slice_get, refl, sym, ap, ◌∙◌, subst, arith, inl, inr, ◌⊎◌}
+use Rattle.std.proofs.Common.{◌≡◌, ℕ, ◌+◌, ◌<◌, Some, List, [], ◌∷◌, ◌++◌, length, slice_get, refl, sym, ap, ◌∙◌, subst, arith, inl, inr, ◌⊎◌}
 use Rattle.std.proofs.lemmas.List.{length-append, get_or_append_left, get_or_at}
 use Rattle.std.proofs.lemmas.Option.{slice_get_within}
 use Rattle.rtl_net.specs.Net.{Net, Grows}
@@ -59,8 +59,8 @@ nodes_more b a first net new ids more width g end id to h same here e = record {
   each = λ k f l q. elim (split k end l) [
     | inl p ↦ subst (λ i. IsWorth b a new i (width f) (g k f)) (sym (ap (λ t. at t k) e ∙ at_front ids id k (let z = to.long in omega arith))) (IsWorth-grows b a net new (at ids k) (width f) (g k f) h (to.each k f p q))
     | inr p ↦
-      let R : ℕ → Type 0 = λ k. IsWorth b a new (at more k) (width f) (g k f) in
-      subst R (sym p) (subst (λ i. IsWorth b a new i (width f) (g end f)) (sym (ap (λ t. at t end) e ∙ at_end ids id end to.long)) (here f (ap (slice_get b.fields) (sym p) ∙ q)))
+        let R : ℕ → Type 0 = λ k. IsWorth b a new (at more k) (width f) (g k f) in
+        subst R (sym p) (subst (λ i. IsWorth b a new i (width f) (g end f)) (sym (ap (λ t. at t end) e ∙ at_end ids id end to.long)) (here f (ap (slice_get b.fields) (sym p) ∙ q)))
   ];
 }
 

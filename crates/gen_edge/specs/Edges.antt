@@ -1,5 +1,5 @@
 -- What an edge makes of a block, as nodes.
-use Rattle.std.specs.Prelude.{◌≡◌, ℕ, ◌<◌, ◌&&◌, Bool, true, false, if◌then◌else◌, Some, unwrap_or, List, length, slice_get, fold, bit_or}
+use Rattle.std.specs.Prelude.{◌≡◌, ℕ, ◌<◌, ◌&&◌, true, false, if◌then◌else◌, Some, unwrap_or, List, length, slice_get, fold, bit_or}
 use Rattle.rtl_net.specs.Value.{bit_of}
 use Rattle.rtl_net.specs.Net.{Net, Stands}
 use Rattle.rtl_net.specs.Graft.{at}

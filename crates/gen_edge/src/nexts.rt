@@ -98,6 +98,7 @@ fn reset_in(
     id: Id,
 ) -> Result<Id, NoMemory>
     requires scene { spec.IsScene net.old scene.now }
+    requires kept { spec.IsKeptBy scene.now.base.now.block.now (kept_seen kept) }
     requires field { slice_get scene.now.base.now.block.now.fields (spec.number_in (kept_seen kept)) ≡ Some field.now }
     requires stands { Stands net.old id (kept_width (kept_seen kept) field.now) }
     ensures older { Grows net.old net.new }

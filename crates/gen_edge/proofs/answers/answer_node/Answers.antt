@@ -1,25 +1,12 @@
-use Rattle.std.proofs.Common.{◌≡◌, ℕ, ◌+◌, ◌-◌, ◌<◌, ◌≤◌, Some, if◌then◌else◌, get_or, length, slice_get, refl, sym, ap, ◌∙◌, subst, arith}
-use Rattle.std.proofs.lemmas.Option.{slice_get_within}
-use Rattle.rtl_net.specs.Value.{At}
+use Rattle.std.proofs.Common.{◌≡◌, ℕ, ◌<◌, ◌≤◌, get_or, length, sym, ap, ◌∙◌, subst, arith}
 use Rattle.std.proofs.lemmas.List.{get_or_default}
 use Rattle.net_gates.specs.Gates.{or_of}
-use Rattle.rtl_net.specs.Net.{Net, IsNode, Stands, width_in}
-use Rattle.rtl_net.proofs.Nets.{Grows-refl, Grows-trans, IsNode-grows, Stands-grows}
+use Rattle.rtl_net.specs.Net.{IsNode, Stands}
 use Rattle.rtl_net.proofs.Places.{read_at}
-use Rattle.rb_base.specs.Bits.{part}
-use Rattle.rb_model.specs.declared.kinds.RefItem.TheVariants as item
-use Rattle.rb_model.specs.declared.block.Slot.{Slot}
-use Rattle.rb_model.specs.SoundField.{FieldIsSoundIn}
-use Rattle.rb_model.specs.Sound.{WordIsSound}
-use Rattle.rb_model.specs.References.{item_width}
-use Rattle.rb_model.proofs.Eachs.{Each-at, Each-from_zero}
-use Rattle.rb_plan.specs.Table.{item_place}
-use Rattle.gen_scene.specs.Worth.{IsWorth}
-use Rattle.gen_access.specs.Words.{AreHitsOf, read_word}
-use Rattle.gen_access.proofs.Turns.{AreHitsOf-grows, field_there, slot_fits}
-use Rattle.gen_moves.proofs.Making.{made_none}
+use Rattle.gen_access.specs.Words.{read_word}
+use Rattle.gen_access.proofs.Turns.{AreHitsOf-grows}
 use Rattle.gen_edge.proofs.Edging.{IsScene-grows}
-use Rattle.gen_edge.proofs.Answering.{answered, answers_more, answers_none, chosen, data_all, data_more, data_none, slot_made, unread}
+use Rattle.gen_edge.proofs.Answering.{answered, answers_more}
 use Rattle.gen_edge.proofs.answers.answer_node.Goals as goal
 
 pub word_answer-requires-clause-scene : goal.word_answer-requires-clause-scene
@@ -35,7 +22,7 @@ loop-number-preserved c =
     let low : j < length b.reads = (let l = ap length value in omega (arith, c.loop-number-test.true)) in
     let hit = (AreHitsOf-grows b a c.args.net.now c.loop-number.net b.reads read_word c.args.hits.now c.loop-number.invariant.older c.requires.hits).each j low in
     answers_more b a c.args.net.now c.loop-number.net c.word_answer.new.net c.loop-number.answers.items c.push.new.self.items b.reads j c.index-words-number.result _ c.in_ok-word_answer.field-0 here c.loop-number.invariant
-      c.in_ok-word_answer.ensures.older c.in_ok-word_answer.ensures.name c.in_ok-word_answer.ensures.worth hit c.in_ok-push.ensures.items
+    c.in_ok-word_answer.ensures.older c.in_ok-word_answer.ensures.name c.in_ok-word_answer.ensures.worth hit c.in_ok-push.ensures.items
 
 all_words : (n m k : ℕ) → n ≡ m → n ≤ k → k ≤ n → k ≡ m
 all_words n m k e l h = omega arith
@@ -56,4 +43,4 @@ returns-clause-worth c =
     let value : c.deref-words.result.now ≡ b.reads = c.deref-words.ensures.value ∙ ap (λ b. b.reads) c.block.view_is in
     let all : c.loop-number.number ≡ length b.reads = all_words (length c.deref-words.result.now) (length b.reads) c.loop-number.number (ap length value) c.loop-number-test.false c.loop-number.auto.number-end in
     answered b a c.loop-number.net c.or_all.new.net items c.in_ok-id.id c.in_ok-id.ensures.older (c.loop-number.invariant.long ∙ all) (λ k l. c.loop-number.invariant.each k (omega arith))
-      (subst (λ xs. IsNode c.or_all.new.net c.in_ok-id.id 32 (λ x. or_of x xs)) c.deref.ensures.value c.in_ok-id.ensures.node)
+    (subst (λ xs. IsNode c.or_all.new.net c.in_ok-id.id 32 (λ x. or_of x xs)) c.deref.ensures.value c.in_ok-id.ensures.node)

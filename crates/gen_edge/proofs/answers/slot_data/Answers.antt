@@ -1,23 +1,14 @@
-use Rattle.std.proofs.Common.{◌≡◌, ℕ, ◌+◌, ◌-◌, ◌<◌, ◌≤◌, Some, if◌then◌else◌, length, slice_get, refl, sym, ap, ◌∙◌, subst, arith}
-use Rattle.std.proofs.lemmas.Option.{slice_get_within}
-use Rattle.rtl_net.specs.Value.{At}
-use Rattle.rtl_net.specs.Net.{Net, Stands, width_in}
-use Rattle.rtl_net.proofs.Nets.{Grows-refl, Grows-trans, IsNode-grows, IsNode-is, Stands-grows}
-use Rattle.rtl_net.proofs.Places.{read_at}
-use Rattle.rb_base.specs.Bits.{part}
+use Rattle.std.proofs.Common.{◌≤◌, refl, sym, subst, arith}
+use Rattle.rtl_net.specs.Net.{width_in}
+use Rattle.rtl_net.proofs.Nets.{Grows-trans, IsNode-is, Stands-grows}
 use Rattle.rb_model.specs.declared.kinds.RefItem.TheVariants as item
-use Rattle.rb_model.specs.declared.block.Slot.{Slot}
 use Rattle.rb_model.specs.SoundField.{FieldIsSoundIn}
-use Rattle.rb_model.specs.Sound.{WordIsSound}
 use Rattle.rb_model.specs.References.{item_width}
-use Rattle.rb_model.proofs.Eachs.{Each-at, Each-from_zero}
-use Rattle.rb_plan.specs.Table.{item_place}
+use Rattle.rb_model.proofs.Eachs.{Each-from_zero}
 use Rattle.gen_scene.specs.Worth.{IsWorth}
-use Rattle.gen_access.specs.Words.{AreHitsOf, read_word}
-use Rattle.gen_access.proofs.Turns.{AreHitsOf-grows, field_there, slot_fits}
+use Rattle.gen_access.proofs.Turns.{field_there}
 use Rattle.gen_moves.proofs.Making.{made_none}
-use Rattle.gen_edge.proofs.Edging.{IsScene-grows}
-use Rattle.gen_edge.proofs.Answering.{answered, answers_more, answers_none, chosen, data_all, data_more, data_none, slot_made, unread}
+use Rattle.gen_edge.proofs.Answering.{slot_made, unread}
 use Rattle.gen_edge.proofs.answers.slot_data.Goals as goal
 
 pub returns-then-not-view-clause-made : goal.returns-then-not-view-clause-made
@@ -42,6 +33,6 @@ returns-clause-made c =
     let at = (c.requires.scene.values u.field f.0 f.1).worth in
     let value = subst (λ i. IsWorth b a c.args.net.now i (item_width b (item.Field u.field)) (λ n v. v (item.Field u.field))) (sym c.node-value.ensures) at in
     slot_made b a c.args.net.now c.slice.new.net c.placed.new.net c.merged.new.net c.args.slot u f.0 c.node-value.result c.in_ok-bits.bits c.in_ok-shown.shown c.args.acc c.in_ok-id.id
-      (item_width b (item.Field u.field)) c.requires.slot.some_bit c.view_at-view.ensures c.if-not-view.false c.in_ok-bits.ensures.older c.in_ok-shown.ensures.older c.in_ok-id.ensures.older
-      value c.in_ok-bits.ensures.node c.in_ok-shown.ensures.node
-      (IsNode-is c.merged.new.net c.in_ok-id.id (width_in c.placed.new.net c.args.acc) 32 _ _ c.in_ok-id.ensures.node (Stands-grows c.args.net.now c.placed.new.net c.args.acc 32 (Grows-trans c.args.net.now c.slice.new.net c.placed.new.net c.in_ok-bits.ensures.older c.in_ok-shown.ensures.older) c.requires.acc).width (λ x s. refl))
+    (item_width b (item.Field u.field)) c.requires.slot.some_bit c.view_at-view.ensures c.if-not-view.false c.in_ok-bits.ensures.older c.in_ok-shown.ensures.older c.in_ok-id.ensures.older
+    value c.in_ok-bits.ensures.node c.in_ok-shown.ensures.node
+    (IsNode-is c.merged.new.net c.in_ok-id.id (width_in c.placed.new.net c.args.acc) 32 _ _ c.in_ok-id.ensures.node (Stands-grows c.args.net.now c.placed.new.net c.args.acc 32 (Grows-trans c.args.net.now c.slice.new.net c.placed.new.net c.in_ok-bits.ensures.older c.in_ok-shown.ensures.older) c.requires.acc).width (λ x s. refl))

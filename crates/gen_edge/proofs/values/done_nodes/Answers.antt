@@ -1,21 +1,10 @@
-use Rattle.std.proofs.Common.{◌≡◌, ℕ, ◌<◌, Some, if◌then◌else◌, length, slice_get, refl, sym, ap, ◌∙◌, subst, arith}
-use Rattle.std.proofs.lemmas.Option.{slice_get_within}
-use Rattle.rtl_net.specs.Net.{MayHave, seen_or_zero}
-use Rattle.rtl_net.proofs.Nets.{Grows-trans}
+use Rattle.std.proofs.Common.{◌≡◌, if◌then◌else◌, length, ap, ◌∙◌, arith}
+use Rattle.rtl_net.specs.Net.{seen_or_zero}
 use Rattle.rtl_net.proofs.Places.{item_at}
 use Rattle.rb_model.specs.Kept.{Done}
-use Rattle.rb_model.specs.declared.kinds.RefItem.TheVariants as item
 use Rattle.gen_scene.proofs.Worths.{IsBase-grows, worth_read}
-use Rattle.gen_access.specs.declared.software.Effect.TheVariants as effect
-use Rattle.gen_access.specs.Tables.{AreNodes, AreWorth, Changes}
-use Rattle.gen_access.specs.Words.{AreHitsOf, read_word, written_word}
-use Rattle.gen_access.specs.Effects.{reached_by, words_of}
 use Rattle.gen_access.specs.Touches.{one_bit}
-use Rattle.gen_access.proofs.Turns.{AreHitsOf-grows, HasViews-grows, lent}
-use Rattle.gen_moves.proofs.Sweeps.{HasFields-grows}
-use Rattle.gen_edge.specs.Edges.{AreMoved, AreUsed, edge_step}
-use Rattle.gen_edge.proofs.Edging.{IsScene-grows, all_moved, all_used, edge_passes, has_places, values_stand, values_worth}
-use Rattle.gen_edge.proofs.Tabling.{nodes_more, nodes_none, nodes_stand, nodes_worth, values_more}
+use Rattle.gen_edge.proofs.Tabling.{nodes_more, nodes_stand, nodes_worth}
 use Rattle.gen_edge.proofs.values.done_nodes.Goals as goal
 
 pub present-requires-clause-stands : goal.present-requires-clause-stands
@@ -31,10 +20,10 @@ loop-number-preserved c =
     let a = c.args.base.now.inlet in
     let n = c.loop-number.net in
     nodes_more b a c.args.net.now n c.present.new.net c.loop-number.table.items c.push.new.self.items one_bit (λ k f n v. if f.once then n.kept (Done k) else 0) c.loop-number.number c.in_ok-present.field-0
-      c.loop-number.invariant c.in_ok-present.ensures.older c.in_ok-present.ensures.name
-      (λ f h. worth_read b a n c.present.new.net c.in_ok-present.field-0 1 (λ x. seen_or_zero x c.done-done.result) (λ m v. if f.once then m.kept (Done c.loop-number.number) else 0) c.in_ok-present.ensures.older c.in_ok-present.ensures.node
-          (c.done-done.ensures n f (IsBase-grows c.args.net.now n c.loop-number.invariant.older c.args.base.now c.requires) h).read)
-      c.in_ok-push.ensures.items
+    c.loop-number.invariant c.in_ok-present.ensures.older c.in_ok-present.ensures.name
+    (λ f h. worth_read b a n c.present.new.net c.in_ok-present.field-0 1 (λ x. seen_or_zero x c.done-done.result) (λ m v. if f.once then m.kept (Done c.loop-number.number) else 0) c.in_ok-present.ensures.older c.in_ok-present.ensures.node
+    (c.done-done.ensures n f (IsBase-grows c.args.net.now n c.loop-number.invariant.older c.args.base.now c.requires) h).read)
+    c.in_ok-push.ensures.items
 
 pub returns-clause-table : goal.returns-clause-table
 returns-clause-table c =

@@ -1,21 +1,9 @@
-use Rattle.std.proofs.Common.{◌≡◌, ℕ, ◌<◌, Some, if◌then◌else◌, length, slice_get, refl, sym, ap, ◌∙◌, subst, arith}
-use Rattle.std.proofs.lemmas.Option.{slice_get_within}
-use Rattle.rtl_net.specs.Net.{MayHave, seen_or_zero}
-use Rattle.rtl_net.proofs.Nets.{Grows-trans}
-use Rattle.rtl_net.proofs.Places.{item_at}
-use Rattle.rb_model.specs.Kept.{Done}
+use Rattle.std.proofs.Common.{◌≡◌, length, sym, subst, arith}
 use Rattle.rb_model.specs.declared.kinds.RefItem.TheVariants as item
-use Rattle.gen_scene.proofs.Worths.{IsBase-grows, worth_read}
-use Rattle.gen_access.specs.declared.software.Effect.TheVariants as effect
-use Rattle.gen_access.specs.Tables.{AreNodes, AreWorth, Changes}
-use Rattle.gen_access.specs.Words.{AreHitsOf, read_word, written_word}
-use Rattle.gen_access.specs.Effects.{reached_by, words_of}
-use Rattle.gen_access.specs.Touches.{one_bit}
-use Rattle.gen_access.proofs.Turns.{AreHitsOf-grows, HasViews-grows, lent}
-use Rattle.gen_moves.proofs.Sweeps.{HasFields-grows}
-use Rattle.gen_edge.specs.Edges.{AreMoved, AreUsed, edge_step}
-use Rattle.gen_edge.proofs.Edging.{IsScene-grows, all_moved, all_used, edge_passes, has_places, values_stand, values_worth}
-use Rattle.gen_edge.proofs.Tabling.{nodes_more, nodes_none, nodes_stand, nodes_worth, values_more}
+use Rattle.gen_access.specs.Tables.{AreNodes, AreWorth}
+use Rattle.gen_access.proofs.Turns.{lent}
+use Rattle.gen_edge.specs.Edges.{AreMoved}
+use Rattle.gen_edge.proofs.Edging.{all_moved, has_places, values_stand, values_worth}
 use Rattle.gen_edge.proofs.values.moved_nodes.Goals as goal
 
 pub value_nodes-requires : goal.value_nodes-requires
@@ -30,7 +18,7 @@ returns-clause-moved c =
     let b = c.args.scene.now.base.now.block.now in
     let a = c.args.scene.now.base.now.inlet in
     let before : AreWorth b a c.args.net.now c.deref_mut.result.now (λ f. f.width) (λ k f n v. v (item.Field k))
-      = subst (λ t. AreWorth b a c.args.net.now t (λ f. f.width) (λ k f n v. v (item.Field k))) (sym c.deref_mut.ensures.value) (values_worth c.args.net.now c.args.scene.now c.in_ok-table.table.items c.requires.scene c.in_ok-table.ensures) in
+    = subst (λ t. AreWorth b a c.args.net.now t (λ f. f.width) (λ k f n v. v (item.Field k))) (sym c.deref_mut.ensures.value) (values_worth c.args.net.now c.args.scene.now c.in_ok-table.table.items c.requires.scene c.in_ok-table.ensures) in
     let moved = all_moved b a c.args.net.now c.put_edge.new.net c.deref_mut.result.now c.put_edge.new.table c.in_ok-put_edge.ensures.table.long c.in_ok-put_edge.ensures.changes before in
     let long : length c.put_edge.new.table ≡ c.in_ok-table.table.len = (let l = c.in_ok-table.table.ok.0 in let p = c.in_ok-put_edge.ensures.table.long in let q = c.in_ok-table.ensures.long in omega arith) in
     subst (AreMoved b a c.put_edge.new.net) (sym (lent c.in_ok-table.table.len c.put_edge.new.table c.in_ok-table.table.items long)) moved

@@ -1,21 +1,9 @@
-use Rattle.std.proofs.Common.{◌≡◌, ℕ, ◌<◌, Some, if◌then◌else◌, length, slice_get, refl, sym, ap, ◌∙◌, subst, arith}
-use Rattle.std.proofs.lemmas.Option.{slice_get_within}
-use Rattle.rtl_net.specs.Net.{MayHave, seen_or_zero}
+use Rattle.std.proofs.Common.{sym, subst}
 use Rattle.rtl_net.proofs.Nets.{Grows-trans}
-use Rattle.rtl_net.proofs.Places.{item_at}
-use Rattle.rb_model.specs.Kept.{Done}
-use Rattle.rb_model.specs.declared.kinds.RefItem.TheVariants as item
-use Rattle.gen_scene.proofs.Worths.{IsBase-grows, worth_read}
-use Rattle.gen_access.specs.declared.software.Effect.TheVariants as effect
-use Rattle.gen_access.specs.Tables.{AreNodes, AreWorth, Changes}
 use Rattle.gen_access.specs.Words.{AreHitsOf, read_word, written_word}
-use Rattle.gen_access.specs.Effects.{reached_by, words_of}
-use Rattle.gen_access.specs.Touches.{one_bit}
-use Rattle.gen_access.proofs.Turns.{AreHitsOf-grows, HasViews-grows, lent}
+use Rattle.gen_access.proofs.Turns.{AreHitsOf-grows, HasViews-grows}
 use Rattle.gen_moves.proofs.Sweeps.{HasFields-grows}
-use Rattle.gen_edge.specs.Edges.{AreMoved, AreUsed, edge_step}
-use Rattle.gen_edge.proofs.Edging.{IsScene-grows, all_moved, all_used, edge_passes, has_places, values_stand, values_worth}
-use Rattle.gen_edge.proofs.Tabling.{nodes_more, nodes_none, nodes_stand, nodes_worth, values_more}
+use Rattle.gen_edge.proofs.Edging.{edge_passes}
 use Rattle.gen_edge.proofs.values.put_edge.Goals as goal
 
 pub software_nodes-requires-clause-views : goal.software_nodes-requires-clause-views
@@ -26,7 +14,7 @@ software_nodes-requires-clause-hits c =
     let b = c.args.scene.now.base.now.block.now in
     let a = c.args.scene.now.base.now.inlet in
     subst (λ xs. AreHitsOf b a c.hardware_nodes.new.net b.writes written_word xs) (sym c.deref.ensures.value)
-      (AreHitsOf-grows b a c.args.net.now c.hardware_nodes.new.net b.writes written_word c.args.hits.now.writes.items c.in_ok-hardware_nodes.ensures.older c.requires.writes)
+    (AreHitsOf-grows b a c.args.net.now c.hardware_nodes.new.net b.writes written_word c.args.hits.now.writes.items c.in_ok-hardware_nodes.ensures.older c.requires.writes)
 
 pub software_nodes-requires-2-clause-views : goal.software_nodes-requires-2-clause-views
 software_nodes-requires-2-clause-views c =
@@ -39,7 +27,7 @@ software_nodes-requires-2-clause-hits c =
     let a = c.args.scene.now.base.now.inlet in
     let g = Grows-trans c.args.net.now c.hardware_nodes.new.net c.software_nodes.new.net c.in_ok-hardware_nodes.ensures.older c.in_ok-software_nodes.ensures.older in
     subst (λ xs. AreHitsOf b a c.software_nodes.new.net b.reads read_word xs) (sym c.deref-2.ensures.value)
-      (AreHitsOf-grows b a c.args.net.now c.software_nodes.new.net b.reads read_word c.args.hits.now.reads.items g c.requires.reads)
+    (AreHitsOf-grows b a c.args.net.now c.software_nodes.new.net b.reads read_word c.args.hits.now.reads.items g c.requires.reads)
 
 pub hardware_nodes-requires-2-clause-fields : goal.hardware_nodes-requires-2-clause-fields
 hardware_nodes-requires-2-clause-fields c =
@@ -50,5 +38,5 @@ hardware_nodes-requires-2-clause-fields c =
 pub returns-clause-changes : goal.returns-clause-changes
 returns-clause-changes c =
     edge_passes c.args.scene.now.base.now.block.now c.args.scene.now.base.now.inlet c.args.net.now c.hardware_nodes.new.net c.software_nodes.new.net c.software_nodes-2.new.net c.hardware_nodes-2.new.net
-      c.args.table.now c.hardware_nodes.new.table c.software_nodes.new.table c.software_nodes-2.new.table c.hardware_nodes-2.new.table
-      c.in_ok-hardware_nodes.ensures.changes c.in_ok-software_nodes.ensures.changes c.in_ok-software_nodes-2.ensures.changes c.in_ok-hardware_nodes-2.ensures.changes
+    c.args.table.now c.hardware_nodes.new.table c.software_nodes.new.table c.software_nodes-2.new.table c.hardware_nodes-2.new.table
+    c.in_ok-hardware_nodes.ensures.changes c.in_ok-software_nodes.ensures.changes c.in_ok-software_nodes-2.ensures.changes c.in_ok-hardware_nodes-2.ensures.changes

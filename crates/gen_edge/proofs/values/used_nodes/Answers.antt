@@ -1,21 +1,11 @@
-use Rattle.std.proofs.Common.{◌≡◌, ℕ, ◌<◌, Some, if◌then◌else◌, length, slice_get, refl, sym, ap, ◌∙◌, subst, arith}
-use Rattle.std.proofs.lemmas.Option.{slice_get_within}
-use Rattle.rtl_net.specs.Net.{MayHave, seen_or_zero}
-use Rattle.rtl_net.proofs.Nets.{Grows-trans}
-use Rattle.rtl_net.proofs.Places.{item_at}
+use Rattle.std.proofs.Common.{◌≡◌, if◌then◌else◌, length, sym, subst, arith}
 use Rattle.rb_model.specs.Kept.{Done}
-use Rattle.rb_model.specs.declared.kinds.RefItem.TheVariants as item
-use Rattle.gen_scene.proofs.Worths.{IsBase-grows, worth_read}
-use Rattle.gen_access.specs.declared.software.Effect.TheVariants as effect
-use Rattle.gen_access.specs.Tables.{AreNodes, AreWorth, Changes}
-use Rattle.gen_access.specs.Words.{AreHitsOf, read_word, written_word}
-use Rattle.gen_access.specs.Effects.{reached_by, words_of}
+use Rattle.gen_access.specs.Tables.{AreWorth}
+use Rattle.gen_access.specs.Words.{written_word}
 use Rattle.gen_access.specs.Touches.{one_bit}
 use Rattle.gen_access.proofs.Turns.{AreHitsOf-grows, HasViews-grows, lent}
-use Rattle.gen_moves.proofs.Sweeps.{HasFields-grows}
-use Rattle.gen_edge.specs.Edges.{AreMoved, AreUsed, edge_step}
-use Rattle.gen_edge.proofs.Edging.{IsScene-grows, all_moved, all_used, edge_passes, has_places, values_stand, values_worth}
-use Rattle.gen_edge.proofs.Tabling.{nodes_more, nodes_none, nodes_stand, nodes_worth, values_more}
+use Rattle.gen_edge.specs.Edges.{AreUsed}
+use Rattle.gen_edge.proofs.Edging.{all_used}
 use Rattle.gen_edge.proofs.values.used_nodes.Goals as goal
 
 pub software_nodes-requires-clause-views : goal.software_nodes-requires-clause-views
@@ -32,7 +22,7 @@ returns-clause-used c =
     let b = c.args.scene.now.base.now.block.now in
     let a = c.args.scene.now.base.now.inlet in
     let before : AreWorth b a c.done_nodes.new.net c.deref_mut.result.now one_bit (λ k f n v. if f.once then n.kept (Done k) else 0)
-      = subst (λ t. AreWorth b a c.done_nodes.new.net t one_bit (λ k f n v. if f.once then n.kept (Done k) else 0)) (sym c.deref_mut.ensures.value) c.in_ok-table.ensures.worth in
+    = subst (λ t. AreWorth b a c.done_nodes.new.net t one_bit (λ k f n v. if f.once then n.kept (Done k) else 0)) (sym c.deref_mut.ensures.value) c.in_ok-table.ensures.worth in
     let used = all_used b a c.done_nodes.new.net c.software_nodes.new.net c.deref_mut.result.now c.software_nodes.new.table c.in_ok-software_nodes.ensures.table.long c.in_ok-software_nodes.ensures.changes before in
     let long : length c.software_nodes.new.table ≡ c.in_ok-table.table.len = (let l = c.in_ok-table.table.ok.0 in let p = c.in_ok-software_nodes.ensures.table.long in let q = c.in_ok-table.ensures.table.long in omega arith) in
     subst (AreUsed b a c.software_nodes.new.net) (sym (lent c.in_ok-table.table.len c.software_nodes.new.table c.in_ok-table.table.items long)) used

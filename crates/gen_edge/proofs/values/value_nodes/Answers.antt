@@ -1,21 +1,5 @@
-use Rattle.std.proofs.Common.{◌≡◌, ℕ, ◌<◌, Some, if◌then◌else◌, length, slice_get, refl, sym, ap, ◌∙◌, subst, arith}
-use Rattle.std.proofs.lemmas.Option.{slice_get_within}
-use Rattle.rtl_net.specs.Net.{MayHave, seen_or_zero}
-use Rattle.rtl_net.proofs.Nets.{Grows-trans}
-use Rattle.rtl_net.proofs.Places.{item_at}
-use Rattle.rb_model.specs.Kept.{Done}
-use Rattle.rb_model.specs.declared.kinds.RefItem.TheVariants as item
-use Rattle.gen_scene.proofs.Worths.{IsBase-grows, worth_read}
-use Rattle.gen_access.specs.declared.software.Effect.TheVariants as effect
-use Rattle.gen_access.specs.Tables.{AreNodes, AreWorth, Changes}
-use Rattle.gen_access.specs.Words.{AreHitsOf, read_word, written_word}
-use Rattle.gen_access.specs.Effects.{reached_by, words_of}
-use Rattle.gen_access.specs.Touches.{one_bit}
-use Rattle.gen_access.proofs.Turns.{AreHitsOf-grows, HasViews-grows, lent}
-use Rattle.gen_moves.proofs.Sweeps.{HasFields-grows}
-use Rattle.gen_edge.specs.Edges.{AreMoved, AreUsed, edge_step}
-use Rattle.gen_edge.proofs.Edging.{IsScene-grows, all_moved, all_used, edge_passes, has_places, values_stand, values_worth}
-use Rattle.gen_edge.proofs.Tabling.{nodes_more, nodes_none, nodes_stand, nodes_worth, values_more}
+use Rattle.std.proofs.Common.{◌≡◌, length, ap, ◌∙◌, arith}
+use Rattle.gen_edge.proofs.Tabling.{values_more}
 use Rattle.gen_edge.proofs.values.value_nodes.Goals as goal
 
 pub node-requires : goal.node-requires
