@@ -1,6 +1,8 @@
-//! The registers of a block driven.
+//! A block's registers driven, and its outputs shown.
 #![tactic(auto)]
 
 mod drives;
+mod shows;
 
 pub use drives::drive_nodes;
+pub use shows::show_nodes;
