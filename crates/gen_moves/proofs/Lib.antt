@@ -1,2 +1,2 @@
-mod Making
-mod Sweeps
+pub mod Making
+pub mod Sweeps

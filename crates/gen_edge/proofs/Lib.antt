@@ -1,0 +1,4 @@
+pub mod Edging
+mod Tabling
+mod Answering
+pub mod Taking

@@ -1,0 +1,3 @@
+mod Driving
+mod Outlets
+mod Showing
