@@ -1,3 +1,4 @@
 mod Primaries
 mod Judging
 mod Seens
+mod Applying

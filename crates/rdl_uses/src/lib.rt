@@ -5,8 +5,12 @@ mod earlier;
 mod holder;
 mod instance;
 mod instances;
+mod uses;
+mod values;
 
 pub use earlier::Earlier;
 pub use holder::{Holder, Parent};
 pub use instance::judge_instance;
 pub use instances::{Given, Visited, judge_instances};
+pub use uses::{Uses, judge_uses};
+pub use values::{Values, judge_values};
