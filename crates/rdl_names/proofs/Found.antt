@@ -85,7 +85,7 @@ knows_more old new xs i x name l at is long h put =
     record {
       at = λ n.
           let here : cond (has_component n x) (Some (length (take i xs))) None ≡ cond (bytes_eq name n) (Some i) None =
-              ap (λ b. cond b (Some (length (take i xs))) None) (has-name (component_of (item_is x)) n name is) ∙ ap (λ k. cond (bytes_eq name n) (Some k) None) long in
+          ap (λ b. cond b (Some (length (take i xs))) None) (has-name (component_of (item_is x)) n name is) ∙ ap (λ k. cond (bytes_eq name n) (Some k) None) long in
           put n ∙ ap (λ o. option_or o (cond (bytes_eq name n) (Some i) None)) (h.at n) ∙ ap (option_or (first_of (has_component n) (take i xs))) (sym here)
           ∙ sym (first-push (has_component n) (take i xs) x) ∙ ap (first_of (has_component n)) (sym last);
     }

@@ -39,11 +39,7 @@ fn names_in<'a>(alloc: Global, items: &[Item<'a>]) -> Result<Vec<Name<'a>>, NoMe
 }
 
 // Puts in E2 at each name that stands before.
-fn note_twice(
-    alloc: Global,
-    names: &[Name<'_>],
-    failures: &mut Failures,
-) -> Result<bool, NoMemory>
+fn note_twice(alloc: Global, names: &[Name<'_>], failures: &mut Failures) -> Result<bool, NoMemory>
     ensures { IfOk result (λ clean. IsNoted (fails_twice names.now) clean failures.old failures.new) }
 {
     let mut firsts = Firsts::new(alloc);

@@ -2,5 +2,8 @@
 #![tactic(auto)]
 
 mod components;
+mod entries;
+mod enums;
 
 pub use components::{Components, judge_names};
+pub use enums::{Opened, Outer, open_names};

@@ -23,4 +23,4 @@ pub returns : goal.returns
 returns c =
     let low = place_below c.args.name.now c.args.self.now.firsts c.args.self.now.items.now c.in-Some.at c.requires.known (sym c.in-Some.ensures) in
     is_found c.args.name.now c.args.self.now.firsts c.args.self.now.items.now c.args.upto c.in-Some.at c.index-items-at.result c.in-Some-component_in.def.now c.requires.known (sym c.in-Some.ensures) c.if-at-upto.false
-      (slice_get_read c.args.self.now.items.now (length c.args.self.now.items.now) c.in-Some.at c.index-items-at.result refl low c.index-items-at.is) c.in-Some-component_in.ensures
+    (slice_get_read c.args.self.now.items.now (length c.args.self.now.items.now) c.in-Some.at c.index-items-at.result refl low c.index-items-at.is) c.in-Some-component_in.ensures

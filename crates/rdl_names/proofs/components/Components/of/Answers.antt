@@ -7,7 +7,8 @@ use Rattle.rdl_names.proofs.components.Components.of.Goals.{in-Some+in_ok-put, i
 
 pub loop-at-preserved : goal.loop-at-preserved
 loop-at-preserved c = elim c.match-component_name.branch [
-    in-Some+in_ok-put w ↦ subst (λ t. Knows t (take (c.loop-at.at + 1) c.args.items.now)) (sym w.firsts-is)
-        (knows_more c.loop-at.firsts w.put.new.self c.args.items.now c.loop-at.at c.index-items-at.result w.in-Some.name.now c.loop-at-test.true c.index-items-at.is w.in-Some.ensures (length-take-le c.loop-at.at c.args.items.now (omega (arith, c.loop-at-test.true))) c.loop-at.invariant w.in_ok-put.ensures.put)
+  | in-Some+in_ok-put w ↦ subst (λ t. Knows t (take (c.loop-at.at + 1) c.args.items.now)) (sym w.firsts-is)
+      (knows_more c.loop-at.firsts w.put.new.self c.args.items.now c.loop-at.at c.index-items-at.result w.in-Some.name.now c.loop-at-test.true c.index-items-at.is w.in-Some.ensures (length-take-le c.loop-at.at c.args.items.now (omega (arith, c.loop-at-test.true))) c.loop-at.invariant w.in_ok-put.ensures.put)
   | in_default w ↦ subst (λ t. Knows t (take (c.loop-at.at + 1) c.args.items.now)) (sym w.firsts-is)
-        (knows_other c.loop-at.firsts c.args.items.now c.loop-at.at c.index-items-at.result c.loop-at-test.true c.index-items-at.is w.in_default.ensures c.loop-at.invariant) ]
+      (knows_other c.loop-at.firsts c.args.items.now c.loop-at.at c.index-items-at.result c.loop-at-test.true c.index-items-at.is w.in_default.ensures c.loop-at.invariant)
+]
