@@ -2,3 +2,4 @@ mod Primaries
 mod Judging
 mod Seens
 mod Applying
+mod Unseen

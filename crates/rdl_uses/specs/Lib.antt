@@ -3,3 +3,4 @@ pub mod Before
 pub mod Judged
 pub mod Given
 pub mod Applied
+pub mod Unknown

@@ -5,6 +5,7 @@ mod earlier;
 mod holder;
 mod instance;
 mod instances;
+mod unknown;
 mod uses;
 mod values;
 
@@ -12,5 +13,6 @@ pub use earlier::Earlier;
 pub use holder::{Holder, Parent};
 pub use instance::judge_instance;
 pub use instances::{Given, Visited, judge_instances};
+pub use unknown::judge_unknown;
 pub use uses::{Uses, judge_uses};
 pub use values::{Values, judge_values};
