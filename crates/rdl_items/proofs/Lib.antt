@@ -1,1 +1,2 @@
 mod Using
+mod Listing

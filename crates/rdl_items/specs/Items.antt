@@ -1,12 +1,12 @@
 -- The uses of one item of a body.
-use Rattle.std.specs.Prelude.{◌≡◌, ◌≢◌, ℕ, List, [], ◌∷◌, map, flat_map, Option, None, MatchOption}
+use Rattle.std.specs.Prelude.{◌≡◌, ◌≢◌, ℕ, List, [], ◌∷◌, ◌++◌, take, map, flat_map, Option, None, MatchOption}
 use Rattle.rdl_tree.specs.declared.item.Inst.{Inst}
 use Rattle.rdl_tree.specs.declared.item.Item.{Item}
-use Rattle.rdl_values.specs.Bodies.{Body, Scope, standing_from}
+use Rattle.rdl_values.specs.Bodies.{Body, Scope, scope_at, standing_from}
 use Rattle.rdl_values.specs.Instances.{given_by}
 use Rattle.rdl_values.specs.Parameters.{bound_of}
 use Rattle.rdl_values.specs.Paths.{Parent}
-use Rattle.rdl_values.specs.Uses.{Seen, Use, uses_of_item}
+use Rattle.rdl_values.specs.Uses.{Seen, Use, parent_of, uses_of_item}
 use Rattle.rdl_values.specs.Views.{item_is}
 use Rattle.rdl_values.specs.declared.chain.Chain.{Chain}
 use Rattle.rdl_params.specs.Binding.{AreValues}
@@ -45,3 +45,14 @@ pub record GivesUses (s : Scene) (position : ℕ) (r : ItemUses) (us : List Use)
 -- So are they, if any gives some.
 abbrev pub GivesItem : Scene → ℕ → Option ItemUses → List Use → List Seen → Type 0
 GivesItem s position r us all = MatchOption r (flat_map given_by all ≡ []) (λ r. GivesUses s position r us all)
+
+-- The scene is that of the whole body, with these items.
+pub record IsBodyScene (s : Scene) (items : List Item) (b : Body) : Type 0 where
+  pub items_are : b.items ≡ items
+  pub scenes : (i : ℕ) → IsScene s i (parent_of b) (scope_at b (take i items))
+
+-- The uses of some items, one item behind the other: of those of each item either none gives a node, or they are listed.
+pub data GivesAll (s : Scene) : List ItemUses → List Seen → Type 0 where
+  none : GivesAll s [] []
+  without : {rs : List ItemUses} {ss : List Seen} (failed : List Seen) → GivesAll s rs ss → flat_map given_by failed ≡ [] → GivesAll s rs (ss ++ failed)
+  with_ : {rs : List ItemUses} {ss : List Seen} (r : ItemUses) (position : ℕ) (us : List Use) (all : List Seen) → GivesAll s rs ss → GivesUses s position r us all → GivesAll s (rs ++ (r ∷ [])) (ss ++ all)
