@@ -13,7 +13,7 @@ use Rattle.rb_base.specs.Rules.{row}
 use Rattle.rb_base.specs.declared.fault.Fault.{Fault}
 use Rattle.rdl_values.specs.Faults.{at_}
 use Rattle.rdl_values.specs.Verdict.{IsListOf, placed, with, in_order}
-use Rattle.rdl_values.proofs.Sorted.{in_order-is}
+use Rattle.rdl_values.proofs.Sorted.{alike, in_order-is}
 use Rattle.rdl_judging.specs.Noted.{Holds, with_all}
 
 pub with_all-append : (fs gs list : List Fault) → with_all (fs ++ gs) list ≡ with_all gs (with_all fs list)
@@ -108,3 +108,79 @@ held (f ∷ fs) list = (one_kept f fs (with f list) (put_twice f list), held fs 
 pub again : (fs list : List Fault) → Holds list fs → with_all fs list ≡ list
 again [] list h = refl
 again (f ∷ fs) list h = ap (with_all fs) h.0 ∙ again fs list h.1
+
+-- The order in which failures are put in doesn't matter.
+
+turned-round : (f g : Fault) (o : Ordering) → fault_cmp f g ≡ o → fault_cmp g f ≡ ordering_reverse o
+turned-round f g o e = order.antisymm g f ∙ ap ordering_reverse e
+
+swapped : (f g : Fault) (list : List Fault) → with f (with g list) ≡ with g (with f list)
+swapped f g [] = go (fault_cmp f g) refl
+  where
+    go : (o : Ordering) → fault_cmp f g ≡ o → with f (g ∷ []) ≡ with g (f ∷ [])
+    go Less e = ap (λ o. placed o f g [] (f ∷ [])) e ∙ sym (ap (λ o. placed o g f [] (g ∷ [])) (turned-round f g Less e))
+    go Equal e = ap (λ o. placed o f g [] (f ∷ [])) e ∙ ap (λ x. x ∷ []) (sym (alike f g e)) ∙ sym (ap (λ o. placed o g f [] (g ∷ [])) (turned-round f g Equal e))
+    go Greater e = ap (λ o. placed o f g [] (f ∷ [])) e ∙ sym (ap (λ o. placed o g f [] (g ∷ [])) (turned-round f g Greater e))
+swapped f g (x ∷ xs) = go (fault_cmp f x) (fault_cmp g x) refl refl (swapped f g xs)
+  where
+    at : Fault → Ordering → List Fault → List Fault
+    at h o behind = placed o h x xs behind
+
+    -- one that stands behind the first goes past it
+    past : (h : Fault) (behind : List Fault) → fault_cmp h x ≡ Greater → with h (x ∷ behind) ≡ x ∷ with h behind
+    past h behind e = ap (λ o. placed o h x behind (with h behind)) e
+
+    same : (h : Fault) (behind : List Fault) → fault_cmp h x ≡ Equal → with h (x ∷ behind) ≡ x ∷ behind
+    same h behind e = ap (λ o. placed o h x behind (with h behind)) e
+
+    first : (h : Fault) (behind : List Fault) → fault_cmp h x ≡ Less → with h (x ∷ behind) ≡ h ∷ x ∷ behind
+    first h behind e = ap (λ o. placed o h x behind (with h behind)) e
+
+    beyond : (h i : Fault) (behind : List Fault) → fault_cmp h i ≡ Greater → with h (i ∷ behind) ≡ i ∷ with h behind
+    beyond h i behind e = ap (λ o. placed o h i behind (with h behind)) e
+
+    both_first : fault_cmp f x ≡ Less → fault_cmp g x ≡ Less → (o : Ordering) → fault_cmp f g ≡ o → with f (g ∷ x ∷ xs) ≡ with g (f ∷ x ∷ xs)
+    both_first a b Less e = ap (λ o. placed o f g (x ∷ xs) (with f (x ∷ xs))) e ∙ sym (beyond g f (x ∷ xs) (turned-round f g Less e) ∙ ap (λ l. f ∷ l) (first g xs b))
+    both_first a b Equal e = ap (λ o. placed o f g (x ∷ xs) (with f (x ∷ xs))) e ∙ ap (λ y. y ∷ x ∷ xs) (sym (alike f g e)) ∙ sym (ap (λ o. placed o g f (x ∷ xs) (with g (x ∷ xs))) (turned-round f g Equal e))
+    both_first a b Greater e = beyond f g (x ∷ xs) e ∙ ap (λ l. g ∷ l) (first f xs a) ∙ sym (ap (λ o. placed o g f (x ∷ xs) (with g (x ∷ xs))) (turned-round f g Greater e))
+
+    -- the one stands before the first, and the other not
+    apart : (h i : Fault) → fault_cmp h x ≡ Less → fault_cmp i h ≡ Greater → (rest : List Fault) → with i (x ∷ xs) ≡ x ∷ rest → with h (with i (x ∷ xs)) ≡ with i (with h (x ∷ xs))
+    apart h i a e rest q =
+        ap (with h) q ∙ first h rest a ∙ sym (ap (with i) (first h xs a) ∙ beyond i h (x ∷ xs) e ∙ ap (λ l. h ∷ l) q)
+
+    go : (o p : Ordering) → fault_cmp f x ≡ o → fault_cmp g x ≡ p → with f (with g xs) ≡ with g (with f xs) → with f (with g (x ∷ xs)) ≡ with g (with f (x ∷ xs))
+    go Less Less a b ih = ap (with f) (first g xs b) ∙ both_first a b (fault_cmp f g) refl ∙ sym (ap (with g) (first f xs a))
+    go Less Equal a b ih = apart f g a (order.congr g x f b ∙ turned-round f x Less a) xs (same g xs b)
+    go Less Greater a b ih = apart f g a (turned-round f g Less (order.trans f x g a (turned-round g x Greater b))) (with g xs) (past g xs b)
+    go Equal Less a b ih = sym (apart g f b (order.congr f x g a ∙ turned-round g x Less b) xs (same f xs a))
+    go Greater Less a b ih = sym (apart g f b (turned-round g f Less (order.trans g x f b (turned-round f x Greater a))) (with f xs) (past f xs a))
+    go Equal Equal a b ih = ap (with f) (same g xs b) ∙ same f xs a ∙ sym (ap (with g) (same f xs a) ∙ same g xs b)
+    go Equal Greater a b ih = ap (with f) (past g xs b) ∙ same f (with g xs) a ∙ sym (ap (with g) (same f xs a) ∙ past g xs b)
+    go Greater Equal a b ih = ap (with f) (same g xs b) ∙ past f xs a ∙ sym (ap (with g) (past f xs a) ∙ same g (with f xs) b)
+    go Greater Greater a b ih = ap (with f) (past g xs b) ∙ past f (with g xs) a ∙ ap (λ l. x ∷ l) ih ∙ sym (ap (with g) (past f xs a) ∙ past g (with f xs) b)
+
+one-swapped : (f : Fault) (gs list : List Fault) → with_all gs (with f list) ≡ with f (with_all gs list)
+one-swapped f [] list = refl
+one-swapped f (g ∷ gs) list = ap (with_all gs) (swapped g f list) ∙ one-swapped f gs (with g list)
+
+pub with_all-swap : (fs gs list : List Fault) → with_all gs (with_all fs list) ≡ with_all fs (with_all gs list)
+with_all-swap [] gs list = refl
+with_all-swap (f ∷ fs) gs list = with_all-swap fs gs (with f list) ∙ ap (with_all fs) (one-swapped f gs list)
+
+-- what is held of two lists
+pub holds-left : (fs gs list : List Fault) → Holds list (fs ++ gs) → Holds list fs
+holds-left [] gs list h = tt
+holds-left (f ∷ fs) gs list h = (h.0, holds-left fs gs list h.1)
+
+pub holds-right : (fs gs list : List Fault) → Holds list (fs ++ gs) → Holds list gs
+holds-right [] gs list h = h
+holds-right (f ∷ fs) gs list h = holds-right fs gs list h.1
+
+pub holds-both : (fs gs list : List Fault) → Holds list fs → Holds list gs → Holds list (fs ++ gs)
+holds-both [] gs list h k = k
+holds-both (f ∷ fs) gs list h k = (h.0, holds-both fs gs list h.1 k)
+
+-- failures put in before are those that come with others
+pub put_before : (part all list : List Fault) → ((l : List Fault) → Holds l all → Holds l part) → with_all all (with_all part list) ≡ with_all all list
+put_before part all list h = with_all-swap part all list ∙ again part (with_all all list) (h (with_all all list) (held all list))

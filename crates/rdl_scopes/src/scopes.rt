@@ -1,6 +1,6 @@
 //! Components in bodies that stand round each other.
 
-ghost use Rattle.std.specs.Prelude.{◌≡◌, ℕ, List, None, Some, take, MatchOption, slice_get};
+ghost use Rattle.std.specs.Prelude.{◌≡◌, ℕ, List, None, Some, ◌<◌, length, take, IfSome, MatchOption, slice_get};
 ghost use Rattle.rdl_values.specs.Bodies.{Closure, Scope, component, found, standing};
 ghost use Rattle.rdl_values.specs.Values.{Names, nearest};
 ghost use Rattle.rdl_names.specs.Named.{AreComponents};
@@ -52,7 +52,8 @@ pub fn find_component<'a>(
     name: &[u8],
 ) -> Option<Found<'a>>
     requires { AreOpen components.now }
-    ensures { (tables : List Names) (scope : Scope) → Shows tables components.now numbers.now uptos.now scope → MatchOption result
+    ensures within { IfSome result (λ r. r.level < length numbers.now) }
+    ensures found { (tables : List Names) (scope : Scope) → Shows tables components.now numbers.now uptos.now scope → MatchOption result
         (component name.now scope ≡ None)
         (λ r. (c : Closure) × (component name.now scope ≡ Some c) × IsClosureAt tables components.now numbers.now uptos.now r c) }
 {
