@@ -1,4 +1,5 @@
 mod Covers
+mod FieldUses
 mod Fielding
 mod Found
 mod Grouped

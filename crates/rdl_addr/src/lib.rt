@@ -11,6 +11,7 @@ mod placing;
 mod reading;
 mod register;
 mod rounding;
+mod sharing;
 
 pub use error::AddrError;
 pub use laws::{
