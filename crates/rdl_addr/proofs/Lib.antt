@@ -7,3 +7,4 @@ mod Least
 mod Members
 mod Powers
 mod Registering
+mod Using

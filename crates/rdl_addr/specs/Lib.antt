@@ -7,4 +7,5 @@ pub mod Registers
 pub mod Rounding
 pub mod Rules
 pub mod Tables
+pub mod Texts
 pub mod Uses

@@ -1,11 +1,14 @@
 //! What the definitions of addresses say.
 
-ghost use Rattle.std.specs.Prelude.{◌≡◌, ◌↔◌, ℕ, ◌<◌, Contains, List, length, flat_map, map, filter, Option};
+ghost use Rattle.std.specs.Prelude.{◌≡◌, ◌↔◌, ℕ, ◌<◌, Contains, List, length, flat_map, map, filter, Option, Some};
 ghost use Rattle.rdl_tree.specs.declared.item.Source.{Source};
-ghost use Rattle.rdl_values.specs.Instances.{Instance, nodes};
+ghost use Rattle.rdl_values.specs.Instances.{Instance, children, nodes};
 ghost use Rattle.rdl_addr.specs.declared.part.Mode.{Mode};
 ghost use Rattle.rdl_addr.specs.declared.part.Part.{Part};
-ghost use Rattle.std.specs.List.{All};
+ghost use Rattle.std.specs.List.{All, AllByRecursion};
+ghost use Rattle.rdl_tree.specs.declared.item.Inst.{Inst};
+ghost use Rattle.rdl_values.specs.Elaborated.{around_body};
+ghost use Rattle.rdl_addr.specs.Texts.{IsText};
 ghost use Rattle.rb_base.specs.declared.fault.Fault.{Fault};
 ghost use Rattle.rdl_props.specs.declared.prop.Prop.TheVariants as prop;
 ghost use Rattle.rdl_values.specs.Bodies.{standing};
@@ -61,4 +64,9 @@ pub fn fields_have_bits()
     ensures bits { (fs : List Field) (ns : List Instance) → AreFieldsOf fs ns → AllAreBitsOf (fields.bits_from 0 fs) (bits.bits_from 0 ns) }
     ensures failures { (w : ℕ) (r : Instance) → w ≡ number_at r prop.Regwidth → (cs : List FieldBits) (bs : List Bits) → AllAreBitsOf cs bs → All IsSpan cs
         → (f : Fault) → Contains (fields.faults w cs) f ↔ Contains (flat_map (of_bits r) (standing bs)) f }
+{}
+
+/// The instances in the body of a node come from texts, whose expressions see what that body shows.
+pub fn instances_have_texts()
+    ensures { (n : Instance) → AllByRecursion (λ c. (i : Inst) × (c.use_.inst ≡ Some i) × IsText i (around_body n) c) (children n) }
 {}

@@ -12,9 +12,11 @@ mod reading;
 mod register;
 mod rounding;
 mod sharing;
+mod text;
 
 pub use error::AddrError;
 pub use laws::{
-    fields_have_bits, layout_covers, parts_are_groups, registers_are_placed, rounding_is_least,
+    fields_have_bits, instances_have_texts, layout_covers, parts_are_groups, registers_are_placed,
+    rounding_is_least,
 };
 pub use map::Map;
