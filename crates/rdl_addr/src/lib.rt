@@ -6,6 +6,7 @@ mod body;
 mod error;
 mod laws;
 mod map;
+mod mode;
 mod part;
 mod placing;
 mod reading;
