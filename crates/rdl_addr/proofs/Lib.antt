@@ -1,10 +1,8 @@
 mod Covers
-mod FieldUses
 mod Fielding
 mod Found
 mod Grouped
-mod Least
 mod Members
-mod Powers
+mod Read
 mod Registering
 mod Using

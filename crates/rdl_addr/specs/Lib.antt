@@ -8,4 +8,3 @@ pub mod Rounding
 pub mod Rules
 pub mod Tables
 pub mod Texts
-pub mod Uses
