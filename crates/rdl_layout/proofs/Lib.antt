@@ -1,3 +1,3 @@
 mod Fitting
 pub mod Least
-pub mod Powers
+mod Powers
