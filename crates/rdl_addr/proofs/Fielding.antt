@@ -1,6 +1,6 @@
 -- The rules on the bits of fields, by numbers, are those of the definitions.
 use Rattle.std.specs.List.{list_any, All}
-use Rattle.std.proofs.Common.{◌≡◌, ◌∙◌, ◌↔◌, ℕ, zero, suc, ◌+◌, ◌-◌, ◌≤◌, Bool, true, false, not, cond, ◌&&◌, ◌||◌, ltb, leb, Option, None, Some, option_to_list, List, [], ◌∷◌, ◌++◌, map, flat_map, Contains, refl, ap, sym, subst, arith}
+use Rattle.std.proofs.Common.{◌≡◌, ◌∙◌, ◌↔◌, ℕ, suc, ◌+◌, ◌-◌, ◌≤◌, Bool, true, false, not, cond, ◌&&◌, ◌||◌, ltb, leb, Option, None, Some, option_to_list, List, [], ◌∷◌, ◌++◌, map, flat_map, Contains, refl, ap, sym, subst, arith}
 use Rattle.std.proofs.lemmas.List.{map-append}
 use Rattle.std.proofs.lemmas.Bool.Decides.{nat_tests}
 use Rattle.rb_base.specs.declared.fault.Fault.{Fault}
@@ -14,7 +14,6 @@ use Rattle.rdl_values.specs.Instances.{Instance}
 use Rattle.rdl_extents.specs.declared.claim.Claim.{Claim}
 use Rattle.rdl_extents.specs.declared.extent.Side.{Side}
 use Rattle.rdl_extents.specs.declared.extent.Side.TheVariants.{Reads, Writes, Other}
-use Rattle.rdl_extents.specs.Claims as claims
 use Rattle.rdl_extents.specs.Claims.{clashing_claims, when_clashing, extents}
 use Rattle.rdl_extents.specs.Extents.{clash, is_opposite}
 use Rattle.rdl_layers.specs.Forms.{Meaning, unset, flag, number, text, named, intr, hard, enum_of, reference}
@@ -23,18 +22,11 @@ use Rattle.rdl_layers.specs.Settings.{setting}
 use Rattle.rdl_addr.specs.Bits as bits
 use Rattle.rdl_addr.specs.Bits.{Bits}
 use Rattle.rdl_addr.specs.Rules.{clashes, is_outside, may_share_bits, of_bits, only_reads, only_writes}
-use Rattle.rdl_addr.specs.Fields.{AllAreBitsOf, AreBitsOf, AreFieldsOf, IsFieldOf, IsSpan, bits_at, bits_from, claim_of, faults, high_in, low_in, outside, side_of}
-use Rattle.rdl_addr.specs.declared.bits.Field.{Field}
-use Rattle.rdl_addr.specs.declared.bits.FieldBits.{FieldBits}
+use Rattle.rdl_layout.specs.Fields.{IsSpan, bits_at, bits_from, claim_of, faults, high_in, low_in, outside}
+use Rattle.rdl_addr.specs.Fields.{AllAreBitsOf, AreBitsOf, AreFieldsOf, IsFieldOf, side_of}
+use Rattle.rdl_layout.specs.declared.bits.Field.{Field}
+use Rattle.rdl_layout.specs.declared.bits.FieldBits.{FieldBits}
 use Rattle.rdl_addr.proofs.Members.{apart, in-from, in-to, together}
-
-pub all-fit : (bs : List FieldBits) (cs : List Claim) → cs ≡ map claim_of bs → All IsSpan bs → All claims.IsFit cs
-all-fit bs cs e h = subst (All claims.IsFit) (sym e) (go bs h)
-  where
-    go : (bs : List FieldBits) → All IsSpan bs → All claims.IsFit (map claim_of bs)
-    go [] h k d l = absurd (omega (arith, l))
-    go (b ∷ bs) h zero d l = let f = h 0 b (omega arith) in let s = f.some in let n = f.below in (omega arith, omega (arith, s, n))
-    go (b ∷ bs) h (suc k) d l = go bs (λ i x m. h (suc i) x (omega (arith, m))) k d (omega (arith, l))
 
 -- What software does.
 

@@ -4,12 +4,12 @@ use Rattle.std.specs.Option.{unwrap_or}
 use Rattle.rdl_layers.specs.Phase4.{first_or}
 use Rattle.rdl_addr.specs.Layout as layout
 use Rattle.rdl_addr.specs.Layout.{Group, given, greatest}
-use Rattle.rdl_addr.specs.Parts as parts
+use Rattle.rdl_layout.specs.Parts as parts
 use Rattle.rdl_addr.specs.Parts.{IsPartOf, ArePartsOf, mode_of}
 use Rattle.rdl_addr.specs.Rounding.{multiple_from, up}
-use Rattle.rdl_addr.specs.declared.part.Mode.{Mode}
-use Rattle.rdl_addr.specs.declared.part.Mode.TheVariants.{Compact, Regalign, Fullalign}
-use Rattle.rdl_addr.specs.declared.part.Part.{Part}
+use Rattle.rdl_layout.specs.declared.part.Mode.{Mode}
+use Rattle.rdl_layout.specs.declared.part.Mode.TheVariants.{Compact, Regalign, Fullalign}
+use Rattle.rdl_layout.specs.declared.part.Part.{Part}
 
 first-of : (o : Option ℕ) (d : ℕ) → first_or (option_to_list o) d ≡ unwrap_or o d
 first-of None d = refl

@@ -2,7 +2,7 @@ mod Covers
 mod Fielding
 mod Found
 mod Grouped
-mod Least
 mod Members
-mod Powers
+mod Read
 mod Registering
+mod Using

@@ -1,28 +1,20 @@
 -- The rules on registers, by numbers, are those on the layout.
-use Rattle.std.specs.List.{list_any, All}
-use Rattle.std.proofs.Common.{◌≡◌, ◌∙◌, zero, suc, ◌+◌, Bool, not, ◌&&◌, ◌||◌, ◌==◌, ◌%◌, ◌/◌, ◌^◌, List, [], ◌∷◌, ◌++◌, length, map, flat_map, ltb, refl, ap, sym, subst, arith}
+use Rattle.std.specs.List.{list_any}
+use Rattle.std.proofs.Common.{◌≡◌, ◌∙◌, suc, ◌+◌, Bool, not, ◌&&◌, ◌||◌, ◌==◌, ◌%◌, ◌/◌, ◌^◌, List, [], ◌∷◌, ◌++◌, length, map, flat_map, ltb, refl, ap, sym}
 use Rattle.std.proofs.lemmas.List.{map-append}
 use Rattle.rb_base.specs.declared.place.Place.{Place}
 use Rattle.rb_base.specs.declared.rule.Rule.TheVariants as rules
 use Rattle.rdl_values.specs.Bodies.{standing, standing_from}
 use Rattle.rdl_values.specs.Faults.{at_, when}
 use Rattle.rdl_extents.specs.declared.claim.Claim.{Claim}
-use Rattle.rdl_extents.specs.Claims as claims
 use Rattle.rdl_extents.specs.Claims.{clashing_claims, when_clashing, extents}
 use Rattle.rdl_extents.specs.Extents.{clash, is_opposite}
 use Rattle.rdl_addr.specs.Layout.{Placed}
 use Rattle.rdl_addr.specs.Rules as rule
 use Rattle.rdl_addr.specs.Rules.{Footprint, footprint, overlaps, overlaps_of, clashes_with}
-use Rattle.rdl_addr.specs.Registers.{IsFit, AreRegistersOf, claim_of, side_of, misaligned, too_large}
-use Rattle.rdl_addr.specs.declared.register.Register.{Register}
-
-pub all-fit : (rs : List Register) (cs : List Claim) → cs ≡ map claim_of rs → All IsFit rs → All claims.IsFit cs
-all-fit rs cs e h = subst (All claims.IsFit) (sym e) (go rs h)
-  where
-    go : (rs : List Register) → All IsFit rs → All claims.IsFit (map claim_of rs)
-    go [] h k d l = absurd (omega (arith, l))
-    go (r ∷ rs) h zero d l = let f = h 0 r (omega arith) in (f.some, f.below)
-    go (r ∷ rs) h (suc k) d l = go rs (λ i x m. h (suc i) x (omega (arith, m))) k d (omega (arith, l))
+use Rattle.rdl_layout.specs.Registers.{claim_of, misaligned, too_large}
+use Rattle.rdl_addr.specs.Registers.{AreRegistersOf, side_of}
+use Rattle.rdl_layout.specs.declared.register.Register.{Register}
 
 -- lists that are mapped
 

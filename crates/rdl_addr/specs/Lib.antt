@@ -7,3 +7,4 @@ pub mod Registers
 pub mod Rounding
 pub mod Rules
 pub mod Tables
+pub mod Texts

@@ -1,19 +1,13 @@
 //! Where registers, containers and fields stand, and the rules on addresses and bits.
 #![tactic(auto)]
 
-mod bits;
-mod body;
 mod error;
 mod laws;
 mod map;
-mod part;
-mod placing;
-mod reading;
-mod register;
-mod rounding;
 
 pub use error::AddrError;
 pub use laws::{
-    fields_have_bits, layout_covers, parts_are_groups, registers_are_placed, rounding_is_least,
+    fields_have_bits, instances_have_texts, layout_covers, parts_are_groups, readings_agree,
+    registers_are_placed, rounding_is_least,
 };
 pub use map::Map;

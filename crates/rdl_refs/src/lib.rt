@@ -6,7 +6,6 @@ mod error;
 mod graph;
 mod item;
 mod laws;
-mod listing;
 mod ordering;
 mod refs;
 

@@ -1,6 +1,0 @@
-use Rattle.std.proofs.Common.{◌≡◌, take, map}
-use Rattle.rdl_addr.specs.Fields.{claim_of}
-use Rattle.rdl_addr.proofs.bits.claims_of.Given as goal
-
-abbrev pub invariant-loop-one : goal.invariant-loop-one
-invariant-loop-one l = l.claims.items ≡ map claim_of (take l.one-index l.bits)
