@@ -1,0 +1,97 @@
+//! All nodes of a block over its registers.
+
+ghost use Rattle.std.specs.Prelude.{◌≡◌, IfOk, Contains};
+ghost use Rattle.rtl_net.specs.Net.{Grows};
+ghost use Rattle.rb_model.specs.Machine.{read_data};
+ghost use Rattle.rb_model.specs.Ports.{Outlet, outlets};
+ghost use Rattle.gen_scene.specs.Bases.{IsBase};
+ghost use Rattle.gen_scene.specs.Items.{IsItem};
+ghost use Rattle.gen_scene.specs.Worth.{IsWorth};
+ghost use Rattle.gen_access.specs.Words.{AreHitsOf, read_word, written_word};
+ghost use Rattle.gen_edge.specs.Edges.{AreNexts, IsScene};
+ghost use Rattle.gen_core.specs.Parts.{IsSceneOf};
+
+use gen_access::{WordHits, marks, word_hits};
+use gen_edge::{answer_node, moved_nodes, next_nodes, used_nodes};
+use gen_scene::{Base, Scene, item_nodes, wanted};
+use rb_base::NoMemory;
+use rtl_net::{Id, Netlist};
+use std::alloc::Global;
+
+/// The nodes of a block: of its items by their places, of the read data of the access of the edge, of 32 bits, and of what the
+/// registers take, in the order of the plan.
+#[derive(Drop)]
+pub struct Parts {
+    pub items: Vec<Id>,
+    pub answer: Id,
+    pub nexts: Vec<Id>,
+}
+
+/// The nodes of the block's items by their places.
+#[tactic(auto, using(rtl_net::proofs::Nets::building))]
+fn table(
+    alloc: Global,
+    net: &mut Netlist,
+    base: &Base,
+    hits: &WordHits,
+) -> Result<Vec<Id>, NoMemory>
+    requires base { IsBase net.old base.now }
+    requires reads { AreHitsOf base.now.block.now base.now.inlet net.old base.now.block.now.reads read_word hits.now.reads.items }
+    requires writes { AreHitsOf base.now.block.now base.now.inlet net.old base.now.block.now.writes written_word hits.now.writes.items }
+    ensures older { Grows net.old net.new }
+    ensures name { net.new.name ≡ net.old.name }
+    ensures scene { IfOk result (λ t. IsSceneOf net.new base.now t.items) }
+    ensures shown { IfOk result (λ t. (o : Outlet) → Contains (outlets base.now.block.now) o → IsItem base.now.block.now base.now.inlet net.new t.items o.item) }
+{
+    let needed = wanted(alloc, base.block, base.plan)?;
+    let touched = marks(alloc, net, base, hits, &needed)?;
+    let items = item_nodes(alloc, net, base, &touched, &needed)?;
+    Ok(items)
+}
+
+/// What the registers take, in the order of the plan.
+#[tactic(auto, using(rtl_net::proofs::Nets::building))]
+fn taken(
+    alloc: Global,
+    net: &mut Netlist,
+    scene: &Scene,
+    hits: &WordHits,
+) -> Result<Vec<Id>, NoMemory>
+    requires scene { IsScene net.old scene.now }
+    requires reads { AreHitsOf scene.now.base.now.block.now scene.now.base.now.inlet net.old scene.now.base.now.block.now.reads read_word hits.now.reads.items }
+    requires writes { AreHitsOf scene.now.base.now.block.now scene.now.base.now.inlet net.old scene.now.base.now.block.now.writes written_word hits.now.writes.items }
+    ensures older { Grows net.old net.new }
+    ensures name { net.new.name ≡ net.old.name }
+    ensures nexts { IfOk result (λ ids. AreNexts scene.now.base.now.block.now scene.now.base.now.inlet net.new ids.items) }
+{
+    let values = moved_nodes(alloc, net, scene, hits)?;
+    let used = used_nodes(alloc, net, scene, &hits.writes)?;
+    let nexts = next_nodes(alloc, net, scene, &values, &used)?;
+    Ok(nexts)
+}
+
+/// Adds the nodes of a block whose registers and pins are there. The only error is want of memory, after which the netlist has
+/// some of the nodes.
+#[tactic(auto, using(rtl_net::proofs::Nets::building))]
+pub fn block_nodes(alloc: Global, net: &mut Netlist, base: &Base) -> Result<Parts, NoMemory>
+    requires base { IsBase net.old base.now }
+    ensures older { Grows net.old net.new }
+    ensures name { net.new.name ≡ net.old.name }
+    ensures shown { IfOk result (λ p. (o : Outlet) → Contains (outlets base.now.block.now) o → IsItem base.now.block.now base.now.inlet net.new p.items.items o.item) }
+    ensures answered { IfOk result (λ p. IsWorth base.now.block.now base.now.inlet net.new p.answer 32 (λ n v. read_data base.now.block.now v n.access)) }
+    ensures nexts { IfOk result (λ p. AreNexts base.now.block.now base.now.inlet net.new p.nexts.items) }
+{
+    let hits = word_hits(alloc, net, base)?;
+    let items = table(alloc, net, base, &hits)?;
+    let scene = Scene {
+        base,
+        items: &items,
+    };
+    let answer = answer_node(alloc, net, &scene, &hits.reads)?;
+    let nexts = taken(alloc, net, &scene, &hits)?;
+    Ok(Parts {
+        items,
+        answer,
+        nexts,
+    })
+}
