@@ -1,7 +1,6 @@
 -- Which items are wanted, where all are.
-use Rattle.std.proofs.Common.{◌≡◌, ℕ, zero, suc, ◌<◌, ◌≤◌, Bool, true, false, Option, Some, None, List, ◌++◌, length, slice_get, get_or, refl, sym, ap, ◌∙◌, arith}
+use Rattle.std.proofs.Common.{◌≡◌, ℕ, suc, ◌<◌, ◌≤◌, Bool, true, Option, Some, None, List, [], ◌∷◌, ◌++◌, length, slice_get, refl, sym, subst}
 use Rattle.std.specs.Prelude.{Contains}
-use lib.ListN.{replicate}
 use Rattle.std.proofs.lemmas.List.Sorted.{Contains-permutation}
 use Rattle.std.proofs.lemmas.Option.{slice_get_read}
 use Rattle.rtl_net.specs.Net.{Net}
@@ -15,15 +14,20 @@ use Rattle.rb_model.specs.declared.block.Field.{Field}
 use Rattle.rb_model.specs.declared.block.View.{View}
 use Rattle.rb_model.specs.Items.{items}
 use Rattle.rb_model.specs.Ports.{Outlet, outlets}
-use Rattle.rb_model.specs.References.{AreWide, AreWithin, Each, StandsBefore, WithSome, amount_refs, count_refs, feed_refs, gate_refs, item_width, level_refs, mask_refs, part_refs, refs}
+use Rattle.rb_model.specs.References.{AreWide, AreWithin, Each, WithSome, amount_refs, count_refs, feed_refs, gate_refs, item_width, level_refs, mask_refs, part_refs}
 use Rattle.rb_model.specs.SoundField.{RefersWell}
 use Rattle.rb_model.specs.Sound.{IsSound, ViewIsSound}
-use Rattle.rb_model.proofs.Eachs.{Each-append, Each-at, Each-both, Each-from_zero, Each-left, Each-right, Each-weaker}
+use Rattle.rb_model.proofs.Eachs.{Each-append, Each-at, Each-both, Each-from_zero, Each-left, Each-map, Each-right, Each-weaker}
+use Rattle.rb_plan.specs.declared.outlets.Outlet as plans
+use Rattle.rb_plan.specs.declared.plan.Plan.{Plan}
+use Rattle.rb_plan.specs.Outlets.{outlet_seen}
+use Rattle.rb_plan.specs.Plan.{IsPlanOf}
 use Rattle.rb_plan.specs.Table.{item_place}
 use Rattle.gen_scene.specs.declared.scene.Scene.{Scene}
 use Rattle.gen_scene.specs.Bases.{IsBase}
 use Rattle.gen_scene.specs.Fields.{HasField, HasView, IsAllWanted, hardware_refs, limit_refs, limits_refs}
-use Rattle.gen_scene.specs.Items.{HasItems, IsClosed, IsItem, is_wanted}
+use Rattle.gen_scene.specs.Items.{HasItems, IsItem, is_wanted}
+use Rattle.gen_scene.specs.Needs.{AreIn, field_needs}
 use Rattle.gen_scene.proofs.Among.{outlets_among, value_among}
 use Rattle.gen_scene.proofs.Sources.{field_sound}
 
@@ -106,31 +110,31 @@ outlet_node net s wanted o base has all c = has.each o.item (outlet_item s.base.
     outlet_item : (b : Block) → IsSound b → (o : Outlet) → Contains (outlets b) o → Contains (items b) o.item
     outlet_item b sound o c = let (j, low, is) = c in Each-at (λ o. Contains (items b) o.item) (outlets b) j o (outlets_among b sound) (slice_get_read (outlets b) (length (outlets b)) j o refl low (sym is))
 
--- All items are wanted
+-- Where these are wanted that have a place, all are that a netlist needs.
 
-filled : (n k : ℕ) → k < n → get_or (replicate n true) k false ≡ true
-filled zero k low = absurd (omega (arith, low))
-filled (suc n) zero low = refl
-filled (suc n) (suc k) low = filled n k (omega (arith, low))
+by_index : {X : Type 0} (P : X → Type 0) (xs : List X) → ((k : ℕ) (x : X) → slice_get xs k ≡ Some x → P x) → Each P xs
+by_index P [] h = tt
+by_index P (x ∷ xs) h = (h 0 x refl, by_index P xs (λ k y e. h (suc k) y e))
 
-module _ (b : Block) (sound : IsSound b) (wanted : List Bool) (n : ℕ) (is : wanted ≡ replicate n true) (room : (k : ℕ) (i : RefItem) → slice_get b.order k ≡ Some i → item_place i < n) where
-  each_ordered : (k : ℕ) (i : RefItem) → slice_get b.order k ≡ Some i → is_wanted wanted i ≡ true
-  each_ordered k i here = ap (λ w. get_or w (item_place i) false) is ∙ filled n (item_place i) (room k i here)
+module _ (b : Block) (p : Plan) (w : List Bool) (sound : IsSound b) (planned : IsPlanOf b p) (room : (k : ℕ) (i : RefItem) → slice_get b.order k ≡ Some i → item_place i < length w) where
+  place_low : (i : RefItem) → Contains (items b) i → item_place i < length w
+  place_low i c = let (k, low, at) = Contains-permutation (items b) b.order i sound.all_items c in room k i (slice_get_read b.order (length b.order) k i refl low (sym at))
 
-  each_item : (i : RefItem) → Contains (items b) i → is_wanted wanted i ≡ true
-  each_item i c = let (k, low, at) = Contains-permutation (items b) b.order i sound.all_items c in each_ordered k i (slice_get_read b.order (length b.order) k i refl low (sym at))
+  are_wanted : (is : List RefItem) → Own b is → AreIn w is → Each (λ i. is_wanted w i ≡ true) is
+  are_wanted = Each-both (λ i. Contains (items b) i) (λ i. item_place i < length w → is_wanted w i ≡ true) (λ i. is_wanted w i ≡ true) (λ i c h. h (place_low i c))
 
-  pub all_wanted : IsAllWanted b wanted
-  all_wanted = record {
-    shown = λ o c. let (j, low, at) = c in each_item o.item (Each-at (λ o. Contains (items b) o.item) (outlets b) j o (outlets_among b sound) (slice_get_read (outlets b) (length (outlets b)) j o refl low (sym at)));
-    values = λ k f here. each_item (item.Field k) (value_among b k f here);
-    fields = λ k f here. Each-weaker (λ i. Contains (items b) i) (λ i. is_wanted wanted i ≡ true) each_item (hardware_refs f) (hardware_own b f (field_sound b sound k f here).refers);
-    views = λ k u here. Each-weaker (λ i. Contains (items b) i) (λ i. is_wanted wanted i ≡ true) each_item (gate_refs u.gate) (view_own b sound k u here);
-  }
+  module _ (outs : (k : ℕ) (o : plans.Outlet) → slice_get p.outlets.items k ≡ Some o → AreIn w (o.item ∷ [])) (fields : (k : ℕ) (f : Field) → slice_get b.fields k ≡ Some f → AreIn w (field_needs k f)) (views : (k : ℕ) (u : View) → slice_get b.views k ≡ Some u → AreIn w (gate_refs u.gate)) where
+    shown_in : Each (λ (o : Outlet). item_place o.item < length w → is_wanted w o.item ≡ true) (outlets b)
+    shown_in = subst (Each (λ (o : Outlet). item_place o.item < length w → is_wanted w o.item ≡ true)) planned.outlets
+        (Each-map (λ (o : Outlet). item_place o.item < length w → is_wanted w o.item ≡ true) outlet_seen p.outlets.items (by_index (λ o. item_place o.item < length w → is_wanted w o.item ≡ true) p.outlets.items (λ k o here. (outs k o here).0)))
 
-  pub all_closed : IsClosed b wanted
-  all_closed = record {
-    each = λ i c w.
-        let (k, low, at) = Contains-permutation (items b) b.order i sound.all_items c in
-        Each-weaker (StandsBefore b.order k) (λ j. is_wanted wanted j ≡ true) (λ j h. each_ordered h.0 j h.2) (refs b i) (sound.ordered k i (slice_get_read b.order (length b.order) k i refl low (sym at)));
-  }
+    pub all_wanted : IsAllWanted b w
+    all_wanted = record {
+      shown = λ o c.
+          let (j, low, at) = c in
+          let there : slice_get (outlets b) j ≡ Some o = slice_get_read (outlets b) (length (outlets b)) j o refl low (sym at) in
+          Each-at (λ o. item_place o.item < length w → is_wanted w o.item ≡ true) (outlets b) j o shown_in there (place_low o.item (Each-at (λ o. Contains (items b) o.item) (outlets b) j o (outlets_among b sound) there));
+      values = λ k f here. (fields k f here).0 (place_low (item.Field k) (value_among b k f here));
+      fields = λ k f here. are_wanted (hardware_refs f) (hardware_own b f (field_sound b sound k f here).refers) (fields k f here).1;
+      views = λ k u here. are_wanted (gate_refs u.gate) (view_own b sound k u here) (views k u here);
+    }

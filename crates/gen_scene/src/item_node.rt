@@ -40,13 +40,16 @@ pub(crate) fn item_node(
     let block = scene.base.block;
     match item {
         RefItem::Field(number) => {
-            let place = number as usize;
-            field_value(net, scene, place, field_at(block, place))
+            field_value(
+                net,
+                scene,
+                number as usize,
+                field_at(block, number as usize),
+            )
         }
         RefItem::Signal(number) => {
-            let place = number as usize;
-            let width = signal_at(block, place).width;
-            present(net, scene.signal(place), width)
+            let width = signal_at(block, number as usize).width;
+            present(net, scene.signal(number as usize), width)
         }
         RefItem::Anded(number) => {
             let value = scene.node(RefItem::Field(number));
@@ -67,12 +70,20 @@ pub(crate) fn item_node(
             decr_threshold(net, scene, number, field_at(block, number as usize))
         }
         RefItem::Overflow(number) => {
-            let place = number as usize;
-            field_overflow(net, scene, place, field_at(block, place))
+            field_overflow(
+                net,
+                scene,
+                number as usize,
+                field_at(block, number as usize),
+            )
         }
         RefItem::Underflow(number) => {
-            let place = number as usize;
-            field_underflow(net, scene, place, field_at(block, place))
+            field_underflow(
+                net,
+                scene,
+                number as usize,
+                field_at(block, number as usize),
+            )
         }
         RefItem::SwMod(number) => Ok(marks[number as usize].modified),
         RefItem::SwAcc(number) => Ok(marks[number as usize].accessed),

@@ -26,7 +26,7 @@ pub struct Marks {
 }
 
 /// Whether an item is wanted.
-fn is_wanted(wanted: &[bool], item: RefItem) -> bool
+pub(crate) fn is_wanted(wanted: &[bool], item: RefItem) -> bool
     ensures { result ≡ spec.is_wanted wanted.now item }
 {
     match wanted.get(item_place(item)) {

@@ -5,6 +5,7 @@
 //! block finds at an edge of a netlist, and `IsWorth` what a node is worth in those terms.
 #![tactic(auto)]
 
+mod adding;
 mod base;
 mod counting;
 mod item_node;

@@ -4,7 +4,7 @@ ghost use Rattle.std.specs.Prelude.{◌≡◌, IfOk};
 ghost use Rattle.std.specs.List.{list_any};
 ghost use Rattle.rtl_net.specs.Value.{bit_of};
 ghost use Rattle.rtl_net.specs.Net.{Grows};
-ghost use Rattle.rb_plan.specs.Plan.{members_among};
+ghost use Rattle.rb_plan.specs.Plan.{members_among, members_of};
 ghost use Rattle.gen_scene.specs.Bases.{IsBase};
 ghost use Rattle.gen_scene.specs.Lines as spec;
 ghost use Rattle.gen_scene.specs.Lines.{HasLine, raised};
@@ -16,6 +16,7 @@ use gen_intr::{Masked, any};
 use rb_base::NoMemory;
 use rb_effects::is_on;
 use rb_model::{Field, Mask, RefItem};
+use rb_plan::Plan;
 use rtl_net::{Id, Netlist};
 use std::alloc::Global;
 
@@ -30,6 +31,30 @@ fn is_inverted(mask: Mask) -> bool
     }
 }
 
+/// Whether an interrupt counts for the line `halt`, or for `intr`.
+pub(crate) fn has_line(halt: bool, field: &Field) -> bool
+    ensures { result ≡ spec.has_line halt field.now }
+{
+    !halt || is_on(field.halt)
+}
+
+/// The mask of an interrupt for the line `halt`, or for `intr`.
+pub(crate) fn line_mask(halt: bool, field: &Field) -> Mask
+    ensures { result ≡ spec.line_mask halt field.now }
+{
+    if halt { field.halt } else { field.enable }
+}
+
+/// The interrupts that are listed for a register.
+pub(crate) fn members_in(plan: &Plan, reg: u32) -> &[u32]
+    ensures { result.now ≡ members_of plan.now reg }
+{
+    match plan.members.get(reg as usize) {
+        Some(members) => members,
+        None => &[],
+    }
+}
+
 impl<'a> Scene<'a> {
     ghost use Rattle.std.specs.Prelude.{◌≡◌};
     ghost use Rattle.rb_plan.specs.Plan.{members_of};
@@ -39,20 +64,17 @@ impl<'a> Scene<'a> {
     fn members(&self, reg: u32) -> &[u32]
         ensures { result.now ≡ members_of self.now.base.now.plan.now reg }
     {
-        match self.base.plan.members.get(reg as usize) {
-            Some(members) => members,
-            None => &[],
-        }
+        members_in(self.base.plan, reg)
     }
 
     /// The bits of an interrupt that count for its register's line, if it counts for it.
     fn line_bits(&self, place: u32, field: &Field, halt: bool) -> Option<Masked>
         ensures { result ≡ line_bits self.now halt place field.now }
     {
-        if halt && !is_on(field.halt) {
+        if !has_line(halt, field) {
             return None;
         }
-        let mask = if halt { field.halt } else { field.enable };
+        let mask = line_mask(halt, field);
         match self.item(RefItem::Field(place)) {
             Some(value) => Some(Masked {
                 value,

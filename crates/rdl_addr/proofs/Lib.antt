@@ -1,2 +1,8 @@
 mod Covers
-mod Least
+mod Fielding
+mod Found
+mod Grouped
+mod Members
+mod Read
+mod Registering
+mod Using

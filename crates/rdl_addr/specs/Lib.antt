@@ -1,5 +1,10 @@
 pub mod Answers
 pub mod Bits
+pub mod Fields
 pub mod Layout
+pub mod Parts
+pub mod Registers
 pub mod Rounding
 pub mod Rules
+pub mod Tables
+pub mod Texts

@@ -6,5 +6,8 @@ mod laws;
 mod map;
 
 pub use error::AddrError;
-pub use laws::{layout_covers, rounding_is_least};
+pub use laws::{
+    fields_have_bits, instances_have_texts, layout_covers, parts_are_groups, readings_agree,
+    registers_are_placed, rounding_is_least,
+};
 pub use map::Map;

@@ -1,12 +1,25 @@
 //! The addresses and bits of a tree.
 
+ghost use Rattle.rdl_addr.specs.Answers.{AreBitsAt, HasAddressAt, IsAddressAt, IsFieldAt, IsSizeAt};
+
 use rdl_tree::Elab;
 use std::marker::Model;
+
+/// Where a register or container stands, in bytes.
+#[derive(Clone, Copy)]
+pub(crate) struct Spot {
+    pub address: u64,
+    pub size: u64,
+}
 
 /// The addresses and sizes of the registers and containers of a tree, and the bits of its fields. A map is seen as its tree.
 #[derive(Drop)]
 pub struct Map<'a> {
     elab: Elab<'a>,
+    /// For each node where it stands, 0 where it has no address.
+    spots: Vec<Spot>,
+    /// For each node its high and its low bit, 0 where it is no field.
+    bits: Vec<(u8, u8)>,
 }
 
 impl<'a> Model for Map<'a> {
@@ -22,5 +35,35 @@ impl<'a> Model for Map<'a> {
 
     ghost coded = { Prim.hlevel (codes, (expr.the_row static_lft).coded, (item.the_row static_lft).coded, (node.the_row static_lft).coded, (env.the_row static_lft).coded) };
 
+    ghost use Rattle.rdl_addr.specs.Tables.{AreTables};
+
     ghost view = { λ m. m.elab };
+
+    ghost invariant = { AreTables };
+}
+
+impl Map<'_> {
+    /// The address of a register or container, in bytes (SystemRDL 2.0, 5.1.2.2).
+    pub fn address(&self, node: u32) -> u64
+        requires { HasAddressAt self.now node }
+        ensures { IsAddressAt self.now node result }
+    {
+        self.spots[node as usize].address
+    }
+
+    /// The size of a register or container, in bytes: from its address to the end of what ends last in it.
+    pub fn size(&self, node: u32) -> u64
+        requires { HasAddressAt self.now node }
+        ensures { IsSizeAt self.now node result }
+    {
+        self.spots[node as usize].size
+    }
+
+    /// The high and the low bit of a field in its register (SystemRDL 2.0, 9.1).
+    pub fn bits(&self, node: u32) -> (u8, u8)
+        requires { IsFieldAt self.now node }
+        ensures { AreBitsAt self.now node result }
+    {
+        self.bits[node as usize]
+    }
 }

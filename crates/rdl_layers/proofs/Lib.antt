@@ -2,3 +2,4 @@ mod Least
 mod Decided
 pub mod Formed
 mod First
+mod Entries

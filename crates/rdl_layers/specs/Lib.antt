@@ -9,3 +9,4 @@ pub mod Settings
 pub mod Says
 pub mod Phase4
 pub mod Fields
+pub mod Tables

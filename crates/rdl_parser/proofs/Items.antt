@@ -32,10 +32,11 @@ use Rattle.rdl_tree.specs.Grammar as rules
 use Rattle.rdl_tree.specs.Tree as tree
 use Rattle.rdl_tree.specs.Tree.{IsMark, IsWord, IsName, StartsAt, SkipsInternal, DerivesHashed, DerivesParam, DerivesBody, DerivesMade, DerivesListed, DerivesInst, DerivesPath, DerivesProp, DerivesLocal, DerivesSet, DerivesItem, kind_of, assigned, component, dynamic, local, named, bare}
 use Rattle.rdl_parser.specs.declared.components.Role.TheVariants as roles
-use Rattle.rdl_parser.specs.declared.parser.Sort.TheVariants as sorts
-use Rattle.rdl_parser.specs.Following.{has, role, kind_role, mark_role, named_or_bare, alias, of_type, behind_internal, simple_item, item_behind_name, assignment, more_steps, Sets, EndsDef}
-use Rattle.rdl_parser.specs.Following as following
-use Rattle.rdl_parser.proofs.Firsts.{table, right}
+use Rattle.rdl_expressions.specs.declared.parser.Sort.TheVariants as sorts
+use Rattle.rdl_parser.specs.ItemForms.{role, kind_role, mark_role, named_or_bare, alias, of_type, behind_internal, simple_item, item_behind_name, assignment, Sets, EndsDef}
+use Rattle.rdl_expressions.specs.Following.{has, more_steps}
+use Rattle.rdl_parser.specs.ItemForms as following
+use Rattle.rdl_expressions.proofs.Firsts.{table, right}
 use Rattle.rb_grammar.proofs.Factoring.{splitting, packing, either, first_chosen, second_chosen}
 use Rattle.rdl_parser.proofs.Phrases.{set_is_local}
 

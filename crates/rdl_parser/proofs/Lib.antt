@@ -1,6 +1,3 @@
-mod Firsts
-mod Words
-mod Operators
 mod Phrases
 mod Lists
 mod Items

@@ -1,5 +1,4 @@
-pub mod Depth
 pub mod Judging
 pub mod Verdicts
-pub mod Following
+pub mod ItemForms
 pub mod Stopping

@@ -17,7 +17,7 @@ use Rattle.rdl_lexer.specs.Lexemes.{seen, systemrdl}
 use Rattle.rdl_lexer.specs.Faults.{FailsLexically}
 use Rattle.rdl_parser.specs.declared.error.ParseError.{ParseError}
 use Rattle.rdl_parser.specs.declared.error.ParseError.TheVariants.{Lex, Syntax, TooDeep, NoMemory}
-use Rattle.rdl_parser.specs.Depth.{StaysWithin}
+use Rattle.rdl_depth.specs.Depth.{StaysWithin}
 use Rattle.rdl_parser.specs.Judging.{IsGood, IsWrongAt, IsTooDeepAt}
 
 -- the text spells these tokens

@@ -2,12 +2,9 @@
 #![tactic(auto)]
 
 mod components;
-mod depth;
 mod error;
-mod expressions;
 mod instances;
 mod laws;
-mod parser;
 mod properties;
 mod reading;
 

@@ -2,17 +2,18 @@
 
 ghost use Rattle.std.specs.Prelude.{◌≡◌, ◌≢◌, ◌-◌, ◌^◌, ◌<◌, ℕ, List, [], length, drop, IfOk, IfErr, OnOk};
 ghost use Rattle.rdl_tree.specs.Tree.{DerivesItems};
-ghost use Rattle.rdl_parser.specs.Depth.{StaysWithin, IsFirstTooDeep};
+ghost use Rattle.rdl_depth.specs.Depth.{StaysWithin, IsFirstTooDeep};
 ghost use Rattle.rdl_parser.specs.Verdicts.{SpellsTokens, place_of, mark_rule, word_rule, rule_of, Reads, IsAccepted, HasError};
 ghost use Rattle.rdl_parser.specs.Stopping.{StopsThere, IsJudged};
 
 use crate::ParseError;
-use crate::depth::first_too_deep;
-use crate::parser::Parser;
+use crate::components::source;
 use bumpalo::Bump;
 use bumpalo::collections::into_bump_slice;
 use rb_base::{Keyword, Place, Rule};
 use rb_grammar::Stop;
+use rdl_depth::first_too_deep;
+use rdl_expressions::Parser;
 use rdl_lexer::Lexer;
 use rdl_tree::{Item, Mark, Source, Token, TokenKind};
 
@@ -101,7 +102,7 @@ fn read<'a>(arena: &'a Bump, tokens: &'a [Token<'a>]) -> Result<&'a [Item<'a>], 
         arena,
         rest: tokens,
     };
-    match parser.source() {
+    match source(&mut parser) {
         Ok(items) => Ok(items),
         Err(Stop::Syntax) => Err(Unread::Syntax(parser.rest)),
         Err(Stop::NoMemory) => Err(Unread::NoMemory),

@@ -1,5 +1,6 @@
 //! Why items have no order.
 
+use rb_base::NoMemory;
 use std::alloc::{AllocError, AllocFailed};
 
 /// Why the items have no order.
@@ -29,6 +30,17 @@ impl<T: Drop> From<AllocFailed<T>> for OrderError {
     ghost from_gives = { λ _ e. e ≡ NoMemory };
 
     fn from(_: AllocFailed<T>) -> Self {
+        OrderError::NoMemory
+    }
+}
+
+impl From<NoMemory> for OrderError {
+    ghost use Rattle.std.specs.Prelude.{◌≡◌};
+    ghost use Rattle.rdl_refs.specs.declared.circle.OrderError.TheVariants.{NoMemory};
+
+    ghost from_gives = { λ _ e. e ≡ NoMemory };
+
+    fn from(_: NoMemory) -> Self {
         OrderError::NoMemory
     }
 }

@@ -3,12 +3,15 @@
 
 mod circle;
 mod error;
+mod graph;
 mod item;
 mod laws;
+mod ordering;
 mod refs;
 
 pub use circle::OrderError;
 pub use error::RefError;
 pub use item::{ItemOf, What};
 pub use laws::{all_references, circles_go_on, one_target};
+pub use ordering::{circling, order};
 pub use refs::Refs;

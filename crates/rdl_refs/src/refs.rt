@@ -1,12 +1,38 @@
 //! The references of a tree.
 
+ghost use Rattle.std.specs.Prelude.{◌<◌, ◌≡◌, ◌^◌, length, map};
+ghost use Rattle.topological_order.specs.Levels.{AreWithin, lists};
+ghost use Rattle.rdl_values.specs.Lineages.{lineages_of};
+ghost use Rattle.rdl_refs.specs.Answers.{AreItems, TargetAt};
+ghost use Rattle.rdl_refs.specs.Follows.{edges_of};
+ghost use Rattle.rdl_refs.specs.Items.{items};
+ghost use Rattle.rdl_refs.specs.Tables.{item_at};
+
+use crate::ItemOf;
+use rb_base::Place;
+use rdl_props::Prop;
 use rdl_tree::Elab;
 use std::marker::Model;
+
+/// The item that a property's setting names.
+#[derive(Clone, Copy)]
+pub(crate) struct Target {
+    pub prop: Prop,
+    pub item: u32,
+}
 
 /// The items of a tree, and the item that each reference names. References are seen as their tree.
 #[derive(Drop)]
 pub struct Refs<'a> {
     elab: Elab<'a>,
+    /// All items, in the order of their numbers.
+    items: Vec<ItemOf>,
+    /// For each item the numbers of those that it refers to.
+    edges: Vec<Vec<usize>>,
+    /// For each item the place of its node.
+    places: Vec<Place>,
+    /// For each node the items that its settings name.
+    targets: Vec<Vec<Target>>,
 }
 
 impl<'a> Model for Refs<'a> {
@@ -22,5 +48,55 @@ impl<'a> Model for Refs<'a> {
 
     ghost coded = { Prim.hlevel (codes, (expr.the_row static_lft).coded, (item.the_row static_lft).coded, (node.the_row static_lft).coded, (env.the_row static_lft).coded) };
 
+    ghost use Rattle.rdl_refs.specs.Tables.{AreTables};
+
     ghost view = { λ r. r.elab };
+
+    ghost invariant = { AreTables };
+}
+
+/// The item of the first target of a property.
+fn item_of(targets: &[Target], prop: Prop) -> Option<u32>
+    ensures { result ≡ item_at prop targets.now }
+{
+    for target in targets {
+        if target.prop == prop {
+            return Some(target.item);
+        }
+    }
+    None
+}
+
+impl Refs<'_> {
+    /// All items, in the order of their numbers: those of a node are together, and nodes in their order.
+    pub fn items(&self) -> &[ItemOf]
+        ensures { AreItems self.now result.now }
+    {
+        &self.items
+    }
+
+    /// The number of the item that the property's setting names, on the node of this number. None where the setting is no
+    /// reference.
+    pub fn target(&self, node: u32, prop: Prop) -> Option<u32>
+        requires { node < self.now.count }
+        ensures { TargetAt self.now node prop result }
+    {
+        item_of(&self.targets[node as usize], prop)
+    }
+
+    /// For each item the numbers of those that it refers to.
+    pub(crate) fn edges(&self) -> &[Vec<usize>]
+        ensures edges { lists result.now ≡ edges_of (lineages_of self.now) }
+        ensures within { AreWithin (lists result.now) }
+        ensures few { length result.now < 2 ^ 32 }
+    {
+        &self.edges
+    }
+
+    /// For each item the place of its node.
+    pub(crate) fn places(&self) -> &[Place]
+        ensures { result.now ≡ map (λ i. i.node.use_.name.place) (items (lineages_of self.now)) }
+    {
+        &self.places
+    }
 }

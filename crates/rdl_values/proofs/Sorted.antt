@@ -39,7 +39,7 @@ both_equal Less p e = absurd (subst (λ o. MatchOrdering o (Unit {0}) ⊥ ⊥) e
 both_equal Equal p e = (refl, e)
 both_equal Greater p e = absurd (subst (λ o. MatchOrdering o ⊥ ⊥ (Unit {0})) e tt)
 
-alike : (f g : Fault) → fault_cmp f g ≡ Equal → f ≡ g
+pub alike : (f g : Fault) → fault_cmp f g ≡ Equal → f ≡ g
 alike f g e =
     let parts = both_equal (nat_cmp f.place.0 g.place.0) (nat_cmp (row f.rule).number (row g.rule).number) e in
     let place = same_number f.place.0 g.place.0 parts.0 in

@@ -25,3 +25,4 @@ pub mod Rows
 pub mod Primary
 pub mod Table
 pub mod Tabled
+pub mod Chained

@@ -13,9 +13,9 @@ use crate::visible::{Visible, entry_in, parameter_in};
 use rb_base::{Fault, Place, Rule};
 use rdl_tree::{Env, Expr, Name, Path, Value};
 
-// The name that a path of one bare name is.
+/// The name that a path of one bare name is.
 #[tactic(auto, using(crate::proofs::Paths::steps_of_code))]
-fn bare_name<'a>(path: &Path<'a>, item: &Option<Name<'a>>) -> Option<Name<'a>>
+pub(crate) fn bare_name<'a>(path: &Path<'a>, item: &Option<Name<'a>>) -> Option<Name<'a>>
     ensures { result ≡ values.bare_name path.now item.now }
 {
     match (path.steps, item) {

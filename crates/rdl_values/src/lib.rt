@@ -1,6 +1,7 @@
 //! The values of constant expressions, and what the instances of a source are.
 #![tactic(auto)]
 
+mod chain;
 mod constants;
 mod laws;
 mod lookup;
@@ -10,6 +11,7 @@ mod table;
 mod visible;
 mod wanted;
 
+pub use chain::{Chain, eval_along, number_along};
 pub use constants::{eval, eval_in};
 pub use laws::{
     clean_source, lists_merge, name_decides_the_top, nodes_are_given, nodes_are_numbered,

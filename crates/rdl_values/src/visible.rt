@@ -66,8 +66,8 @@ pub fn parameter_in<'a>(visible: &Visible<'_, 'a>, name: &[u8]) -> Option<Value<
     }
 }
 
-// V1 at a name.
-fn unknown<'a>(name: &Name) -> Result<Value<'a>, Fault>
+/// V1 at a name.
+pub(crate) fn unknown<'a>(name: &Name) -> Result<Value<'a>, Fault>
     ensures { result ≡ Err (record { place = name.now.place; rule = rules.V1 }) }
 {
     Err(Fault {

@@ -1,4 +1,4 @@
-use Rattle.rdl_addr.proofs.Least.{multiple_is_least, power_is_least}
+use Rattle.rdl_layout.proofs.Least.{multiple_is_least, power_is_least}
 use Rattle.rdl_addr.proofs.laws.rounding_is_least.Goals as goal
 
 pub returns-clause-multiple : goal.returns-clause-multiple

@@ -1,0 +1,2 @@
+mod Clashes
+mod Listing

@@ -1,0 +1,2 @@
+mod Using
+mod Listing

@@ -1,0 +1,4 @@
+pub mod Sets
+pub mod Noting
+pub mod Named
+pub mod Around

@@ -1,0 +1,6 @@
+use Rattle.std.proofs.Common.{◌≡◌, ◌++◌, take, flat_map}
+use Rattle.rdl_layout.specs.Registers.{misaligned}
+use Rattle.rdl_layout.proofs.register.add_misaligned.Given as goal
+
+abbrev pub invariant-loop-register : goal.invariant-loop-register
+invariant-loop-register l = l.faults.items ≡ l.initial.faults.items ++ flat_map misaligned (take l.register-index l.registers)

@@ -1,0 +1,5 @@
+mod Twice
+mod Found
+mod Entered
+mod Meant
+mod Opening

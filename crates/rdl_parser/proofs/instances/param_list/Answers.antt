@@ -1,0 +1,30 @@
+use Rattle.std.proofs.Common.{[], ◌∷◌, refl, ap, Err, append-nil, append_assoc}
+use Rattle.rb_grammar.proofs.Following.{◌⟫◌, ◌⟫|◌}
+use Rattle.rb_grammar.proofs.Steps.{taking, missing, calling, calling_stops, passed}
+use Rattle.rdl_expressions.proofs.Firsts.{right}
+use Rattle.rdl_parser.proofs.Lists.{no_more, more, listed_from}
+use Rattle.rdl_parser.proofs.instances.param_list.Goals as goal
+
+pub returns-in_err-add_param-clause-stops : goal.returns-in_err-add_param-clause-stops
+returns-in_err-add_param-clause-stops c = λ h. calling_stops right (c.in_err-add_param.ensures.stops (ap Err (passed _ _ c.from_residual.ensures.1 h))) refl
+
+pub more-init : goal.more-init
+more-init c = let a = c.in_ok-add_param.ensures.tree in record {
+  tree = λ us xs d. rw (a.list, c.new-list.ensures.items) (listed_from a.derives d);
+  reads = calling right c.in_ok-add_param.ensures.reads refl;
+}
+
+pub returns-in_err-add_param-2-clause-stops : goal.returns-in_err-add_param-2-clause-stops
+returns-in_err-add_param-2-clause-stops c = λ h. c.more.invariant.reads ⟫ taking right c.in-Some.ensures refl ⟫| calling_stops right (c.in_err-add_param-2.ensures.stops (ap Err (passed _ _ c.from_residual-in_err-add_param-2.ensures.1 h))) refl
+
+pub more-preserved : goal.more-preserved
+more-preserved c = let a = c.in_ok-add_param-2.ensures.tree in record {
+  tree = λ us xs d. rw (a.list, append_assoc) (c.more.invariant.tree us (a.one ∷ xs) (more c.in-Some.ensures a.derives d));
+  reads = c.more.invariant.reads ⟫ taking right c.in-Some.ensures refl ⟫ calling right c.in_ok-add_param-2.ensures.reads refl;
+}
+
+pub returns-clause-tree : goal.returns-clause-tree
+returns-clause-tree c = rw c.into_bump_slice.ensures (rw append-nil at (c.more.invariant.tree c.mark.new.self [] (rw c.in_default.ensures.list no_more)))
+
+pub returns-clause-reads : goal.returns-clause-reads
+returns-clause-reads c = c.more.invariant.reads ⟫ missing right c.in_default.ensures refl

@@ -1,0 +1,21 @@
+use Rattle.std.proofs.Common.{refl, ap, Err}
+use Rattle.rb_grammar.proofs.Following.{◌⟫◌, ◌⟫|◌}
+use Rattle.rb_grammar.proofs.Steps.{taking, missing, calling, calling_stops, passed}
+use Rattle.rdl_tree.specs.Tree as tree
+use Rattle.rdl_expressions.proofs.Firsts.{right}
+use Rattle.rdl_parser.proofs.properties.assigned.Goals as goal
+
+pub returns-in_default-clause-tree : goal.returns-in_default-clause-tree
+returns-in_default-clause-tree c = rw c.in_default.ensures.list tree.none
+
+pub returns-in_default-clause-reads : goal.returns-in_default-clause-reads
+returns-in_default-clause-reads c = missing right c.in_default.ensures refl
+
+pub returns-in_err-given-clause-stops : goal.returns-in_err-given-clause-stops
+returns-in_err-given-clause-stops c = λ h. taking right c.in-Some.ensures refl ⟫| calling_stops right (c.in_err-given.ensures.stops (ap Err (passed _ _ c.from_residual.ensures.1 h))) refl
+
+pub returns-clause-tree : goal.returns-clause-tree
+returns-clause-tree c = tree.some c.in-Some.ensures c.in_ok-given.ensures.tree
+
+pub returns-clause-reads : goal.returns-clause-reads
+returns-clause-reads c = taking right c.in-Some.ensures refl ⟫ calling right c.in_ok-given.ensures.reads refl

@@ -1,0 +1,55 @@
+//! The order of items, and where there is none.
+
+ghost use Rattle.std.specs.Prelude.{◌≡◌, Err, IfOk, MatchResult, Ok, length};
+ghost use Rattle.rdl_refs.specs.Answers.{AreCircling, Orders};
+ghost use Rattle.rdl_refs.specs.Walk.{AreUnordered};
+
+use crate::graph::{circle_from, numbers, unranked};
+use crate::{OrderError, Refs};
+use rb_base::{Fault, NoMemory, Place, Rule};
+use rdl_faults::listed;
+use std::alloc::Global;
+use topological_order::levelize;
+
+/// A failure of R7 at the place of each thing without a rank.
+fn unordered(
+    alloc: Global,
+    ranks: &[Option<usize>],
+    places: &[Place],
+) -> Result<Vec<Fault>, NoMemory>
+    requires { length ranks.now ≡ length places.now }
+    ensures { IfOk result (λ fs. AreUnordered ranks.now places.now (length places.now) fs.items) }
+{
+    let mut faults = Vec::new(alloc);
+    for (thing, place) in places.iter().enumerate() {
+        if ranks[thing].is_none() {
+            faults.push(Fault {
+                place: *place,
+                rule: Rule::R7,
+            })?;
+        }
+    }
+    Ok(faults)
+}
+
+/// The numbers of all items, each behind those that it refers to. `Loop` comes exactly where references can be followed for
+/// ever, with a circle of items; `NoMemory` for want of memory alone. Takes time in proportion to the number of references
+/// between items.
+pub fn order(alloc: Global, refs: &Refs<'_>) -> Result<Vec<u32>, OrderError>
+    ensures { MatchResult result (λ order. Orders refs.now (Ok order.items)) (λ error. Orders refs.now (Err error)) }
+{
+    let levels = levelize(alloc, refs.edges())?;
+    match unranked(&levels.ranks) {
+        None => Ok(numbers(alloc, &levels.order)?),
+        Some(start) => Err(OrderError::Loop(circle_from(alloc, refs.edges(), &levels, start)?)),
+    }
+}
+
+/// The failures of rule R7, by place: it stands at the instance of each field and register from an item of which references
+/// can be followed for ever. `NoMemory` comes for want of memory alone.
+pub fn circling(alloc: Global, refs: &Refs<'_>) -> Result<Vec<Fault>, NoMemory>
+    ensures { IfOk result (λ list. AreCircling refs.now list.items) }
+{
+    let levels = levelize(alloc, refs.edges())?;
+    listed(unordered(alloc, &levels.ranks, refs.places())?)
+}

@@ -1,0 +1,5 @@
+mod Primaries
+mod Judging
+mod Seens
+mod Applying
+mod Unseen

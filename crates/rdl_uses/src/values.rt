@@ -1,0 +1,46 @@
+//! The arguments of the uses of a type, and the values of its parameters.
+
+ghost use Rattle.std.specs.Prelude.{◌≡◌, IfOk};
+ghost use Rattle.rdl_values.specs.Bodies.{Closure};
+ghost use Rattle.rdl_values.specs.Parameters.{bound_of};
+ghost use Rattle.rdl_values.specs.Uses.{Use};
+ghost use Rattle.rdl_judging.specs.Noted.{IsNoted};
+ghost use Rattle.rdl_params.specs.Binding.{AreValues};
+ghost use Rattle.rdl_uses.specs.Applied.{IsApplied};
+ghost use Rattle.rdl_uses.specs.Judged.{of_values};
+
+use rb_base::{NoMemory, Place};
+use rdl_judging::Failures;
+use rdl_params::{Arguments, Binding, bind};
+use rdl_tree::{Arg, Def};
+use rdl_values::Chain;
+use std::alloc::Global;
+
+/// The values of a definition's parameters at some uses, if it has them, and whether neither they nor the arguments have a failure.
+#[derive(Drop)]
+pub struct Values<'a> {
+    pub binding: Option<Binding<'a>>,
+    pub given: bool,
+}
+
+/// Puts in the failures of arguments and of parameters: E6 and the V rules. The bodies round the definition's text are `inside`, by
+/// their numbers in the list that is visible.
+pub fn judge_values<'a>(
+    alloc: Global,
+    def: &Def<'a>,
+    args: &'a [Arg<'a>],
+    place: Place,
+    visible: &Chain<'_, '_, '_, 'a>,
+    inside: &[usize],
+    failures: &mut Failures,
+) -> Result<Values<'a>, NoMemory>
+    ensures noted { IfOk result (λ r. (u : Use) (c : Closure) → IsApplied def.now args.now place visible.now inside.now u c → IsNoted (of_values u c) r.given failures.old failures.new) }
+    ensures values { IfOk result (λ r. (u : Use) (c : Closure) → IsApplied def.now args.now place visible.now inside.now u c → AreValues (bound_of u c) r.binding) }
+{
+    let (arguments, clean) = Arguments::judge(alloc, args, def.params, failures)?;
+    let binding = bind(
+        alloc, def.params, &arguments, visible, inside, place, failures,
+    )?;
+    let given = clean & binding.is_some();
+    Ok(Values { binding, given })
+}
