@@ -1,15 +1,11 @@
 //! All nodes of a block over its registers.
 
-ghost use Rattle.std.specs.Prelude.{◌≡◌, IfOk, Contains};
+ghost use Rattle.std.specs.Prelude.{◌≡◌, IfOk};
 ghost use Rattle.rtl_net.specs.Net.{Grows};
-ghost use Rattle.rb_model.specs.Machine.{read_data};
-ghost use Rattle.rb_model.specs.Ports.{Outlet, outlets};
 ghost use Rattle.gen_scene.specs.Bases.{IsBase};
-ghost use Rattle.gen_scene.specs.Items.{IsItem};
-ghost use Rattle.gen_scene.specs.Worth.{IsWorth};
 ghost use Rattle.gen_access.specs.Words.{AreHitsOf, read_word, written_word};
 ghost use Rattle.gen_edge.specs.Edges.{AreNexts, IsScene};
-ghost use Rattle.gen_core.specs.Parts.{IsSceneOf};
+ghost use Rattle.gen_core.specs.Parts.{HasParts, HasShown, HasTaken, IsSceneOf};
 
 use gen_access::{WordHits, marks, word_hits};
 use gen_edge::{answer_node, moved_nodes, next_nodes, used_nodes};
@@ -18,17 +14,21 @@ use rb_base::NoMemory;
 use rtl_net::{Id, Netlist};
 use std::alloc::Global;
 
-/// The nodes of a block: of its items by their places, of the read data of the access of the edge, of 32 bits, and of what the
-/// registers take, in the order of the plan.
+/// The nodes of the read data of the access of the edge, of 32 bits, and of what the registers take, in the order of the plan.
 #[derive(Drop)]
-pub struct Parts {
-    pub items: Vec<Id>,
+pub(crate) struct Taken {
     pub answer: Id,
     pub nexts: Vec<Id>,
 }
 
+/// The nodes of a block: of its items by their places, and of what an edge takes of them.
+#[derive(Drop)]
+pub(crate) struct Parts {
+    pub items: Vec<Id>,
+    pub taken: Taken,
+}
+
 /// The nodes of the block's items by their places.
-#[tactic(auto, using(rtl_net::proofs::Nets::building))]
 fn table(
     alloc: Global,
     net: &mut Netlist,
@@ -41,17 +41,15 @@ fn table(
     ensures older { Grows net.old net.new }
     ensures name { net.new.name ≡ net.old.name }
     ensures scene { IfOk result (λ t. IsSceneOf net.new base.now t.items) }
-    ensures shown { IfOk result (λ t. (o : Outlet) → Contains (outlets base.now.block.now) o → IsItem base.now.block.now base.now.inlet net.new t.items o.item) }
+    ensures shown { IfOk result (λ t. HasShown base.now.block.now base.now.inlet net.new t.items) }
 {
     let needed = wanted(alloc, base.block, base.plan)?;
     let touched = marks(alloc, net, base, hits, &needed)?;
-    let items = item_nodes(alloc, net, base, &touched, &needed)?;
-    Ok(items)
+    item_nodes(alloc, net, base, &touched, &needed)
 }
 
 /// What the registers take, in the order of the plan.
-#[tactic(auto, using(rtl_net::proofs::Nets::building))]
-fn taken(
+fn nexts(
     alloc: Global,
     net: &mut Netlist,
     scene: &Scene,
@@ -66,20 +64,39 @@ fn taken(
 {
     let values = moved_nodes(alloc, net, scene, hits)?;
     let used = used_nodes(alloc, net, scene, &hits.writes)?;
-    let nexts = next_nodes(alloc, net, scene, &values, &used)?;
-    Ok(nexts)
+    next_nodes(alloc, net, scene, &values, &used)
+}
+
+/// What an edge takes of the nodes of a block.
+fn taken(
+    alloc: Global,
+    net: &mut Netlist,
+    scene: &Scene,
+    hits: &WordHits,
+) -> Result<Taken, NoMemory>
+    requires scene { IsScene net.old scene.now }
+    requires reads { AreHitsOf scene.now.base.now.block.now scene.now.base.now.inlet net.old scene.now.base.now.block.now.reads read_word hits.now.reads.items }
+    requires writes { AreHitsOf scene.now.base.now.block.now scene.now.base.now.inlet net.old scene.now.base.now.block.now.writes written_word hits.now.writes.items }
+    ensures older { Grows net.old net.new }
+    ensures name { net.new.name ≡ net.old.name }
+    ensures taken { IfOk result (λ t. HasTaken scene.now.base.now.block.now scene.now.base.now.inlet net.new t) }
+{
+    let answer = answer_node(alloc, net, scene, &hits.reads)?;
+    let nexts = nexts(alloc, net, scene, hits)?;
+    Ok(Taken { answer, nexts })
 }
 
 /// Adds the nodes of a block whose registers and pins are there. The only error is want of memory, after which the netlist has
 /// some of the nodes.
-#[tactic(auto, using(rtl_net::proofs::Nets::building))]
-pub fn block_nodes(alloc: Global, net: &mut Netlist, base: &Base) -> Result<Parts, NoMemory>
-    requires base { IsBase net.old base.now }
+pub(crate) fn block_nodes(
+    alloc: Global,
+    net: &mut Netlist,
+    base: &Base,
+) -> Result<Parts, NoMemory>
+    requires { IsBase net.old base.now }
     ensures older { Grows net.old net.new }
     ensures name { net.new.name ≡ net.old.name }
-    ensures shown { IfOk result (λ p. (o : Outlet) → Contains (outlets base.now.block.now) o → IsItem base.now.block.now base.now.inlet net.new p.items.items o.item) }
-    ensures answered { IfOk result (λ p. IsWorth base.now.block.now base.now.inlet net.new p.answer 32 (λ n v. read_data base.now.block.now v n.access)) }
-    ensures nexts { IfOk result (λ p. AreNexts base.now.block.now base.now.inlet net.new p.nexts.items) }
+    ensures parts { IfOk result (λ p. HasParts base.now.block.now base.now.inlet net.new p) }
 {
     let hits = word_hits(alloc, net, base)?;
     let items = table(alloc, net, base, &hits)?;
@@ -87,11 +104,6 @@ pub fn block_nodes(alloc: Global, net: &mut Netlist, base: &Base) -> Result<Part
         base,
         items: &items,
     };
-    let answer = answer_node(alloc, net, &scene, &hits.reads)?;
-    let nexts = taken(alloc, net, &scene, &hits)?;
-    Ok(Parts {
-        items,
-        answer,
-        nexts,
-    })
+    let taken = taken(alloc, net, &scene, &hits)?;
+    Ok(Parts { items, taken })
 }
