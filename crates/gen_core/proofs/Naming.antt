@@ -1,10 +1,9 @@
 -- The outputs' names are not those of registers.
-use Rattle.std.proofs.Common.{◌≡◌, ℕ, Bool, true, false, ◌||◌, if◌then◌else◌, List, [], ◌∷◌, ◌++◌, length, map, filter, refl, sym, ap, ◌∙◌, subst}
+use Rattle.std.proofs.Common.{◌≡◌, ℕ, Bool, true, false, ◌||◌, if◌then◌else◌, List, [], ◌∷◌, ◌++◌, map, filter, refl, sym, ap, ◌∙◌, subst}
 use Rattle.std.specs.Prelude.{Contains}
 use Rattle.std.specs.Str.{bytes_eq}
 use Rattle.std.specs.List.{list_any}
 use Rattle.std.proofs.lemmas.List.{map-append}
-use Rattle.std.proofs.lemmas.Option.{slice_get_read}
 use Rattle.rb_base.specs.declared.ports.Pin.{Pin}
 use Rattle.rb_base.specs.declared.ports.Port.{Port}
 use Rattle.v_design.specs.Design.{is_output, outputs_among, port_pin}
@@ -13,13 +12,14 @@ use Rattle.rtl_net.specs.Names.{Lacks}
 use Rattle.rtl_net.specs.Net.{Net, registers_of}
 use Rattle.rtl_net.specs.Ports.{IsFree, has_room}
 use Rattle.rb_model.specs.declared.block.Block.{Block}
-use Rattle.rb_model.specs.Kept.{Kept, Waited, Data, Error, has_wait, kept, kept_pins}
+use Rattle.rb_model.specs.Kept.{Kept, Waited, Data, Error, has_wait, kept_pins}
 use Rattle.rb_model.specs.Ports.{Outlet, outlets, ports}
 use Rattle.rb_model.specs.References.{Each}
 use Rattle.rb_model.proofs.Apart.{Apart, Apart-from, Each-filter, Name, bytes_eq-not}
-use Rattle.rb_model.proofs.Eachs.{Each-at, Each-left, Each-map, Each-right}
+use Rattle.rb_model.proofs.Eachs.{Each-left, Each-map, Each-right}
 use Rattle.rb_model.proofs.InputPins.{bus_shown, outlet_pin, output_pins_are}
 use Rattle.rb_plan.specs.Kept.{field_kept, kept_pin}
+use Rattle.gen_core.proofs.Joining.{contained}
 
 lacks_from : (ms : List Name) (n : Name) → Each (λ m. m ≡ n → ⊥) ms → Lacks ms n
 lacks_from [] n h = refl
@@ -27,11 +27,11 @@ lacks_from (m ∷ ms) n h = ap (λ c. c || list_any (bytes_eq n) ms) (bytes_eq-n
 
 lacks_both : (ms ns : List Name) (n : Name) → Lacks ms n → Lacks ns n → Lacks (ms ++ ns) n
 lacks_both [] ns n p q = q
-lacks_both (m ∷ ms) ns n p q = by (bytes_eq n m) refl p
+lacks_both (m ∷ ms) ns n p q = by (bytes_eq n m) refl p (λ h. lacks_both ms ns n h q)
   where
-    by : (c : Bool) → bytes_eq n m ≡ c → (c || list_any (bytes_eq n) ms) ≡ false → Lacks (m ∷ ms ++ ns) n
-    by true e h = cc
-    by false e h = ap (λ c. c || list_any (bytes_eq n) (ms ++ ns)) e ∙ lacks_both ms ns n h q
+    by : (c : Bool) → bytes_eq n m ≡ c → (c || list_any (bytes_eq n) ms) ≡ false → (Lacks ms n → Lacks (ms ++ ns) n) → Lacks (m ∷ ms ++ ns) n
+    by true e h more = cc
+    by false e h more = ap (λ c. c || list_any (bytes_eq n) (ms ++ ns)) e ∙ more h
 
 -- names in front are not among those behind them
 each_lacks : (xs ys zs : List Name) → Apart (xs ++ (ys ++ zs)) → Each (Lacks ys) xs
@@ -42,9 +42,6 @@ each_lacks (x ∷ xs) ys zs h = (lacks_from ys x (Each-left (λ m. m ≡ x → �
 each_made : {X Y : Type 0} (P : Y → Type 0) (f : X → Y) (xs : List X) → Each P (map f xs) → Each (λ x. P (f x)) xs
 each_made P f [] h = tt
 each_made P f (x ∷ xs) h = (h.0, each_made P f xs h.1)
-
-contained : {X : Type 0} (P : X → Type 0) (xs : List X) (x : X) → Each P xs → Contains xs x → P x
-contained P xs x h c = let (j, low, is) = c in Each-at P xs j x h (slice_get_read xs (length xs) j x refl low (sym is))
 
 abbrev pub field_names : Block → List Name
 field_names b = map (λ p. p.name) (map (kept_pin b) (field_kept b))

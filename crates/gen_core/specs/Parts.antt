@@ -14,13 +14,14 @@ use Rattle.gen_edge.specs.Edges.{AreNexts, IsScene}
 use Rattle.gen_core.specs.declared.nodes.Taken.{Taken}
 use Rattle.gen_core.specs.declared.nodes.Parts.{Parts}
 
--- the base and the items' nodes make a scene
-pub record IsSceneOf (net : Net) (base : Base) (items : List Id) : Type 0 where
-  pub is : (s : Scene) → s.base.now ≡ base → s.items.now ≡ items → IsScene net s
-
 -- the table has the nodes of the items that outputs show
 pub record HasShown (b : Block) (a : Inlet) (net : Net) (items : List Id) : Type 0 where
   pub each : (o : Outlet) → Contains (outlets b) o → IsItem b a net items o.item
+
+-- the base and the items' nodes make a scene
+pub record IsSceneOf (net : Net) (base : Base) (items : List Id) : Type 0 where
+  pub is : (s : Scene) → s.base.now ≡ base → s.items.now ≡ items → IsScene net s
+  pub shown : (s : Scene) → s.base.now ≡ base → s.items.now ≡ items → HasShown base.block.now base.inlet net items
 
 -- the nodes of what an edge takes
 pub record HasTaken (b : Block) (a : Inlet) (net : Net) (t : Taken) : Type 0 where

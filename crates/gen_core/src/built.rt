@@ -21,7 +21,7 @@ use rtl_net::{Id, Netlist};
 use std::alloc::Global;
 
 /// Adds the nodes of a block whose registers are there, drives those, and shows the outputs.
-fn built(alloc: Global, net: &mut Netlist, base: &Base) -> Result<Id, NoMemory>
+fn tied(alloc: Global, net: &mut Netlist, base: &Base) -> Result<Id, NoMemory>
     requires base { IsBase net.old base.now }
     requires awaits { AreAwaiting base.now.block.now base.now.plan.now base.now.pins.now net.old base.now.kept.now }
     requires free { (o : Outlet) → Contains (outlets base.now.block.now) o → IsFree net.old o.name o.width }
@@ -72,5 +72,6 @@ pub fn core(
         pins,
         kept: &kept,
     };
-    built(alloc, net, &base)
+    let answer = tied(alloc, net, &base)?;
+    Ok(answer)
 }

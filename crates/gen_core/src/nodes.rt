@@ -1,6 +1,6 @@
 //! All nodes of a block over its registers.
 
-ghost use Rattle.std.specs.Prelude.{◌≡◌, IfOk};
+ghost use Rattle.std.specs.Prelude.{◌≡◌, IfOk, OnOk};
 ghost use Rattle.rtl_net.specs.Net.{Grows};
 ghost use Rattle.gen_scene.specs.Bases.{IsBase};
 ghost use Rattle.gen_access.specs.Words.{AreHitsOf, read_word, written_word};
@@ -41,15 +41,15 @@ fn table(
     ensures older { Grows net.old net.new }
     ensures name { net.new.name ≡ net.old.name }
     ensures scene { IfOk result (λ t. IsSceneOf net.new base.now t.items) }
-    ensures shown { IfOk result (λ t. HasShown base.now.block.now base.now.inlet net.new t.items) }
 {
     let needed = wanted(alloc, base.block, base.plan)?;
     let touched = marks(alloc, net, base, hits, &needed)?;
-    item_nodes(alloc, net, base, &touched, &needed)
+    let items = item_nodes(alloc, net, base, &touched, &needed)?;
+    Ok(items)
 }
 
 /// What the registers take, in the order of the plan.
-fn nexts(
+fn next_values(
     alloc: Global,
     net: &mut Netlist,
     scene: &Scene,
@@ -68,31 +68,28 @@ fn nexts(
 }
 
 /// What an edge takes of the nodes of a block.
-fn taken(
+fn edge_nodes(
     alloc: Global,
     net: &mut Netlist,
     scene: &Scene,
     hits: &WordHits,
 ) -> Result<Taken, NoMemory>
-    requires scene { IsScene net.old scene.now }
+    requires scene { IsSceneOf net.old scene.now.base.now scene.now.items.now }
     requires reads { AreHitsOf scene.now.base.now.block.now scene.now.base.now.inlet net.old scene.now.base.now.block.now.reads read_word hits.now.reads.items }
     requires writes { AreHitsOf scene.now.base.now.block.now scene.now.base.now.inlet net.old scene.now.base.now.block.now.writes written_word hits.now.writes.items }
     ensures older { Grows net.old net.new }
     ensures name { net.new.name ≡ net.old.name }
+    ensures shown { OnOk result (HasShown scene.now.base.now.block.now scene.now.base.now.inlet net.new scene.now.items.now) }
     ensures taken { IfOk result (λ t. HasTaken scene.now.base.now.block.now scene.now.base.now.inlet net.new t) }
 {
     let answer = answer_node(alloc, net, scene, &hits.reads)?;
-    let nexts = nexts(alloc, net, scene, hits)?;
+    let nexts = next_values(alloc, net, scene, hits)?;
     Ok(Taken { answer, nexts })
 }
 
 /// Adds the nodes of a block whose registers and pins are there. The only error is want of memory, after which the netlist has
 /// some of the nodes.
-pub(crate) fn block_nodes(
-    alloc: Global,
-    net: &mut Netlist,
-    base: &Base,
-) -> Result<Parts, NoMemory>
+pub(crate) fn block_nodes(alloc: Global, net: &mut Netlist, base: &Base) -> Result<Parts, NoMemory>
     requires { IsBase net.old base.now }
     ensures older { Grows net.old net.new }
     ensures name { net.new.name ≡ net.old.name }
@@ -104,6 +101,6 @@ pub(crate) fn block_nodes(
         base,
         items: &items,
     };
-    let taken = taken(alloc, net, &scene, &hits)?;
+    let taken = edge_nodes(alloc, net, &scene, &hits)?;
     Ok(Parts { items, taken })
 }
