@@ -1,7 +1,7 @@
 -- Which fields an access touches.
 use Rattle.std.specs.Prelude.{◌≡◌, ℕ, ◌<◌, ◌&&◌, Bool, if◌then◌else◌, Option, List, length}
 use Rattle.v_design.specs.Expr.{bit_of}
-use Rattle.rtl_net.specs.Graft.{at}
+use Rattle.rtl_net.specs.Ids.{at}
 use Rattle.rtl_net.specs.declared.node.Id.{Id}
 use Rattle.rb_model.specs.declared.kinds.RefItem.{RefItem}
 use Rattle.rb_model.specs.declared.kinds.RefItem.TheVariants as item

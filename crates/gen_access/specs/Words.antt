@@ -3,7 +3,7 @@ use Rattle.std.specs.Prelude.{◌≡◌, ℕ, ◌+◌, ◌<◌, ◌≤◌, ◌==
 use Rattle.std.specs.Option.{option_map_or}
 use Rattle.rtl_net.specs.Value.{bit_of}
 use Rattle.rtl_net.specs.Net.{Net}
-use Rattle.rtl_net.specs.Graft.{at}
+use Rattle.rtl_net.specs.Ids.{at}
 use Rattle.rtl_net.specs.declared.node.Id.{Id}
 use Rattle.rb_model.specs.declared.block.Block.{Block}
 use Rattle.rb_model.specs.declared.block.Field.{Field}

@@ -6,7 +6,7 @@ use Rattle.std.proofs.Math.Nat.{mod-lt, pow-suc, div-one, div-add-mod', div-div-
 use Rattle.rb_base.specs.Bits.{part}
 use Rattle.rtl_net.specs.Value.{At, bit_of}
 use Rattle.rtl_net.specs.Net.{Net, Settles, Grows, IsNode, Stands}
-use Rattle.rtl_net.specs.Graft.{at}
+use Rattle.rtl_net.specs.Ids.{at}
 use Rattle.rtl_net.specs.declared.node.Id.{Id}
 use Rattle.rtl_net.proofs.Nets.{fits_at, Stands-grows, IsNode-grows, Grows-refl, Grows-trans}
 use Rattle.gen_decode.specs.Hits.{StandEach, AreHits, AreHitsAbove, AreHalved}

@@ -6,7 +6,7 @@ use Rattle.std.specs.Int.Bits.{or_zero_l, or_zero_r}
 use Rattle.rb_base.specs.Bits.{part}
 use Rattle.rtl_net.specs.Value.{At, bit_of}
 use Rattle.rtl_net.specs.Net.{Net, Grows, IsNode, Stands}
-use Rattle.rtl_net.specs.Graft.{at}
+use Rattle.rtl_net.specs.Ids.{at}
 use Rattle.rtl_net.specs.declared.node.Id.{Id}
 use Rattle.rtl_net.proofs.Nets.{Grows-refl, Grows-trans}
 use Rattle.net_gates.specs.Gates.{or_of}

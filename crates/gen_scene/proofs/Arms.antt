@@ -5,7 +5,7 @@ use Rattle.std.specs.Option.{option_map_or}
 use Rattle.rb_base.specs.Bits.{ones}
 use Rattle.rtl_net.specs.Value.{bit_of}
 use Rattle.rtl_net.specs.Net.{Net, Grows, IsNode, seen_or_zero, width_in}
-use Rattle.rtl_net.specs.Graft.{at}
+use Rattle.rtl_net.specs.Ids.{at}
 use Rattle.rtl_net.specs.declared.node.Id.{Id}
 use Rattle.rb_model.specs.declared.kinds.RefItem.TheVariants as item
 use Rattle.rb_model.specs.declared.block.Block.{Block}

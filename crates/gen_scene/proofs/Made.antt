@@ -3,7 +3,7 @@ use Rattle.std.proofs.Common.{◌≡◌, ℕ, ◌==◌, ◌<◌, ◌^◌, Bool, 
 use Rattle.std.proofs.Math.Pow.{pow_pos}
 use Rattle.rtl_net.specs.Value.{bit_of}
 use Rattle.rtl_net.specs.Net.{Net, Grows, IsNode, seen_or_zero}
-use Rattle.rtl_net.specs.Graft.{at}
+use Rattle.rtl_net.specs.Ids.{at}
 use Rattle.rtl_net.specs.declared.node.Id.{Id}
 use Rattle.rb_model.specs.declared.kinds.RefItem.TheVariants as item
 use Rattle.rb_plan.specs.Table.{item_place}

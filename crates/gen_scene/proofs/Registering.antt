@@ -10,7 +10,7 @@ use Rattle.v_design.specs.WellFormed.{distinct}
 use Rattle.rtl_net.specs.Names.{Lacks}
 use Rattle.rtl_net.specs.Value.{under}
 use Rattle.rtl_net.specs.Net.{Net, Awaits, Extends, Keeps, IsNode, registers_of, undriven}
-use Rattle.rtl_net.specs.Graft.{at}
+use Rattle.rtl_net.specs.Ids.{at}
 use Rattle.rtl_net.specs.Ports.{IsNew, seat_names}
 use Rattle.rtl_net.specs.declared.node.Id.{Id}
 use Rattle.rtl_net.proofs.Nets.{Extends-refl, Extends-trans, Keeps-refl, Keeps-trans, IsNode-extends}

@@ -15,7 +15,7 @@ use Rattle.rtl_net.specs.Names as names
 use Rattle.rtl_net.specs.Names.{clock, is_net_name}
 use Rattle.rtl_net.specs.Value.{At, under}
 use Rattle.rtl_net.specs.Net.{Net, Settles, Stands, CanReset, IsInput, IsWidth}
-use Rattle.rtl_net.specs.Graft.{at}
+use Rattle.rtl_net.specs.Ids.{at}
 use Rattle.rtl_net.specs.declared.node.Id.{Id}
 use Rattle.rtl_net.specs.declared.node.NetReset.TheVariants as resets
 use Rattle.rb_model.specs.declared.kinds.ResetBy.{ResetBy}

@@ -4,7 +4,7 @@ ghost use Rattle.std.specs.Prelude.{◌≡◌, ◌<◌, ◌+◌, ◌++◌, ◌�
 ghost use Rattle.rtl_net.specs.Value.{At, under};
 ghost use Rattle.rtl_net.specs.Names.{is_net_name};
 ghost use Rattle.rtl_net.specs.Net.{Extends, Keeps, Awaits, CanReset, HasClock, IsNode, IsWidth, registers_of, undriven};
-ghost use Rattle.rtl_net.specs.Graft.{at};
+ghost use Rattle.rtl_net.specs.Ids.{at};
 ghost use Rattle.rtl_net.specs.Ports.{IsNew};
 ghost use Rattle.rb_model.specs.Kept.{Kept, register_name, register_width};
 ghost use Rattle.rb_model.specs.Sound.{IsSound};

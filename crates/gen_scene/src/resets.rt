@@ -1,7 +1,7 @@
 //! How fields are reset.
 
 ghost use Rattle.std.specs.Prelude.{◌≡◌, ◌<◌, length};
-ghost use Rattle.rtl_net.specs.Graft.{at};
+ghost use Rattle.rtl_net.specs.Ids.{at};
 ghost use Rattle.gen_scene.specs.Bases as spec;
 ghost use Rattle.gen_scene.specs.Bases.{signal_place};
 

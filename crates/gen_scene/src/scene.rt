@@ -17,7 +17,7 @@ pub struct Scene<'a> {
 impl<'a> Scene<'a> {
     ghost use Rattle.std.specs.Prelude.{◌≡◌, ◌<◌, ◌++◌, ℕ, Some, codes, length, slice_get};
     ghost use Rattle.rtl_net.specs.Net.{Net};
-    ghost use Rattle.rtl_net.specs.Graft.{at};
+    ghost use Rattle.rtl_net.specs.Ids.{at};
     ghost use Rattle.gen_scene.specs.Bases.{IsBase};
     ghost use Rattle.rb_model.specs.declared.block.Signal.{Signal};
     ghost use Rattle.rb_model.specs.Ports.{signal_name};

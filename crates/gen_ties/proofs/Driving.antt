@@ -5,7 +5,7 @@ use Rattle.rb_base.specs.declared.ports.Pin.{Pin}
 use Rattle.v_design.specs.WellFormed.{distinct}
 use Rattle.rtl_net.specs.Value.{At, under}
 use Rattle.rtl_net.specs.Net.{Net, Awaits, CanDrive, Extends, Settles, registers_of, undriven}
-use Rattle.rtl_net.specs.Graft.{at}
+use Rattle.rtl_net.specs.Ids.{at}
 use Rattle.rtl_net.specs.declared.node.Id.{Id}
 use Rattle.rtl_net.specs.declared.node.NetNode.TheVariants.{Register}
 use Rattle.rtl_net.specs.declared.node.NetReset.{NetReset}

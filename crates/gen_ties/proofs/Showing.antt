@@ -9,7 +9,7 @@ use Rattle.rb_base.specs.declared.ports.Pin.{Pin}
 use Rattle.v_design.specs.WellFormed.{distinct}
 use Rattle.rtl_net.specs.Value.{At}
 use Rattle.rtl_net.specs.Net.{Net, Extends, Has, Settles, registers_of, width_in}
-use Rattle.rtl_net.specs.Graft.{at}
+use Rattle.rtl_net.specs.Ids.{at}
 use Rattle.rtl_net.specs.Ports.{IsFree, has_room, seated}
 use Rattle.rtl_net.specs.Names.{Lacks, is_net_name}
 use Rattle.rtl_net.specs.declared.node.Id.{Id}

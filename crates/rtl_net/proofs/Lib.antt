@@ -13,16 +13,8 @@ mod Calls
 mod Named
 mod Numbers
 pub mod Values
-mod Joining
-mod Renaming
 pub mod Distinct
-mod Others
-mod Copying
-mod CopySteps
-mod Slots
-mod DriveSteps
-mod ShowSteps
-mod Grafting
+pub mod Others
 pub mod Pins
 pub mod OneRun
 pub mod HasRun

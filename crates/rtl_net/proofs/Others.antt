@@ -8,7 +8,6 @@ use Rattle.std.proofs.lemmas.Slice.Eq.{bytes_eq-Decides}
 use Rattle.rtl_net.specs.Names.{Lacks}
 use Rattle.rtl_net.specs.Net.{Net}
 use Rattle.rtl_net.specs.Ports.{seat_names, register_names, has_room, seated, IsNew, IsFree}
-use Rattle.rtl_net.specs.Graft.{can_join, shows_none, IsJoinable}
 use Rattle.rtl_net.specs.declared.node.Seat.{Seat}
 use Rattle.rtl_net.specs.declared.node.Taken.{Taken}
 use Rattle.rtl_net.proofs.PortLists.{taken_by}
@@ -29,16 +28,6 @@ module _ (a : List ℕ) (u : ℕ) (t : Taken) (m : List ℕ) (d : Differ m a) wh
       passes : bytes_eq m r.name ≡ false → has_room (taken_by r t ∷ ss) m w ≡ has_room (r ∷ ss) m w
       passes f = rw f refl
 
-  pub can_join-other : (ss : List Seat) (w : ℕ) → can_join (seated ss a u t) m w ≡ can_join ss m w
-  can_join-other [] w = rw d refl
-  can_join-other (r ∷ ss) w = elim (cases_Bool (bytes_eq a r.name)) [
-    | inl b ↦ ap (λ x. can_join (if x then taken_by r t ∷ ss else r ∷ seated ss a u t) m w) b ∙ passes (other_here r b)
-    | inr b ↦ ap (λ x. can_join (if x then taken_by r t ∷ ss else r ∷ seated ss a u t) m w) b ∙ ap (λ y. if bytes_eq m r.name then shows_none r.taken && r.width == w else y) (can_join-other ss w)
-  ]
-    where
-      passes : bytes_eq m r.name ≡ false → can_join (taken_by r t ∷ ss) m w ≡ can_join (r ∷ ss) m w
-      passes f = rw f refl
-
   pub Lacks-seated : (ss : List Seat) → Lacks (seat_names ss) m → Lacks (seat_names (seated ss a u t)) m
   Lacks-seated ss l = elim (seat_names-seated a u t ss) [
     | inl p ↦ subst (λ xs. Lacks xs m) (sym p.1) (list_any-append (bytes_eq m) (seat_names ss) (a ∷ []) ∙ or_from (list_any (bytes_eq m) (seat_names ss)) (bytes_eq m a || false) l (or_from (bytes_eq m a) false d refl))
@@ -56,9 +45,6 @@ module _ (old new : Net) (a : List ℕ) (u : ℕ) (t : Taken) (es : new.seats �
   pub IsFree-seated : (w : ℕ) → IsFree old m w → IsFree new m w
   IsFree-seated w h = record { seats = ap (λ ss. has_room ss m w) es ∙ has_room-other a u t m d old.seats w ∙ h.seats; registers = subst (λ rs. Lacks rs m) (sym er) h.registers }
 
-  pub IsJoinable-seated : (w : ℕ) → IsJoinable old m w → IsJoinable new m w
-  IsJoinable-seated w h = record { seats = ap (λ ss. can_join ss m w) es ∙ can_join-other a u t m d old.seats w ∙ h.seats; registers = subst (λ rs. Lacks rs m) (sym er) h.registers }
-
 -- a register of another name is added
 module _ (old new : Net) (a : List ℕ) (es : new.seats ≡ old.seats) (er : register_names new ≡ register_names old ++ a ∷ []) (m : List ℕ) (d : Differ m a) where
   lacks_pushed : Lacks (register_names old) m → Lacks (register_names new) m
@@ -70,9 +56,6 @@ module _ (old new : Net) (a : List ℕ) (es : new.seats ≡ old.seats) (er : reg
   pub IsFree-pushed : (w : ℕ) → IsFree old m w → IsFree new m w
   IsFree-pushed w h = record { seats = ap (λ ss. has_room ss m w) es ∙ h.seats; registers = lacks_pushed h.registers }
 
-  pub IsJoinable-pushed : (w : ℕ) → IsJoinable old m w → IsJoinable new m w
-  IsJoinable-pushed w h = record { seats = ap (λ ss. can_join ss m w) es ∙ h.seats; registers = lacks_pushed h.registers }
-
 -- nothing of a name is added
 module _ (old new : Net) (es : new.seats ≡ old.seats) (er : register_names new ≡ register_names old) (m : List ℕ) where
   pub IsNew-same : IsNew old m → IsNew new m
@@ -80,6 +63,3 @@ module _ (old new : Net) (es : new.seats ≡ old.seats) (er : register_names new
 
   pub IsFree-same : (w : ℕ) → IsFree old m w → IsFree new m w
   IsFree-same w h = record { seats = ap (λ ss. has_room ss m w) es ∙ h.seats; registers = subst (λ rs. Lacks rs m) (sym er) h.registers }
-
-  pub IsJoinable-same : (w : ℕ) → IsJoinable old m w → IsJoinable new m w
-  IsJoinable-same w h = record { seats = ap (λ ss. can_join ss m w) es ∙ h.seats; registers = subst (λ rs. Lacks rs m) (sym er) h.registers }

@@ -1,5 +1,5 @@
 -- What a call adds to a netlist's nodes.
-use Rattle.std.specs.Prelude.{◌≡◌, ◌⊎◌, Bool, if◌then◌else◌, List, [], ◌∷◌, ◌++◌}
+use Rattle.std.specs.Prelude.{◌≡◌, ◌⊎◌, if◌then◌else◌, [], ◌∷◌, ◌++◌}
 use Rattle.rtl_net.specs.Fold.{constant_values, is_constant}
 use Rattle.rtl_net.specs.Net.{Net, widths}
 use Rattle.rtl_net.specs.Value.{expr_value, expr_width}

@@ -1,9 +1,7 @@
 pub mod Adds
-pub mod Copy
-pub mod Driving
 pub mod Fits
 pub mod Fold
-pub mod Graft
+pub mod Ids
 pub mod Made
 pub mod Names
 pub mod Net

@@ -12,8 +12,6 @@ ghost use Rattle.rtl_net.specs.Fold.{constant, constant_at, is_constant, constan
 ghost use Rattle.rtl_net.specs.declared.node.Id.{Id as IdOf};
 ghost use Rattle.rtl_net.specs.declared.node.NetReset.{NetReset as ResetOf};
 
-mod graft;
-
 use crate::bits::{difference, joined, odd, ones, part, sum};
 use crate::names::Names;
 use crate::node::{Id, NetExpr, NetNode, NetReset, Seat, Taken};

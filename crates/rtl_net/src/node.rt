@@ -70,10 +70,3 @@ pub struct Seat {
     pub width: u8,
     pub taken: Option<Taken>,
 }
-
-/// An input of a netlist that is copied, and the node that stands for it.
-#[derive(Clone, Copy, Debug, PartialEq, Eq)]
-pub struct Given {
-    pub input: Id,
-    pub by: Id,
-}

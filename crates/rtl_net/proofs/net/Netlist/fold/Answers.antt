@@ -1,4 +1,4 @@
-use Rattle.std.proofs.Common.{◌≡◌, Bool, true, false, if◌then◌else◌, refl, sym, subst}
+use Rattle.std.proofs.Common.{◌≡◌, Bool, true, false, if◌then◌else◌, refl, subst}
 use Rattle.rtl_net.specs.Adds.{AddsWire, folded}
 use Rattle.rtl_net.specs.Fold.{is_constant}
 use Rattle.rtl_net.specs.declared.node.NetExpr.{NetExpr}
