@@ -5,7 +5,7 @@ ghost use Rattle.rtl_net.specs.Net.{Net};
 ghost use Rattle.v_printer.specs.TextOf.{IsTextOf};
 ghost use Rattle.rb_model.specs.declared.block.Block.{Block};
 ghost use Rattle.rb_model.specs.Agreement.{Agrees};
-ghost use Rattle.first_net.specs.Netlist.{IsNetlistOf};
+ghost use Rattle.gen_text.specs.Netlist.{IsNetlistOf};
 
 /// A text of a block's netlist agrees with the block.
 pub fn text_agrees()

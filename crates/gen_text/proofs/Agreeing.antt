@@ -11,7 +11,7 @@ use Rattle.rb_model.specs.Kept.{kept_pins}
 use Rattle.rb_model.specs.Ports.{ports, module_name}
 use Rattle.v_design.specs.Header.{header}
 use Rattle.rb_model.specs.Agreement.{Agrees}
-use Rattle.first_net.specs.Netlist.{IsNetlistOf}
+use Rattle.gen_text.specs.Netlist.{IsNetlistOf}
 
 pub agrees : (net : Net) (b : Block) (text : List ℕ) → IsNetlistOf net b → IsTextOf net text → Agrees text b
 agrees net b text is of =

@@ -1,0 +1,4 @@
+mod OfBus
+mod Accessing
+mod WaitSteps
+mod Fronting
