@@ -1,5 +1,5 @@
 -- What an access of the bus is.
-use Rattle.std.proofs.Common.{◌≡◌, ℕ, zero, suc, ◌<◌, ◌^◌, ◌==◌, Bool, true, false, not, ◌&&◌, if◌then◌else◌, Option, Some, None, List, [], ◌∷◌, map, length, codes, refl, ap, sym, ◌∙◌, subst, arith}
+use Rattle.std.proofs.Common.{◌≡◌, ℕ, zero, suc, ◌<◌, ◌==◌, Bool, true, false, not, ◌&&◌, if◌then◌else◌, Option, Some, None, List, [], ◌∷◌, map, length, codes, refl, ap, sym, ◌∙◌, subst, arith}
 use Rattle.std.specs.Prelude.{is_some, is_none, nat_lt, position, unwrap_or, ◌||◌, ◌+◌, ◌≤◌}
 use Rattle.std.specs.List.{list_any, position_or_len}
 use Rattle.std.specs.List.Sorted.{IsStrictlyIncreasing}
@@ -12,17 +12,16 @@ use Rattle.rtl_net.specs.declared.node.Id.{Id}
 use Rattle.rtl_net.proofs.Nets.{Grows-trans, Stands-grows, fits_at}
 use Rattle.rb_model.specs.declared.block.Block.{Block}
 use Rattle.rb_model.specs.declared.block.Word.{Word}
-use Rattle.rb_model.specs.Items.{Access, NoAccess, Read, Write}
-use Rattle.rb_model.specs.Kept.{Map}
+use Rattle.rb_model.specs.Items.{NoAccess, Read, Write}
 use Rattle.rb_model.specs.Ports.{pin}
-use Rattle.rb_model.specs.Protocol.{Bus, bus_of}
-use Rattle.rb_model.specs.Run.{carried, carries, is_access, is_unmapped, word_at}
+use Rattle.rb_model.specs.Protocol.{bus_of}
+use Rattle.rb_model.specs.Run.{carries, is_access, is_unmapped, word_at}
 use Rattle.rb_model.specs.Sound.{IsSound}
 use Rattle.gen_decode.specs.declared.words.Decoded.{Decoded}
 use Rattle.gen_bus.specs.declared.access.Request.{Request}
 use Rattle.gen_bus.specs.declared.pins.BusPins.{BusPins}
 use Rattle.gen_bus.specs.Accesses.{HasAddress, IsCarried}
-use Rattle.gen_bus.specs.Bus.{IsOfBus, Meets}
+use Rattle.gen_bus.specs.Bus.{IsOfBus}
 use Rattle.gen_bus.specs.Pins.{HasBusPins}
 use Rattle.gen_bus.proofs.OfBus.{of_both, of_bus-extends, pin_node-extends, of_bus-grows, of_bus_as, of_node, of_opposite}
 

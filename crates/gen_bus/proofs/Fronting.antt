@@ -1,18 +1,18 @@
 -- The port but for its data.
-use Rattle.std.proofs.Common.{◌≡◌, ℕ, ◌==◌, Bool, true, false, not, ◌&&◌, if◌then◌else◌, Some, None, List, [], ◌++◌, refl, ap, sym, ◌∙◌, subst, append-nil}
+use Rattle.std.proofs.Common.{◌≡◌, ◌==◌, Bool, true, false, not, ◌&&◌, if◌then◌else◌, Some, None, refl, ap, sym, ◌∙◌, subst}
 use Rattle.std.specs.Prelude.{Result, Ok, Err, OnOk}
 use Rattle.rtl_net.specs.Value.{bit_of}
-use Rattle.rtl_net.specs.Net.{Net, Settles, Extends, Grows, IsNode}
+use Rattle.rtl_net.specs.Net.{Net, Extends, Grows, IsNode}
 use Rattle.rtl_net.specs.declared.node.Id.{Id}
 use Rattle.rtl_net.proofs.Nets.{Extends-grows, Extends-trans, Stands-extends}
 use Rattle.rb_model.specs.declared.block.Block.{Block}
-use Rattle.rb_model.specs.Kept.{Map, Waited, Error, has_wait}
-use Rattle.rb_model.specs.Protocol.{Bus, bus_of}
+use Rattle.rb_model.specs.Kept.{Waited, Error, has_wait}
+use Rattle.rb_model.specs.Protocol.{bus_of}
 use Rattle.rb_model.specs.Run.{carries, closes, is_access, is_unmapped}
 use Rattle.gen_bus.specs.declared.access.Request.{Request}
 use Rattle.gen_bus.specs.declared.front.Front.{Front}
-use Rattle.gen_bus.specs.Accesses.{HasAddress, IsCarried, SaysAccess}
-use Rattle.gen_bus.specs.Bus.{IsOfBus, Meets}
+use Rattle.gen_bus.specs.Accesses.{IsCarried, SaysAccess}
+use Rattle.gen_bus.specs.Bus.{IsOfBus}
 use Rattle.gen_bus.specs.Fronts.{IsClosing, IsFront, KeepsAccess}
 use Rattle.gen_bus.proofs.OfBus.{of_bus-extends, of_bus-grows, of_bus_as, of_node}
 

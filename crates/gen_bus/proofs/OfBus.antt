@@ -1,5 +1,5 @@
 -- Nodes that are worth what a bus's pins and kept values make.
-use Rattle.std.proofs.Common.{◌≡◌, ℕ, zero, suc, ◌<◌, ◌==◌, Bool, true, false, not, ◌&&◌, if◌then◌else◌, refl, ap, sym, ◌∙◌, subst, arith}
+use Rattle.std.proofs.Common.{◌≡◌, ℕ, zero, suc, ◌<◌, ◌==◌, Bool, true, false, not, ◌&&◌, refl, ap, ◌∙◌, arith}
 use Rattle.rb_base.specs.declared.ports.Pin.{Pin}
 use Rattle.rtl_net.specs.Value.{At, bit_of}
 use Rattle.rtl_net.specs.Net.{Net, Settles, Extends, Grows, IsNode}

@@ -1,26 +1,24 @@
 -- The registers of a wait state, and what they make of an access.
-use Rattle.std.proofs.Common.{◌≡◌, ◌≢◌, ℕ, zero, suc, ◌<◌, ◌^◌, ◌==◌, Bool, true, false, not, ◌&&◌, if◌then◌else◌, Some, List, [], ◌∷◌, ◌++◌, map, codes, slice_get, refl, ap, sym, ◌∙◌, subst, arith, ◌+◌, eqb-true, append_assoc}
-use Rattle.std.specs.Str.{bytes_eq}
+use Rattle.std.proofs.Common.{◌≡◌, ◌≢◌, ℕ, ◌<◌, ◌^◌, ◌==◌, Bool, true, false, not, ◌&&◌, if◌then◌else◌, Some, List, [], ◌∷◌, ◌++◌, map, codes, slice_get, refl, ap, sym, ◌∙◌, subst, eqb-true}
 use Rattle.std.proofs.lemmas.List.{map-append}
 use Rattle.rb_base.specs.declared.ports.Pin.{Pin}
 use Rattle.rtl_net.specs.Value.{At, bit_of, under}
 use Rattle.rtl_net.specs.Net.{Net, Settles, Extends, Grows, Keeps, Awaits, CanDrive, CanReset, IsNode, Stands, registers_of, width_in}
-use Rattle.rtl_net.specs.Names.{clock}
 use Rattle.rtl_net.specs.Ports.{IsNew, register_names}
 use Rattle.rtl_net.specs.declared.node.Id.{Id}
 use Rattle.rtl_net.specs.declared.node.NetReset.{NetReset}
 use Rattle.rtl_net.specs.declared.node.NetReset.TheVariants as resets
-use Rattle.rtl_net.proofs.Nets.{Extends-grows, Extends-trans, Grows-trans, IsNode-extends, IsNode-is, Stands-extends, Stands-grows, fits_at}
+use Rattle.rtl_net.proofs.Nets.{Extends-grows, Extends-trans, Grows-trans, IsNode-extends, Stands-extends, Stands-grows, fits_at}
 use Rattle.rtl_net.proofs.Others.{IsNew-pushed}
 use Rattle.rb_model.proofs.OwnViews.{by_cases}
 use Rattle.rb_model.specs.declared.block.Block.{Block}
-use Rattle.rb_model.specs.Kept.{Map, Waited, Error, has_wait}
+use Rattle.rb_model.specs.Kept.{Waited, Error, has_wait}
 use Rattle.rb_model.specs.Ports.{pin}
-use Rattle.rb_model.specs.Protocol.{Bus, bus_of}
+use Rattle.rb_model.specs.Protocol.{bus_of}
 use Rattle.rb_model.specs.Run.{carries, closes, is_access, is_unmapped}
 use Rattle.gen_scene.specs.Bases.{IsPinNode}
 use Rattle.gen_bus.specs.declared.waiting.Held.{Held}
-use Rattle.gen_bus.specs.Bus.{IsOfBus, Meets, cleared}
+use Rattle.gen_bus.specs.Bus.{IsOfBus, cleared}
 use Rattle.gen_bus.specs.Fronts.{KeepsAccess, ShowsData}
 use Rattle.gen_bus.specs.Waits.{AreHeld}
 use Rattle.gen_bus.proofs.OfBus.{pin_node-extends, bit_is, is_one, of_both, of_bus-grows, of_bus_as, of_node, of_opposite}
@@ -142,13 +140,12 @@ pub shows_data : (n0 n1 n2 n3 n4 : Net) (resetn closes_id answer d z shown : Id)
 shows_data n0 n1 n2 n3 n4 resetn closes_id answer d z shown p x g h y kept none chosen after =
     let p1 = pin_node-extends n0 n1 resetn (pin (codes "PRESETn") 1) x p in
     let is : IsNode n1 d 32 (cleared data_name) = cleared_node n1 resetn d data_name 32 p1 kept in
-    let wide : width_in n2 d ≡ 32 = (Stands-grows n1 n2 d 32 g is.stands).width in
-    (
+    let wide : width_in n2 d ≡ 32 = (Stands-grows n1 n2 d 32 g is.stands).width in (
       Stands-extends n3 n4 shown 32 y (subst (Stands n3 shown) wide chosen.stands),
       (λ v s.
-        let s3 = y.settles v s in
-        let s2 = h.settles v s3 in
-        let s1 = g.settles v s2 in
-        chosen.value v s3 ∙ ap (λ k. if v.node closes_id.0 == 1 then k else v.node z.0) (is.value v s1) ∙ ap (λ k. if v.node closes_id.0 == 1 then cleared data_name v else k) (none.value v s2)),
+          let s3 = y.settles v s in
+          let s2 = h.settles v s3 in
+          let s1 = g.settles v s2 in
+          chosen.value v s3 ∙ ap (λ k. if v.node closes_id.0 == 1 then k else v.node z.0) (is.value v s1) ∙ ap (λ k. if v.node closes_id.0 == 1 then cleared data_name v else k) (none.value v s2)),
       (λ v s. after v s ∙ ap (λ r. if r == 0 then 0 else v.node answer.0) (p1.node.value v (g.settles v (h.settles v (y.settles v s))))),
     )

@@ -1,5 +1,5 @@
 -- The bus's pins and kept values at an edge, and nodes of them (IHI 0024B), with no or one wait state.
-use Rattle.std.specs.Prelude.{◌≡◌, ℕ, ◌==◌, ◌<◌, true, if◌then◌else◌, List, codes}
+use Rattle.std.specs.Prelude.{◌≡◌, ℕ, ◌==◌, true, if◌then◌else◌, List, codes}
 use Rattle.rtl_net.specs.Value.{At}
 use Rattle.rtl_net.specs.Net.{Net, Settles, Stands}
 use Rattle.rtl_net.specs.declared.node.Id.{Id}

@@ -1,4 +1,4 @@
-use Rattle.std.proofs.Common.{Some, sym, subst, codes}
+use Rattle.std.proofs.Common.{sym, subst, codes}
 use Rattle.gen_bus.specs.Fronts.{ShowsData}
 use Rattle.gen_bus.proofs.WaitSteps.{by_resetn, can_drive_data, shows_data}
 use Rattle.gen_bus.proofs.data.data_node.Goals as goal

@@ -1,4 +1,4 @@
-use Rattle.std.proofs.Common.{◌++◌, ◌∷◌, [], ◌<◌, ◌^◌, codes, sym, ap, ◌∙◌, subst, arith, append_assoc}
+use Rattle.std.proofs.Common.{◌++◌, ◌∷◌, [], codes, sym, ap, ◌∙◌, subst, arith, append_assoc}
 use Rattle.rtl_net.specs.Net.{CanReset, registers_of}
 use Rattle.rb_model.specs.Ports.{pin}
 use Rattle.gen_bus.proofs.OfBus.{pin_node-extends}

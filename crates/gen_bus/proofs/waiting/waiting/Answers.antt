@@ -1,4 +1,4 @@
-use Rattle.std.proofs.Common.{Some, refl, ◌&&◌, if◌then◌else◌, codes}
+use Rattle.std.proofs.Common.{Some, refl, ◌&&◌, codes}
 use Rattle.rtl_net.specs.Value.{bit_of}
 use Rattle.rtl_net.proofs.Nets.{Extends-grows, Extends-trans, Grows-trans, IsNode-grows}
 use Rattle.rb_model.specs.Run.{carries, closes, is_unmapped}
