@@ -1,0 +1,5 @@
+mod Edging
+mod Filling
+mod Naming
+mod Parts
+mod Running
