@@ -1,0 +1,3 @@
+mod Gathered
+mod Runs
+mod Turns
