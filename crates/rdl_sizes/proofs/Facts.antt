@@ -1,16 +1,15 @@
 -- What is known of a tree and of its rows.
-use Rattle.std.proofs.Common.{◌≡◌, ◌∙◌, ℕ, zero, suc, ◌+◌, ◌<◌, List, [], ◌∷◌, ◌++◌, map, length, get_or, slice_get, Option, None, Some, refl, sym, ap, subst, arith}
+use Rattle.std.proofs.Common.{◌≡◌, ◌∙◌, ℕ, zero, suc, ◌+◌, List, [], ◌∷◌, map, length, slice_get, Some, refl, sym, ap, subst, arith}
 use Rattle.rdl_tree.specs.declared.node.Elab.{Elab}
-use Rattle.rdl_tree.specs.declared.node.Node.{Node, out-Node}
 use Rattle.rdl_values.specs.Elaborated.{nodes_of, top_name}
 use Rattle.rdl_values.specs.Elaboration.{IsClean}
-use Rattle.rdl_values.specs.Instances.{Instance, kind_of}
+use Rattle.rdl_values.specs.Instances.{Instance}
 use Rattle.rdl_values.specs.Lineages.{Lineage, lineages_of, nodes_in}
 use Rattle.rdl_values.proofs.Numbered.{counted}
 use Rattle.rdl_nodes.proofs.Lineages.{all_nodes}
 use Rattle.rdl_index.specs.declared.table.Row.{Row}
 use Rattle.rdl_index.specs.Rows.{AreRows, AreRowsFrom, IsRow}
-use Rattle.rdl_lineages.proofs.Members.{get-made, get-map, get-within}
+use Rattle.rdl_lineages.proofs.Members.{get-map}
 
 length-mapped : {X Y : Type 0} (f : X → Y) (xs : List X) → length (map f xs) ≡ length xs
 length-mapped f [] = refl

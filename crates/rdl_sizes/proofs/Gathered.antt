@@ -1,8 +1,7 @@
 -- A node more of a body, from the last one on.
-use Rattle.std.proofs.Common.{◌≡◌, ◌∙◌, ℕ, suc, ◌+◌, ◌<◌, max, Bool, true, false, List, [], ◌∷◌, ◌++◌, map, length, reverse, Some, refl, sym, ap, subst, arith}
+use Rattle.std.proofs.Common.{◌≡◌, ◌∙◌, ℕ, ◌+◌, max, true, false, List, [], ◌∷◌, ◌++◌, map, length, reverse, Some, refl, sym, ap, subst, arith}
 use Rattle.std.specs.Option.{option_copied}
 use Rattle.std.proofs.lemmas.List.{reverse-append}
-use Rattle.rb_base.specs.declared.place.Place.{Place}
 use Rattle.rdl_tree.specs.declared.item.Inst.{Inst}
 use Rattle.rdl_tree.specs.declared.item.Kind.{Kind}
 use Rattle.rdl_tree.specs.declared.item.Kind.TheVariants as kind
@@ -11,7 +10,7 @@ use Rattle.rdl_values.specs.Elaborated.{Says}
 use Rattle.rdl_values.specs.Instances.{Instance, kind_of}
 use Rattle.rdl_values.specs.Values.{Around}
 use Rattle.rdl_reading.specs.Texts.{IsGiven}
-use Rattle.rdl_addr.specs.Layout.{Group, greatest, group, grouped, has_address}
+use Rattle.rdl_addr.specs.Layout.{Group, greatest, grouped, has_address}
 use Rattle.rdl_addr.proofs.Read.{one-part}
 use Rattle.rdl_sizes.specs.declared.known.Measure.{Measure}
 use Rattle.rdl_sizes.specs.declared.lot.Lot.{Lot}

@@ -1,6 +1,6 @@
 -- The body of a node laid out, by numbers.
 use Rattle.std.specs.List.{All}
-use Rattle.std.proofs.Common.{◌≡◌, ◌∙◌, ℕ, zero, suc, ◌+◌, ◌-◌, ◌<◌, List, [], ◌∷◌, ◌++◌, length, map, refl, sym, ap, subst, arith, append_assoc}
+use Rattle.std.proofs.Common.{◌≡◌, ◌∙◌, ℕ, zero, suc, ◌+◌, ◌-◌, ◌<◌, List, [], ◌∷◌, ◌++◌, length, refl, sym, ap, subst, arith, append_assoc}
 use Rattle.rdl_layout.specs.declared.part.Mode.{Mode}
 use Rattle.rdl_layout.specs.declared.part.Part.{Part}
 use Rattle.rdl_layout.specs.Parts.{end, starts}

@@ -1,8 +1,7 @@
 -- The mode of a row more.
-use Rattle.std.proofs.Common.{◌≡◌, ◌∙◌, ℕ, zero, suc, ◌+◌, ◌<◌, ◌≤◌, ◌⊎◌, inl, inr, List, [], ◌∷◌, ◌++◌, length, get_or, slice_get, Option, None, Some, refl, sym, ap, subst, arith, length-append}
-use Rattle.rdl_tree.specs.declared.item.Kind.{Kind}
+use Rattle.std.proofs.Common.{◌≡◌, ◌∙◌, ℕ, zero, suc, ◌+◌, ◌<◌, ◌⊎◌, inl, inr, List, [], ◌∷◌, ◌++◌, length, get_or, slice_get, Option, None, Some, refl, sym, ap, subst, arith, length-append}
 use Rattle.rdl_tree.specs.declared.node.Elab.{Elab}
-use Rattle.rdl_tree.specs.declared.node.Node.{Node, out-Node}
+use Rattle.rdl_tree.specs.declared.node.Node.{out-Node}
 use Rattle.rdl_props.specs.declared.prop.Prop.TheVariants as prop
 use Rattle.rdl_values.specs.Elaborated.{nodes_of, top_name}
 use Rattle.rdl_values.specs.Elaboration.{IsClean}
@@ -10,14 +9,13 @@ use Rattle.rdl_values.specs.Instances.{Instance, kind_of}
 use Rattle.rdl_values.specs.Lineages.{Lineage, lineages_of}
 use Rattle.rdl_layers.specs.Settings.{setting}
 use Rattle.rdl_layout.specs.declared.part.Mode.{Mode}
-use Rattle.rdl_layout.specs.declared.part.Mode.TheVariants.{Regalign}
 use Rattle.rdl_reading.specs.Modes.{mode_by}
 use Rattle.rdl_index.specs.declared.table.Row.{Row}
 use Rattle.rdl_index.specs.Rows.{AreRows, IsParent, IsRow}
 use Rattle.rdl_addr.specs.Layout.{mode_in}
 use Rattle.rdl_addr.specs.Parts.{mode_of}
 use Rattle.rdl_addr.proofs.Read.{one-mode}
-use Rattle.rdl_lineages.proofs.Members.{get-made, get-within}
+use Rattle.rdl_lineages.proofs.Members.{get-made}
 use Rattle.rdl_lineages.proofs.Order.{behind, once}
 use Rattle.rdl_sizes.specs.Levels.{mode_under}
 use Rattle.rdl_sizes.specs.Modes.{AreModes, IsBelow, mode_at, outer_at}

@@ -1,17 +1,16 @@
 -- Where the nodes in a body start, written one by one.
-use Rattle.std.proofs.Common.{◌≡◌, ◌∙◌, ◌≢◌, ◌↔◌, ℕ, zero, suc, ◌+◌, ◌<◌, ◌≤◌, ◌⊎◌, inl, inr, Bool, true, false, cond, List, [], ◌∷◌, ◌++◌, map, filter, length, take, drop, set, get_or, slice_get, Contains, Some, None, refl, sym, ap, subst, arith}
-use Rattle.std.specs.List.{All}
+use Rattle.std.proofs.Common.{◌≡◌, ◌∙◌, ◌≢◌, ℕ, zero, suc, ◌+◌, ◌<◌, ◌≤◌, ◌⊎◌, inl, inr, Bool, true, false, cond, List, [], ◌∷◌, ◌++◌, map, filter, length, take, set, slice_get, Contains, Some, refl, sym, ap, subst, arith}
 use Rattle.std.proofs.lemmas.List.{get_or-set_same, get_or-set_other, length-set, take_more}
 use Rattle.rdl_tree.specs.declared.node.Node.{Node, out-Node}
-use Rattle.rdl_values.specs.Instances.{Instance, kind_of}
+use Rattle.rdl_values.specs.Instances.{Instance}
 use Rattle.rdl_values.specs.Lineages.{Lineage, child_of}
 use Rattle.rdl_index.specs.Rows.{AreInside, IsInside}
 use Rattle.rdl_addr.specs.Layout.{has_address}
-use Rattle.rdl_lineages.proofs.Members.{In, any-default, get-made, get-read, get-within, in-from, in-left, in-right, in-to, place-in}
+use Rattle.rdl_lineages.proofs.Members.{In, get-read, get-within, in-from, in-left, in-right, in-to}
 use Rattle.rdl_sizes.specs.Bodies.{addressed}
 use Rattle.rdl_sizes.specs.Sized.{offset_at}
 use Rattle.rdl_sizes.proofs.Gathered.{placed-by-kind}
-use Rattle.rdl_sizes.proofs.Turns.{inside-at, read-at}
+use Rattle.rdl_sizes.proofs.Turns.{inside-at}
 
 module _ {X : Type 0} (p : X → Bool) where
   pub nth-passing : (xs : List X) (i : ℕ) (x : X) → slice_get xs i ≡ Some x → p x ≡ true → slice_get (filter p xs) (length (filter p (take i xs))) ≡ Some x
@@ -23,14 +22,14 @@ module _ {X : Type 0} (p : X → Bool) where
       go true h = h
       go false h = h
 
-abbrev has_kind : Node → Bool
+abbrev pub has_kind : Node → Bool
 has_kind r = addressed (out-Node r).kind
 
 -- a node has an address where its instance has one
 same-kind : (all : List Lineage) (up : List Instance) (beside : List Node) (r : Node) (c : Instance) → IsInside all up beside r c → has_kind r ≡ has_address c
 same-kind all up beside r c h = ap addressed h.says.kind ∙ sym (placed-by-kind c)
 
-same-counts : (all : List Lineage) (up : List Instance) (beside rs : List Node) (cs : List Instance) → AreInside all up beside rs cs → (i : ℕ) → length (filter has_kind (take i rs)) ≡ length (filter has_address (take i cs))
+pub same-counts : (all : List Lineage) (up : List Instance) (beside rs : List Node) (cs : List Instance) → AreInside all up beside rs cs → (i : ℕ) → length (filter has_kind (take i rs)) ≡ length (filter has_address (take i cs))
 same-counts all up beside rs cs h zero = refl
 same-counts all up beside [] [] h (suc i) = refl
 same-counts all up beside [] (c ∷ cs) h (suc i) = absurd h

@@ -1,9 +1,9 @@
 -- The nodes in a body, taken up from the last one on, are the elements of its instances.
-use Rattle.std.proofs.Common.{◌≡◌, ◌∙◌, ℕ, zero, suc, ◌+◌, ◌<◌, ◌==◌, ◌&&◌, Bool, true, false, cond, ◌⊎◌, inl, inr, List, [], ◌∷◌, ◌++◌, map, flat_map, filter, length, Option, None, Some, option_to_list, Ok, Err, refl, sym, ap, subst, arith}
+use Rattle.std.proofs.Common.{◌≡◌, ◌∙◌, ℕ, zero, suc, ◌<◌, ◌==◌, ◌&&◌, Bool, true, false, cond, ◌⊎◌, inl, inr, List, [], ◌∷◌, ◌++◌, map, flat_map, filter, Option, None, Some, option_to_list, Ok, Err, refl, sym, ap, subst, arith}
 use Rattle.std.specs.List.{AllByRecursion}
 use Rattle.std.proofs.lemmas.Bool.Decides.{nat_tests}
 use Rattle.rdl_tree.specs.declared.item.Kind.{Kind}
-use Rattle.rdl_values.specs.Bodies.{Body, Closure, Step, below_top}
+use Rattle.rdl_values.specs.Bodies.{Closure, Step, below_top}
 use Rattle.rdl_values.specs.Elaborated.{index_of, last_index}
 use Rattle.rdl_values.specs.Instances.{Instance, body, children, elements, given_by, kind_of, rows, seen_in, upto}
 use Rattle.rdl_values.specs.NoNode.{no_node}
@@ -13,8 +13,8 @@ use Rattle.rdl_values.specs.Paths.{in_node, path_in}
 use Rattle.rdl_values.specs.Uses.{Seen, parent_of}
 use Rattle.rdl_values.specs.Values.{Outcome}
 use Rattle.rdl_values.proofs.Given.{each-append, each-imp, seen-parents}
-use Rattle.rdl_addr.specs.Layout.{Group, group, grouped, has_address, instances}
-use Rattle.rdl_sizes.specs.Bodies.{Runs, addressed, all_zero, is_first, runs, with_one}
+use Rattle.rdl_addr.specs.Layout.{group, grouped, has_address, instances}
+use Rattle.rdl_sizes.specs.Bodies.{addressed, all_zero, is_first, runs, with_one}
 use Rattle.rdl_sizes.proofs.Gathered.{placed-by-kind}
 
 -- Rows of an array: the first is 0 throughout, and no other is.
@@ -162,9 +162,10 @@ module _ (size access : Instance → ℕ) where
       by (n ∷ ns) e (inr whole) =
           let same = runs-whole n ns rest whole in
           let all = filter-whole n ns whole in
-          let alone : ns ++ (runs rest).head ≡ ns = ap (λ l. ns ++ l) more.0 ∙ ended ns in
-          (ap (λ r. r.head) same,
-              ap (λ r. grouped size access r.whole) same ∙ ((λ i. group size access (n ∷ alone i) ++ more.1 i) ∙ ap (λ l. group size access l ++ grouped size access (map (λ s. filter has_address (given_by s)) ss)) (sym all)))
+          let alone : ns ++ (runs rest).head ≡ ns = ap (λ l. ns ++ l) more.0 ∙ ended ns in (
+            ap (λ r. r.head) same,
+            ap (λ r. grouped size access r.whole) same ∙ ((λ i. group size access (n ∷ alone i) ++ more.1 i) ∙ ap (λ l. group size access l ++ grouped size access (map (λ s. filter has_address (given_by s)) ss)) (sym all)),
+          )
         where
           ended : (xs : List Instance) → xs ++ [] ≡ xs
           ended [] = refl

@@ -1,5 +1,5 @@
 -- The nodes in a body, taken up one by one.
-use Rattle.std.proofs.Common.{◌≡◌, ◌∙◌, ℕ, zero, suc, ◌+◌, ◌<◌, ◌⊎◌, inl, inr, true, List, [], ◌∷◌, ◌++◌, map, length, drop, get_or, reverse, slice_get, Some, refl, sym, ap, subst, arith}
+use Rattle.std.proofs.Common.{◌≡◌, ◌∙◌, ℕ, zero, suc, ◌<◌, ◌⊎◌, inl, inr, true, List, [], ◌∷◌, length, drop, get_or, reverse, slice_get, Some, refl, sym, ap, subst, arith}
 use Rattle.std.specs.List.{All}
 use Rattle.rdl_tree.specs.declared.node.Elab.{Elab}
 use Rattle.rdl_tree.specs.declared.node.Node.{Node, out-Node}
@@ -8,9 +8,8 @@ use Rattle.rdl_values.specs.Elaborated.{Says, around_body, top_name}
 use Rattle.rdl_values.specs.Instances.{Instance, children, seen_in}
 use Rattle.rdl_values.specs.Lineages.{Lineage, child_of, lineages_of}
 use Rattle.rdl_values.specs.Seen.{around_of}
-use Rattle.rdl_values.specs.Values.{Around}
 use Rattle.rdl_index.specs.Rows.{AreInside, IsInside}
-use Rattle.rdl_addr.specs.Layout.{access_of, groups, grouped, has_address, instances, mode_in, size_of}
+use Rattle.rdl_addr.specs.Layout.{grouped, has_address, instances}
 use Rattle.rdl_addr.proofs.Using.{children-texts}
 use Rattle.rdl_lineages.proofs.Members.{each-in, get-made, get-read, place-in}
 use Rattle.rdl_lineages.proofs.Order.{shallow-at, stands-under}
@@ -18,7 +17,7 @@ use Rattle.rdl_sizes.specs.declared.known.Measure.{Measure}
 use Rattle.rdl_sizes.specs.declared.lot.Lot.{Lot}
 use Rattle.rdl_sizes.specs.declared.lot.Run.{Run}
 use Rattle.rdl_sizes.specs.Bodies.{HasText, IsBodyOf, IsGathered, Runs, is_first, runs, with_one}
-use Rattle.rdl_sizes.specs.Levels.{access_at, groups_at, levels, mode_under, size_at}
+use Rattle.rdl_sizes.specs.Levels.{access_at, groups_at, mode_under, size_at}
 use Rattle.rdl_sizes.specs.Lots.{AreLotsOf}
 use Rattle.rdl_sizes.specs.Sized.{IsMeasure, measure_at}
 use Rattle.rdl_sizes.proofs.Runs.{none-grouped, runs-are}
@@ -76,7 +75,7 @@ module _ (e : Elab) (node : Node) (n : Lineage) (body : IsBodyOf e node n) (ms :
 
   pub turn : (i : ℕ) (r : Node) → slice_get (out-Node node).children.now i ≡ Some r → (m : Measure) → slice_get ms (out-Node r).id ≡ Some m → (run after : Run) (old new : List Lot)
       → ((size access : Instance → ℕ) (beside : List Node) (c : Instance) (gs : Runs) → Says beside r c → HasText (around_of (out-Node node).env.now) c → (has_address c ≡ true → (m.size ≡ size c) × (m.access ≡ access c)) → IsGathered size access run old gs
-          → IsGathered size access after new (with_one (has_address c) (is_first c) c gs))
+      → IsGathered size access after new (with_one (has_address c) (is_first c) c gs))
       → IsGathered sizes widths run old (runs (drop (suc i) (children n.node))) → IsGathered sizes widths after new (runs (drop i (children n.node)))
   turn i r at m read run after old new gather before =
       let is = inside-at (lineages_of e) (n.node ∷ n.ancestors) (out-Node node).children.now (out-Node node).children.now (children n.node) body.inside i r at in
@@ -85,13 +84,13 @@ module _ (e : Elab) (node : Node) (n : Lineage) (body : IsBodyOf e node n) (ms :
       let seen : HasText (around_of (out-Node node).env.now) c = subst (λ env. HasText env c) (sym body.env_) text in
       let size : has_address c ≡ true → (m.size ≡ sizes c) × (m.access ≡ widths c) =
       λ a. let q = known (out-Node r).id c is.2.here a in
-          let same = get-read ms (out-Node r).id (record { size = 0; access = 1 }) m read in
-          (ap (λ x. x.size) (sym same) ∙ q.size_, ap (λ x. x.access) (sym same) ∙ q.access_) in
+      let same = get-read ms (out-Node r).id (record { size = 0; access = 1 }) m read in
+      (ap (λ x. x.size) (sym same) ∙ q.size_, ap (λ x. x.access) (sym same) ∙ q.access_) in
       subst (λ ns. IsGathered sizes widths after new (runs ns)) (sym (drop-at (children n.node) i c is.1)) (gather sizes widths (out-Node node).children.now c (runs (drop (suc i) (children n.node))) is.2.says seen size before)
 
   pub turn-read : (i : ℕ) (r : Node) → i < length (out-Node node).children.now → r ≡ get_or (out-Node node).children.now i r → All (λ x. (out-Node x).id < length ms) (out-Node node).children.now → (d : Measure) → (run after : Run) (old new : List Lot)
       → ((size access : Instance → ℕ) (beside : List Node) (c : Instance) (gs : Runs) → Says beside r c → HasText (around_of (out-Node node).env.now) c → (has_address c ≡ true → ((get_or ms (out-Node r).id d).size ≡ size c) × ((get_or ms (out-Node r).id d).access ≡ access c)) → IsGathered size access run old gs
-          → IsGathered size access after new (with_one (has_address c) (is_first c) c gs))
+      → IsGathered size access after new (with_one (has_address c) (is_first c) c gs))
       → IsGathered sizes widths run old (runs (drop (suc i) (children n.node))) → IsGathered sizes widths after new (runs (drop i (children n.node)))
   turn-read i r l at within d run after old new gather before =
       let low : (out-Node r).id < length ms = subst (λ x. (out-Node x).id < length ms) (sym at) (within i r l) in

@@ -90,7 +90,9 @@ pub fn sizes(alloc: Global, props: &Props<'_>, rows: &[Row<'_>]) -> Result<Sizes
     let modes = modes_of(alloc, props, rows)?;
     let mut sizes = unknown(alloc, rows.len())?;
     for at in (0..rows.len()).rev() {
-        add_row(alloc, props, &rows[at], modes[at], &mut sizes)?;
+        let row = &rows[at];
+        let mode = modes[at];
+        add_row(alloc, props, row, mode, &mut sizes)?;
     }
     Ok(sizes)
 }

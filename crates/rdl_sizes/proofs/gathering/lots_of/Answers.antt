@@ -1,8 +1,7 @@
-use Rattle.std.proofs.Common.{◌≡◌, ◌∙◌, ◌-◌, ◌<◌, length, suc, sym, subst, ap, drop, arith}
+use Rattle.std.proofs.Common.{◌≡◌, ◌-◌, ◌<◌, length, suc, sym, subst, ap, drop, arith}
 use Rattle.rdl_tree.specs.declared.node.Node.{out-Node}
 use Rattle.rdl_values.specs.Instances.{children}
 use Rattle.rdl_values.specs.Lineages.{child_of}
-use Rattle.rdl_addr.specs.Layout.{instances}
 use Rattle.rdl_sizes.specs.Bodies.{IsGathered, runs}
 use Rattle.rdl_sizes.specs.Levels.{access_at, groups_at, size_at}
 use Rattle.rdl_sizes.specs.Lots.{AreLotsOf}

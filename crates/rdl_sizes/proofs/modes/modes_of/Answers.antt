@@ -1,4 +1,4 @@
-use Rattle.std.proofs.Common.{◌≡◌, ◌∙◌, ◌+◌, length, subst, sym, ap, arith, length-append, [], ◌∷◌}
+use Rattle.std.proofs.Common.{◌∙◌, length, ap, arith, length-append, [], ◌∷◌}
 use Rattle.rdl_tree.specs.declared.node.Node.{out-Node}
 use Rattle.rdl_props.specs.declared.prop.Prop.TheVariants as prop
 use Rattle.rdl_layers.specs.Settings.{setting}

@@ -1,4 +1,4 @@
-use Rattle.std.proofs.Common.{◌≡◌, ◌∙◌, ◌+◌, ◌<◌, length, slice_get, get_or, Some, sym, subst, ap, refl, arith}
+use Rattle.std.proofs.Common.{◌∙◌, ◌+◌, ◌<◌, length, get_or, sym, subst, refl, arith}
 use Rattle.rdl_tree.specs.declared.node.Node.{out-Node}
 use Rattle.rdl_lineages.proofs.Members.{get-made, get-within}
 use Rattle.rdl_sizes.proofs.Offsets.{Written, none-written, passed-over, room, written-one}
