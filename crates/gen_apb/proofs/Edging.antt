@@ -1,26 +1,24 @@
 -- An edge of the netlist is one of the block's machine.
-use Rattle.std.proofs.Common.{◌≡◌, ℕ, zero, suc, ◌<◌, ◌^◌, ◌==◌, Bool, true, false, not, ◌&&◌, if◌then◌else◌, Option, Some, None, unwrap_or, List, [], ◌∷◌, ◌++◌, codes, length, map, slice_get, refl, sym, ap, ◌∙◌, subst, arith, inl, inr, ◌⊎◌, ◌+◌, eqb-true}
+use Rattle.std.proofs.Common.{◌≡◌, ℕ, zero, suc, ◌==◌, Bool, true, false, not, ◌&&◌, if◌then◌else◌, Option, Some, None, unwrap_or, List, [], ◌∷◌, ◌++◌, codes, length, map, slice_get, refl, sym, ap, ◌∙◌, arith, inl, inr, ◌⊎◌, ◌+◌, eqb-true}
 use Rattle.std.specs.Prelude.{Contains}
-use Rattle.std.specs.List.{enumerate_from, flat_map}
+use Rattle.std.specs.List.{enumerate_from}
 use Rattle.std.specs.Option.{option_map_or}
 use Rattle.std.proofs.lemmas.List.Quantifiers.{position-Some}
-use Rattle.std.proofs.lemmas.Option.{same_Some, slice_get_read, slice_get_within, get_or_from_slice_get}
-use Rattle.rb_base.specs.declared.ports.Pin.{Pin}
+use Rattle.std.proofs.lemmas.Option.{slice_get_within, get_or_from_slice_get}
 use Rattle.rtl_net.specs.Value.{At, bit_of}
 use Rattle.rtl_net.specs.Net.{Net, Settles}
 use Rattle.rtl_net.specs.declared.node.Id.{Id}
 use Rattle.v_design.specs.Expr.{Values}
 use Rattle.rb_model.specs.declared.block.Block.{Block}
 use Rattle.rb_model.specs.declared.block.Field.{Field}
-use Rattle.rb_model.specs.declared.block.Word.{Word}
 use Rattle.rb_model.specs.Agreement.{Holds}
-use Rattle.rb_model.specs.Items.{Access, NoAccess, Read, Write, Now, ItemValues, AreItemValues}
+use Rattle.rb_model.specs.Items.{NoAccess, Read, Write, Now, ItemValues, AreItemValues}
 use Rattle.rb_model.specs.Kept.{Kept, Map, Val, Last, Done, Waited, Data, Error, has_wait, is_kept, is_storage, kept, kept_of, keeps_last, of_field, only_kept, register_name, when}
-use Rattle.rb_model.specs.Machine.{held, is_asserted, next, outputs, read_data}
-use Rattle.rb_model.specs.Ports.{Outlet, input_pins, outlets}
+use Rattle.rb_model.specs.Machine.{held, is_asserted, outputs, read_data}
+use Rattle.rb_model.specs.Ports.{outlets}
 use Rattle.rb_model.specs.Protocol.{Bus, bus_of}
 use Rattle.rb_model.specs.References.{Each}
-use Rattle.rb_model.specs.Run.{ClockEdge, all_outputs, bus_held, carried, carries, closes, data_shown, error_shown, is_unmapped, kept_next, now, pins_of, ready, word_at}
+use Rattle.rb_model.specs.Run.{all_outputs, carried, carries, closes, data_shown, error_shown, kept_next, now, ready, word_at}
 use Rattle.rb_model.specs.Sound.{IsSound}
 use Rattle.rb_model.proofs.Eachs.{Each-append, Each-at, Each-flat_map, Each-numbered_all}
 use Rattle.rb_model.proofs.OwnViews.{by_cases}
@@ -30,11 +28,10 @@ use Rattle.gen_scene.specs.declared.base.Inlet.{Inlet}
 use Rattle.gen_scene.specs.Bases.{kept_number}
 use Rattle.gen_scene.specs.Worth.{Finds, access_at}
 use Rattle.gen_bus.specs.Bus.{Meets, cleared}
-use Rattle.gen_bus.specs.Fronts.{IsClosing, IsFront, ShowsData}
-use Rattle.gen_core.specs.Core.{IsCore}
+use Rattle.gen_bus.specs.Fronts.{IsClosing, ShowsData}
 use Rattle.gen_ports.proofs.Laying.{kept_of_fields}
-use Rattle.gen_apb.proofs.Naming.{not_bus}
-use Rattle.gen_apb.specs.Built.{IsBuilt, ShowsBus}
+use Rattle.gen_apb.proofs.Naming.{contains_at, not_bus}
+use Rattle.gen_apb.specs.Built.{IsBuilt}
 
 -- Kept values
 
@@ -45,9 +42,6 @@ held_same b p m n (Done k) e = ap (λ x. of_field b k x (λ f. if is_asserted b 
 held_same b p m n Waited e = e
 held_same b p m n Data e = e
 held_same b p m n Error e = e
-
-contains_at : {X : Type 0} (xs : List X) (x : X) (c : Contains xs x) → slice_get xs c.0 ≡ Some x
-contains_at xs x (j, low, is) = slice_get_read xs (length xs) j x refl low (sym is)
 
 -- a kept value is of a field or of the bus
 split_get : {X : Type 0} (xs ys : List X) (k : ℕ) (x : X) → slice_get (xs ++ ys) k ≡ Some x → ((i : ℕ) × (slice_get xs i ≡ Some x)) ⊎ ((i : ℕ) × (slice_get ys i ≡ Some x))
@@ -73,7 +67,7 @@ kept_is b k c = Each-at (λ q. is_kept b q ≡ true) (kept b) c.0 k all (contain
         (when_each f.once (Done n) (λ t. ap (λ o. option_map_or (λ (g : Field). g.once) o false) e ∙ t))
 
     of_bus : (c : Bool) → has_wait b ≡ c → Each (λ q. is_kept b q ≡ true) (if c then Waited ∷ Data ∷ Error ∷ [] else [])
-    of_bus true e = (e, e, e, tt)
+    of_bus true e = (e, (e, (e, tt)))
     of_bus false e = tt
 
     all : Each (λ q. is_kept b q ≡ true) (kept b)
@@ -82,7 +76,7 @@ kept_is b k c = Each-at (λ q. is_kept b q ≡ true) (kept b) c.0 k all (contain
         (of_bus (has_wait b) refl)
 
 bus_number : (c : Bool) → Each (λ q. (c ≡ true) × (kept_number q ≡ None)) (if c then Waited ∷ Data ∷ Error ∷ [] else [])
-bus_number true = ((refl, refl), (refl, refl), (refl, refl), tt)
+bus_number true = ((refl, refl), ((refl, refl), ((refl, refl), tt)))
 bus_number false = tt
 
 kept_side : (b : Block) (k : Kept) → Contains (kept b) k → (Contains (field_kept b) k) ⊎ ((has_wait b ≡ true) × (kept_number k ≡ None))
@@ -93,7 +87,6 @@ kept_side b k c = elim (split_get (field_kept b) (if has_wait b then Waited ∷ 
 
 pub bus_kept : (b : Block) → has_wait b ≡ true → Contains (kept b) Waited × Contains (kept b) Data × Contains (kept b) Error
 bus_kept b w =
-    let list = λ (c : Bool). if c then Waited ∷ Data ∷ Error ∷ [] else [] in
     (place 0 Waited refl, place 1 Data refl, place 2 Error refl)
   where
     at_end : {X : Type 0} (xs ys : List X) (k : ℕ) (x : X) → slice_get ys k ≡ Some x → slice_get (xs ++ ys) (length xs + k) ≡ Some x

@@ -1,9 +1,8 @@
 -- The seats of ports where outputs take theirs.
-use Rattle.std.proofs.Common.{◌≡◌, ℕ, zero, suc, ◌+◌, ◌<◌, ◌==◌, Bool, true, false, not, ◌&&◌, ◌||◌, if◌then◌else◌, IsTrue, Option, Some, None, List, [], ◌∷◌, ◌++◌, length, map, filter, slice_get, refl, sym, ap, ◌∙◌, subst, arith, inl, inr, ◌⊎◌}
+use Rattle.std.proofs.Common.{◌≡◌, ℕ, Bool, true, false, not, ◌&&◌, ◌||◌, if◌then◌else◌, IsTrue, Option, Some, List, [], ◌∷◌, ◌++◌, map, filter, refl, sym, ap, ◌∙◌, subst}
 use Rattle.std.specs.Prelude.{is_some}
 use Rattle.std.specs.List.{AllZip, list_all, list_any}
 use Rattle.std.specs.Str.{bytes_eq}
-use Rattle.std.proofs.lemmas.Option.{same_Some}
 use Rattle.rb_base.specs.declared.ports.Dir.{Dir}
 use Rattle.rb_base.specs.declared.ports.Dir.TheVariants.{In, Out}
 use Rattle.rb_base.specs.declared.ports.Pin.{Pin}
@@ -19,7 +18,6 @@ use Rattle.rtl_net.specs.declared.node.Taken.TheVariants.{Input, Output}
 use Rattle.rtl_net.proofs.Others.{has_room-other}
 use Rattle.rb_model.specs.References.{Each}
 use Rattle.rb_model.proofs.Apart.{Apart, Name, bytes_eq-not, bytes_eq-to}
-use Rattle.rb_model.proofs.Eachs.{Each-at}
 use Rattle.rb_model.proofs.OwnViews.{by_cases}
 use Rattle.v_printer.specs.Module.{port_of, side_of}
 use Rattle.gen_ports.specs.Laid.{AreSeatsOf, IsSeatOf, IsTakenAs}
@@ -39,11 +37,11 @@ room_stays name w old new (p ∷ ps) others h r =
 
 -- What becomes of each seat
 
-abbrev names_one : List Pin → Name → Bool
+abbrev pub names_one : List Pin → Name → Bool
 names_one ps name = list_any (λ p. bytes_eq p.name name) ps
 
 -- an output of these pins has taken the seat if one has its name, and else nothing has
-abbrev IsTakenIf : Bool → (old new : Option Taken) → Type 0
+abbrev pub IsTakenIf : Bool → (old new : Option Taken) → Type 0
 IsTakenIf true old new = (id : Id) × (new ≡ Some (Output id))
 IsTakenIf false old new = new ≡ old
 
@@ -57,10 +55,10 @@ stays [] = tt
 stays (s ∷ ss) = (record { name = refl; width = refl; taken = refl }, stays ss)
 
 -- the seat of one name is taken
-pub record OneTaken (name : Name) (id : Id) (old new : Seat) : Type 0 where
+pub record OneTaken (n : Name) (id : Id) (old new : Seat) : Type 0 where
   pub name : new.name ≡ old.name
   pub width : new.width ≡ old.width
-  pub taken : new.taken ≡ (if bytes_eq name old.name then Some (Output id) else old.taken)
+  pub taken : new.taken ≡ (if bytes_eq n old.name then Some (Output id) else old.taken)
 
 none_taken : (name : Name) (id : Id) (ss : List Seat) → Each (λ m. bytes_eq name m ≡ false) (seat_names ss) → AllZip (OneTaken name id) ss ss
 none_taken name id [] h = tt
@@ -74,12 +72,12 @@ one_taken : (name : Name) (w : ℕ) (id : Id) (ss : List Seat) → Apart (seat_n
 one_taken name w id [] apart among = cc
 one_taken name w id (s ∷ ss) apart among = by_cases (bytes_eq name s.name)
     (λ t. let P : List Seat → Type 0 = λ new. AllZip (OneTaken name id) (s ∷ ss) new in
-      subst P (sym (ap (λ c. if c then record { name = s.name; width = s.width; taken = Some (Output id) } ∷ ss else s ∷ seated ss name w (Output id)) t))
-      (record { name = refl; width = refl; taken = ap (λ c. if c then Some (Output id) else s.taken) (sym t) }, none_taken name id ss (others_differ name s.name (seat_names ss) t apart.0)))
+    subst P (sym (ap (λ c. if c then record { name = s.name; width = s.width; taken = Some (Output id) } ∷ ss else s ∷ seated ss name w (Output id)) t))
+    (record { name = refl; width = refl; taken = ap (λ c. if c then Some (Output id) else s.taken) (sym t) }, none_taken name id ss (others_differ name s.name (seat_names ss) t apart.0)))
     (λ f. let P : List Seat → Type 0 = λ new. AllZip (OneTaken name id) (s ∷ ss) new in
-      let rest : list_any (λ m. bytes_eq name m) (seat_names ss) ≡ true = sym (ap (λ c. c || list_any (λ m. bytes_eq name m) (seat_names ss)) f) ∙ among in
-      subst P (sym (ap (λ c. if c then record { name = s.name; width = s.width; taken = Some (Output id) } ∷ ss else s ∷ seated ss name w (Output id)) f))
-      (record { name = refl; width = refl; taken = ap (λ c. if c then Some (Output id) else s.taken) (sym f) }, one_taken name w id ss apart.1 rest))
+    let rest : list_any (λ m. bytes_eq name m) (seat_names ss) ≡ true = sym (ap (λ c. c || list_any (λ m. bytes_eq name m) (seat_names ss)) f) ∙ among in
+    subst P (sym (ap (λ c. if c then record { name = s.name; width = s.width; taken = Some (Output id) } ∷ ss else s ∷ seated ss name w (Output id)) f))
+    (record { name = refl; width = refl; taken = ap (λ c. if c then Some (Output id) else s.taken) (sym f) }, one_taken name w id ss apart.1 rest))
 
 same_names : (name : Name) (id : Id) (old new : List Seat) → AllZip (OneTaken name id) old new → seat_names new ≡ seat_names old
 same_names name id [] [] h = refl

@@ -1,5 +1,6 @@
-mod Edging
 mod Filling
 mod Naming
+mod Edging
 mod Parts
 mod Running
+mod Titles

@@ -1,11 +1,10 @@
 -- The names of a block's ports and registers differ.
-use Rattle.std.proofs.Common.{◌≡◌, ℕ, zero, suc, ◌+◌, ◌<◌, Bool, true, false, not, ◌&&◌, ◌||◌, if◌then◌else◌, Option, Some, None, List, [], ◌∷◌, ◌++◌, codes, length, map, filter, slice_get, get_or, refl, sym, ap, ◌∙◌, subst, arith}
+use Rattle.std.proofs.Common.{◌≡◌, ℕ, zero, suc, ◌+◌, ◌<◌, Bool, true, false, ◌||◌, if◌then◌else◌, Some, None, List, [], ◌∷◌, ◌++◌, codes, length, map, filter, slice_get, refl, sym, ap, ◌∙◌, subst, arith}
 use Rattle.std.specs.Prelude.{Contains}
 use Rattle.std.specs.List.{list_any}
 use Rattle.std.specs.Str.{bytes_eq}
-use Rattle.std.proofs.lemmas.List.{length-map}
 use Rattle.std.proofs.lemmas.List.Folds.{list_any-append}
-use Rattle.std.proofs.lemmas.Option.{same_Some, slice_get_read, slice_get_within, get_or_from_slice_get}
+use Rattle.std.proofs.lemmas.Option.{same_Some, slice_get_read, slice_get_within}
 use Rattle.rb_base.specs.declared.ports.Pin.{Pin}
 use Rattle.rb_base.specs.declared.ports.Port.{Port}
 use Rattle.v_design.specs.Design.{is_output, outputs_among, port_pin}
@@ -14,13 +13,12 @@ use Rattle.rtl_net.specs.Names.{Lacks}
 use Rattle.rtl_net.specs.Ports.{seat_names}
 use Rattle.rtl_net.specs.declared.node.Seat.{Seat}
 use Rattle.rb_model.specs.declared.block.Block.{Block}
-use Rattle.rb_model.specs.Kept.{Kept, Val, Last, Done, Waited, Data, Error, has_wait, kept, kept_pins, register_name}
-use Rattle.rb_model.specs.Ports.{Outlet, outlets, ports}
+use Rattle.rb_model.specs.Kept.{Kept, kept, kept_pins, register_name}
+use Rattle.rb_model.specs.Ports.{outlets, ports}
 use Rattle.rb_model.specs.References.{Each}
-use Rattle.rb_model.proofs.Apart.{Apart, Apart-filter, Apart-from, Apart-place, Name, bytes_eq-from, bytes_eq-not, bytes_eq-to}
-use Rattle.rb_model.proofs.Eachs.{Each-append, Each-at, Each-left, Each-right, Each-weaker}
+use Rattle.rb_model.proofs.Apart.{Apart, Apart-filter, Apart-from, Apart-place, Name, bytes_eq-from, bytes_eq-not}
+use Rattle.rb_model.proofs.Eachs.{Each-append, Each-left, Each-right, Each-weaker}
 use Rattle.rb_model.proofs.InputPins.{output_pins_are}
-use Rattle.rb_model.proofs.OwnViews.{by_cases}
 use Rattle.rb_plan.specs.Kept.{field_kept, kept_pin}
 use Rattle.gen_scene.specs.Bases.{kept_number}
 use Rattle.gen_scene.proofs.ResetPins.{kept_is_of}
@@ -170,7 +168,7 @@ outlets_apart b h =
 
 -- Registers
 
-contains_at : {X : Type 0} (xs : List X) (x : X) (c : Contains xs x) → slice_get xs c.0 ≡ Some x
+pub contains_at : {X : Type 0} (xs : List X) (x : X) (c : Contains xs x) → slice_get xs c.0 ≡ Some x
 contains_at xs x (j, low, is) = slice_get_read xs (length xs) j x refl low (sym is)
 
 name_at : (b : Block) (k : Kept) (j : ℕ) → slice_get (kept b) j ≡ Some k → slice_get (port_names (ports b) ++ pin_names (kept_pins b)) (length (port_names (ports b)) + j) ≡ Some (register_name b k)
@@ -203,7 +201,7 @@ port_lacks b h (q ∷ ks) i p here all =
     let at_p : slice_get names i ≡ Some p.name = front (port_names (ports b)) (pin_names (kept_pins b)) p.name i (mapped_at (λ (r : Port). r.name) (ports b) i p here) in
     let low : i < length (port_names (ports b)) = slice_get_within (port_names (ports b)) i p.name (mapped_at (λ (r : Port). r.name) (ports b) i p here) in
     let f : bytes_eq p.name (register_name b q) ≡ false = bytes_eq-not p.name (register_name b q)
-        (λ e. let z : i ≡ start + all.0.0 = Apart-place names i (start + all.0.0) (register_name b q) (Apart-from names h) (at_p ∙ ap Some e) (name_at b q all.0.0 at_q) in absurd (omega (arith, z, low))) in
+    (λ e. let z : i ≡ start + all.0.0 = Apart-place names i (start + all.0.0) (register_name b q) (Apart-from names h) (at_p ∙ ap Some e) (name_at b q all.0.0 at_q) in absurd (omega (arith, z, low))) in
     ap (λ x. x || list_any (bytes_eq p.name) (map (λ q. register_name b q) ks)) f ∙ port_lacks b h ks i p here all.1
 
 -- what a field keeps is none of the bus's

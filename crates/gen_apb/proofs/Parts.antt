@@ -1,56 +1,55 @@
 -- The parts of a netlist fit together.
-use Rattle.std.proofs.Common.{◌≡◌, ℕ, zero, suc, ◌+◌, ◌<◌, ◌^◌, ◌==◌, Bool, true, false, not, if◌then◌else◌, Option, Some, None, List, [], ◌∷◌, ◌++◌, codes, length, map, filter, slice_get, refl, sym, ap, ◌∙◌, subst, arith, inl, inr, ◌⊎◌}
+use Rattle.std.proofs.Common.{◌≡◌, ℕ, zero, suc, ◌<◌, Bool, true, false, ◌||◌, if◌then◌else◌, Option, Some, None, List, [], ◌∷◌, ◌++◌, codes, length, map, filter, slice_get, refl, sym, ap, ◌∙◌, subst, arith}
 use Rattle.std.specs.Prelude.{Contains, IsSome, get_or}
+use Rattle.std.specs.List.{enumerate_from, flat_map}
 use Rattle.std.specs.Str.{bytes_eq}
 use Rattle.std.proofs.lemmas.List.{map-append}
 use Rattle.rb_base.specs.declared.ports.Pin.{Pin}
-use Rattle.rb_base.specs.declared.ports.Port.{Port}
 use Rattle.v_design.specs.Design.{is_output, outputs_among, port_pin}
-use Rattle.rtl_net.specs.Value.{At}
 use Rattle.rtl_net.specs.Names.{Lacks}
-use Rattle.rtl_net.specs.Net.{Net, Extends, MayStand, Settles, Stands, registers_of, undriven}
+use Rattle.rtl_net.specs.Net.{Net, Extends, MayStand, Stands, registers_of, undriven, width_in}
 use Rattle.rtl_net.specs.Ports.{IsFree, IsNew, has_room, register_names, seat_names}
 use Rattle.rtl_net.specs.declared.node.Id.{Id}
 use Rattle.rtl_net.specs.declared.node.Seat.{Seat}
-use Rattle.rtl_net.proofs.Nets.{Extends-trans, IsNode-extends, Stands-extends}
+use Rattle.rtl_net.specs.Ports.{seated}
+use Rattle.rtl_net.specs.declared.node.Taken.TheVariants.{Output}
+use Rattle.rtl_net.proofs.Others.{IsFree-seated, Lacks-seated}
+use Rattle.rtl_net.proofs.Distinct.{Differ-sym}
+use Rattle.rtl_net.proofs.Nets.{Extends-trans, Stands-extends}
 use Rattle.rb_model.specs.declared.block.Block.{Block}
 use Rattle.rb_model.specs.Kept.{Kept, Waited, Data, Error, has_wait, kept, register_name}
-use Rattle.rb_model.specs.Ports.{Outlet, input_pins, outlets, pin, ports}
+use Rattle.rb_model.specs.Ports.{Outlet, field_pins, input_pins, outlets, ports, signal_pins, view_pins}
 use Rattle.rb_model.specs.References.{Each}
-use Rattle.rb_model.specs.Run.{closes}
 use Rattle.rb_model.specs.Sound.{IsSound}
-use Rattle.rb_model.proofs.Eachs.{Each-append, Each-at, Each-left, Each-map, Each-passing, Each-right}
+use Rattle.rb_model.proofs.Eachs.{Each-append, Each-map, Each-passing, Each-right, Each-weaker}
 use Rattle.rb_model.proofs.InputPins.{bus_pins, input_pins_are, output_pins_are}
-use Rattle.rb_model.proofs.ValueWidths.{each_place}
 use Rattle.rb_plan.specs.Kept.{field_kept, kept_pin}
-use Rattle.gen_scene.specs.Bases.{IsPinNode, kept_number}
+use Rattle.gen_scene.specs.Bases.{kept_number}
 use Rattle.gen_bus.specs.declared.front.Front.{Front}
-use Rattle.gen_bus.specs.declared.pins.BusPins.{BusPins}
-use Rattle.gen_bus.specs.Bus.{IsOfBus}
-use Rattle.gen_bus.specs.Fronts.{IsClosing, IsFront, KeepsAccess, ShowsData, access_registers, data_registers}
-use Rattle.gen_bus.specs.Pins.{HasBusPins}
+use Rattle.gen_bus.specs.Fronts.{IsClosing, IsFront, ShowsData, access_registers, data_registers}
+use Rattle.gen_bus.proofs.OfBus.{of_bus-extends}
 use Rattle.gen_core.specs.Core.{IsCore}
-use Rattle.gen_ports.specs.Laid.{AreInputs}
+use Rattle.gen_ports.specs.Laid.{AreInputs, AreSeatsOf}
 use Rattle.gen_ports.proofs.Laying.{kept_of_fields}
 use Rattle.gen_ties.specs.Ties.{SeatsTaken, outlet_pin}
-use Rattle.gen_apb.specs.Built.{bus_shown}
+use Rattle.gen_apb.specs.Built.{IsBuilt, ShowsBus, bus_shown}
 use Rattle.gen_apb.proofs.Edging.{bus_kept}
-use Rattle.gen_apb.proofs.Filling.{room_stays}
+use Rattle.gen_apb.proofs.Filling.{room_stays, taken-append}
 use Rattle.gen_apb.proofs.Naming.{AllApart, lacks_kept, mapped, not_bus, outlets_apart, port_lacks}
 
 -- The pins of the bus
 
 pub bus_pin : (b : Block) → IsSound b → (net : Net) (ids : List Id) → AreInputs net ids (input_pins b) → (k : ℕ) (p : Pin) → slice_get bus_pins k ≡ Some p → slice_get (input_pins b) k ≡ Some p
-bus_pin b sound net ids h k p e = ap (λ ps. slice_get ps k) (input_pins_are b sound) ∙ by k e
+bus_pin b sound net ids h k p e = ap (λ ps. slice_get ps k) (input_pins_are b sound)
+    ∙ (front4 (signal_pins true b.signals) (signal_pins false b.signals) (flat_map (field_pins b.views) (enumerate_from 0 b.fields)) (flat_map view_pins (filter (λ v. v.alias) b.views)) k p e)
   where
-    by : (k : ℕ) → slice_get bus_pins k ≡ Some p → slice_get (bus_pins ++ _) k ≡ Some p
-    by zero e = e
-    by (suc zero) e = e
-    by (suc (suc zero)) e = e
-    by (suc (suc (suc zero))) e = e
-    by (suc (suc (suc (suc zero)))) e = e
-    by (suc (suc (suc (suc (suc zero))))) e = e
-    by (suc (suc (suc (suc (suc (suc k)))))) e = cc
+    front : (xs ys : List Pin) (k : ℕ) (p : Pin) → slice_get xs k ≡ Some p → slice_get (xs ++ ys) k ≡ Some p
+    front [] ys k p e = cc
+    front (x ∷ xs) ys zero p e = e
+    front (x ∷ xs) ys (suc k) p e = front xs ys k p e
+
+    front4 : (w x y z : List Pin) (k : ℕ) (p : Pin) → slice_get bus_pins k ≡ Some p → slice_get (bus_pins ++ w ++ x ++ y ++ z) k ≡ Some p
+    front4 w x y z k p e = front (bus_pins ++ w ++ x ++ y) z k p (front (bus_pins ++ w ++ x) y k p (front (bus_pins ++ w) x k p (front bus_pins w k p e)))
 
 -- The registers so far, as kept values
 
@@ -96,7 +95,7 @@ first_kept : (b : Block) → Each (λ q. Contains (kept b) q) (bus_first b)
 first_kept b = by (has_wait b) refl
   where
     by : (c : Bool) → has_wait b ≡ c → Each (λ q. Contains (kept b) q) (if c then Waited ∷ Error ∷ [] else [])
-    by true e = ((bus_kept b e).0, (bus_kept b e).2, tt)
+    by true e = ((bus_kept b e).0, ((bus_kept b e).2, tt))
     by false e = tt
 
 each_contained : {X : Type 0} (P : X → Type 0) (xs : List X) → ((x : X) → Contains xs x → P x) → Each P xs
@@ -125,11 +124,11 @@ field_new b apart n1 n2 k seats keeps c new = record {
     other q e s = not_bus b k c (ap kept_number s ∙ e)
 
     by : (w : Bool) → has_wait b ≡ w → Each (λ q. Contains (kept b) q × (k ≡ q → ⊥)) (if w then Waited ∷ Error ∷ [] else [])
-    by true e = (((bus_kept b e).0, other Waited refl), ((bus_kept b e).2, other Error refl), tt)
+    by true e = (((bus_kept b e).0, other Waited refl), (((bus_kept b e).2, other Error refl), tt))
     by false e = tt
 
-pub data_new : (b : Block) → AllApart b → (n1 n3 : Net) (name : List ℕ) → has_wait b ≡ true → Lacks (seat_names n3.seats) (codes "apb$data") → KeepsThese b n3 (bus_first b ++ field_kept b) → IsNew n3 (codes "apb$data")
-data_new b apart n1 n3 name w seats keeps = record {
+pub data_new : (b : Block) → AllApart b → (n3 : Net) → has_wait b ≡ true → Lacks (seat_names n3.seats) (codes "apb$data") → KeepsThese b n3 (bus_first b ++ field_kept b) → IsNew n3 (codes "apb$data")
+data_new b apart n3 w seats keeps = record {
   seats = seats;
   registers = lacks_from b n3 (bus_first b ++ field_kept b) (codes "apb$data") keeps (lacks_kept b apart (bus_first b ++ field_kept b) Data (bus_kept b w).1
       (Each-append (λ q. Contains (kept b) q × (Data ≡ q → ⊥)) (bus_first b) (field_kept b) (by (has_wait b) refl)
@@ -137,7 +136,7 @@ data_new b apart n1 n3 name w seats keeps = record {
 }
   where
     by : (c : Bool) → has_wait b ≡ c → Each (λ q. Contains (kept b) q × (Data ≡ q → ⊥)) (if c then Waited ∷ Error ∷ [] else [])
-    by true e = (((bus_kept b e).0, λ s. cc s), ((bus_kept b e).2, λ s. cc s), tt)
+    by true e = (((bus_kept b e).0, λ s. cc s), (((bus_kept b e).2, λ s. cc s), tt))
     by false e = tt
 
 outputs_lack : (b : Block) → AllApart b → (ks : List Kept) → Each (λ q. Contains (kept b) q) ks → Each (λ o. Lacks (map (λ q. register_name b q) ks) o.name) (bus_shown ++ map outlet_pin (outlets b))
@@ -178,7 +177,7 @@ bus_free b apart n1 n2 n3 n4 ks seats2 taken seats4 keeps all free =
     let lacks = outputs_lack b apart ks all in
     let other = outlets_apart b apart in
     let one = λ (name : List ℕ) (w : ℕ) (others : Each (λ q. bytes_eq name q.name ≡ false) (map outlet_pin (outlets b))) (h : IsFree n1 name w).
-        ap (λ ss. has_room ss name w) seats4 ∙ room_stays name w n2.seats n3.seats (map outlet_pin (outlets b)) others taken (ap (λ ss. has_room ss name w) seats2 ∙ h.seats) in
+    ap (λ ss. has_room ss name w) seats4 ∙ room_stays name w n2.seats n3.seats (map outlet_pin (outlets b)) others taken (ap (λ ss. has_room ss name w) seats2 ∙ h.seats) in
     record {
       ready = record { seats = one (codes "PREADY") 1 other.ready listed.0; registers = lacks_from b n4 ks (codes "PREADY") keeps lacks.0 };
       answered = record { seats = one (codes "PRDATA") 32 other.answered listed.1.0; registers = lacks_from b n4 ks (codes "PRDATA") keeps lacks.1.0 };
@@ -186,9 +185,6 @@ bus_free b apart n1 n2 n3 n4 ks seats2 taken seats4 keeps all free =
     }
 
 -- What holds of a netlist holds of one that has more
-
-of_bus-extends : (b : Block) (old new : Net) (id : Id) (w : ℕ) (g : _) → Extends old new → IsOfBus b old id w g → IsOfBus b new id w g
-of_bus-extends b old new id w g x h = record { stands = Stands-extends old new id w x h.stands; value = λ v s. h.value v (x.settles v s) }
 
 closing-extends : (b : Block) (old new : Net) (o : Option Id) → Extends old new → IsClosing b old o → IsClosing b new o
 closing-extends b old new None x h = h
@@ -231,5 +227,52 @@ closes_stand b net None h = tt
 closes_stand b net (Some id) h = h.1.stands
 
 pub closes_waits : (b : Block) (net : Net) (o : Option Id) → IsClosing b net o → IsSome o → has_wait b ≡ true
-closes_waits b net None h s = absurd s
+closes_waits b net None h s = cc s
 closes_waits b net (Some id) h s = h.0
+
+-- The data's name
+
+or_none : (a : Bool) → (a || false) ≡ false → a ≡ false
+or_none true h = h
+or_none false h = refl
+
+pub data_apart : (b : Block) → AllApart b → has_wait b ≡ true → Each (λ p. bytes_eq (codes "apb$data") p.name ≡ false) (map outlet_pin (outlets b))
+data_apart b apart w = Each-weaker (lacks_each b (Data ∷ [])) (λ p. bytes_eq (codes "apb$data") p.name ≡ false)
+    (λ o l. Differ-sym o.name (codes "apb$data") (or_none (bytes_eq o.name (codes "apb$data")) l)) (map outlet_pin (outlets b))
+    (Each-right (lacks_each b (Data ∷ [])) bus_shown (map outlet_pin (outlets b)) (outputs_lack b apart (Data ∷ []) ((bus_kept b w).1, tt)))
+
+pub taken_lacks : (name : List ℕ) (old new : List Seat) (ps : List Pin) → Each (λ p. bytes_eq name p.name ≡ false) ps → SeatsTaken old new ps → Lacks (seat_names old) name → Lacks (seat_names new) name
+taken_lacks name old new [] others h l = subst (λ ss. Lacks (seat_names ss) name) (sym h) l
+taken_lacks name old new (p ∷ ps) others h l = taken_lacks name (seated old p.name p.width (Output h.0)) new ps others.1 h.1 (Lacks-seated p.name p.width (Output h.0) name others.0 old l)
+
+-- An output behind another
+
+pub free_stays : (old new : Net) (name a : List ℕ) (w u : ℕ) (from : Id) → new.nodes ≡ old.nodes → new.seats ≡ seated old.seats a u (Output from) → bytes_eq name a ≡ false → IsFree old name w → IsFree new name w
+free_stays old new name a w u from nodes seats d h = IsFree-seated old new a u (Output from) seats (ap (λ ns. map (λ (r : Pin). r.name) (registers_of ns)) nodes) name d w h
+
+pub free_at : (old new : Net) (name : List ℕ) (w : ℕ) (id : Id) → Extends old new → Stands old id w → IsFree new name w → IsFree new name (width_in new id)
+free_at old new name w id x st h = subst (λ k. IsFree new name k) (sym (Stands-extends old new id w x st).width) h
+
+-- All of it
+
+pub built : (b : Block) (n1 n2 n3 n4 n5 : Net) (f : Front) (answer shown : Id) → AreSeatsOf n1.seats (ports b) → registers_of n1.nodes ≡ [] → undriven n1.nodes ≡ 0
+    → n2.seats ≡ n1.seats → registers_of n2.nodes ≡ registers_of n1.nodes ++ access_registers b → undriven n2.nodes ≡ undriven n1.nodes → IsFront b n2 f
+    → Extends n2 n3 → SeatsTaken n2.seats n3.seats (map outlet_pin (outlets b)) → registers_of n3.nodes ≡ registers_of n2.nodes ++ map (kept_pin b) (field_kept b) → undriven n3.nodes ≡ undriven n2.nodes → IsCore b f.inlet n3 answer
+    → Extends n3 n4 → n4.seats ≡ n3.seats → registers_of n4.nodes ≡ registers_of n3.nodes ++ data_registers f.closes → undriven n4.nodes ≡ undriven n3.nodes → ShowsData n4 f.closes answer shown
+    → Extends n4 n5 → SeatsTaken n4.seats n5.seats bus_shown → registers_of n5.nodes ≡ registers_of n4.nodes → undriven n5.nodes ≡ undriven n4.nodes → ShowsBus n5 f.ready shown f.error → IsBuilt b n5
+built b n1 n2 n3 n4 n5 f answer shown laid r1 u1 s2 r2 u2 is_front x23 s3 r3 u3 is_core x34 s4 r4 u4 is_data x45 s5 r5 u5 is_shown =
+    let x35 : Extends n3 n5 = Extends-trans n3 n4 n5 x34 x45 in
+    record {
+      front = f;
+      answer = answer;
+      shown = shown;
+      is_front = front-extends b n2 n5 f (Extends-trans n2 n3 n5 x23 x35) is_front;
+      is_core = core-extends b f n3 n5 answer x35 is_core;
+      is_data = data-extends n4 n5 f.closes answer shown x45 is_data;
+      is_shown = is_shown;
+      registers = r5 ∙ r4 ∙ ap (λ rs. rs ++ data_registers f.closes) (r3 ∙ ap (λ rs. rs ++ map (kept_pin b) (field_kept b)) (r2 ∙ ap (λ rs. rs ++ access_registers b) r1));
+      driven = u5 ∙ u4 ∙ u3 ∙ u2 ∙ u1;
+      laid = n1.seats;
+      are_laid = laid;
+      seats = taken-append n1.seats n3.seats n5.seats (map outlet_pin (outlets b)) bus_shown (subst (λ ss. SeatsTaken ss n3.seats (map outlet_pin (outlets b))) s2 s3) (subst (λ ss. SeatsTaken ss n5.seats bus_shown) s4 s5);
+    }

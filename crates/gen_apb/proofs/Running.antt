@@ -1,14 +1,13 @@
 -- The netlist runs as the block's machine.
-use Rattle.std.proofs.Common.{◌≡◌, ◌↔◌, ℕ, zero, suc, ◌+◌, ◌<◌, ◌^◌, ◌==◌, Bool, true, false, not, ◌&&◌, ◌||◌, if◌then◌else◌, Option, Some, None, List, [], ◌∷◌, ◌++◌, codes, length, map, filter, slice_get, get_or, refl, sym, ap, ◌∙◌, subst, arith, inl, inr, ◌⊎◌}
+use Rattle.std.proofs.Common.{◌≡◌, ◌↔◌, ℕ, zero, suc, ◌+◌, ◌<◌, ◌^◌, if◌then◌else◌, Option, Some, None, List, [], ◌∷◌, ◌++◌, codes, length, map, slice_get, get_or, refl, sym, ap, ◌∙◌, subst, arith, inl, inr, ◌⊎◌}
 use Rattle.std.specs.Prelude.{Contains}
 use Rattle.std.specs.List.{AllByRecursion, AllZip}
 use Rattle.std.proofs.lemmas.List.{map-append}
-use Rattle.std.proofs.lemmas.Option.{slice_get_read, slice_get_within, get_or_from_slice_get, slice_get-get_or}
+use Rattle.std.proofs.lemmas.Option.{slice_get_within, get_or_from_slice_get}
 use Rattle.rb_base.specs.declared.ports.Pin.{Pin}
 use Rattle.rb_base.specs.declared.ports.Port.{Port}
-use Rattle.v_design.specs.Design.{outputs_among}
 use Rattle.rtl_net.specs.Value.{At, Values}
-use Rattle.rtl_net.specs.Net.{Net, IsEdge, Settles, registers_of}
+use Rattle.rtl_net.specs.Net.{Net, IsEdge}
 use Rattle.rtl_net.specs.Made.{IsMade}
 use Rattle.rtl_net.specs.Run.{NetEdge, NetRun, SameAt, inputs, outputs, registers, values_at}
 use Rattle.rtl_net.specs.Fits.{AllFit, EdgeFits, FitsPins, ValuesFit}
@@ -19,9 +18,9 @@ use Rattle.rtl_net.proofs.OneRun.{same_refl}
 use Rattle.rtl_net.proofs.ValuesFit.{edge_fits}
 use Rattle.rb_model.specs.declared.block.Block.{Block}
 use Rattle.rb_model.specs.Agreement.{Holds, buses}
-use Rattle.rb_model.specs.Kept.{Fits, Kept, Map, Waited, Data, Error, has_wait, kept, kept_pins, only_kept, register_name, register_width}
+use Rattle.rb_model.specs.Kept.{Fits, Kept, Map, Waited, Data, Error, kept, kept_pins, only_kept, register_width}
 use Rattle.rb_model.specs.Ports.{Outlet, input_pins, module_name, outlets, ports}
-use Rattle.rb_model.specs.Protocol.{Bus, IDLE, IsKeptIn, KeepsFrom, KeepsProtocol, Phase, bus_of, idle, phase_after}
+use Rattle.rb_model.specs.Protocol.{Bus, IDLE, IsKeptIn, KeepsFrom, Phase, bus_of, idle, phase_after}
 use Rattle.rb_model.specs.Run.{ClockEdge, MachineRun, all_outputs, kept_next, now, pins_of}
 use Rattle.rb_model.specs.Sound.{IsSound}
 use Rattle.rb_model.specs.Items.{AreItemValues}
@@ -34,7 +33,7 @@ use Rattle.gen_ties.specs.Ties.{outlet_pin}
 use Rattle.gen_apb.specs.Built.{IsBuilt, bus_shown}
 use Rattle.gen_apb.proofs.Edging.{IsQuiet, held_after, outs_are}
 use Rattle.gen_apb.proofs.Filling.{IsFilled, all_become, all_filled, all_taken, given_pins, ports_of, shown_pins}
-use Rattle.gen_apb.proofs.Naming.{AllApart, all_shown, names_of, outs, outs_among, port_names, ports_apart}
+use Rattle.gen_apb.proofs.Naming.{AllApart, all_shown, contains_at, names_of, outs, outs_among, ports_apart}
 
 -- Vectors
 
@@ -50,9 +49,6 @@ quiet_from waits last before here k z =
     (subst (λ q. IsKeptIn q waits last before here) e k).quiet z
 
 -- Registers
-
-contains_at : {X : Type 0} (xs : List X) (x : X) (c : Contains xs x) → slice_get xs c.0 ≡ Some x
-contains_at xs x (j, low, is) = slice_get_read xs (length xs) j x refl low (sym is)
 
 at_contains : {X : Type 0} (xs : List X) (k : ℕ) (x : X) → slice_get xs k ≡ Some x → Contains xs x
 at_contains xs k x e = (k, slice_get_within xs k x e, get_or_from_slice_get xs k x x e)
@@ -88,7 +84,7 @@ in_either xs ys x c = elim (split xs ys c.0 x (contains_at (xs ++ ys) x c)) [
 
 -- the registers of the bus come before and behind those of the fields
 same_set : {X : Type 0} (f w d e : X) (xs : List X) (p : X) → Contains (w ∷ e ∷ [] ++ xs ++ d ∷ []) p ↔ Contains (xs ++ w ∷ d ∷ e ∷ []) p
-same_set f w d e xs p = (to, from)
+same_set {X = X} f w d e xs p = (to, from)
   where
     one : (q : X) → Contains (q ∷ []) p → q ≡ p
     one q (zero, low, is) = is

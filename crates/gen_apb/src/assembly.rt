@@ -60,7 +60,8 @@ fn build(alloc: Global, net: &mut Netlist, block: &Block) -> Result<(), NoMemory
     let front = bus_front(alloc, net, block, bus)?;
     let answer = core(alloc, net, block, &pins, front.inlet)?;
     let shown = data_node(net, bus.resetn, front.closes, answer)?;
-    bus_outputs(net, front.ready, shown, front.error)
+    bus_outputs(net, front.ready, shown, front.error)?;
+    Ok(())
 }
 
 /// The netlist of a block's module behind an APB slave port (IHI 0024B), with no or one wait state as the block says: of the block's
@@ -70,6 +71,7 @@ pub fn apb(alloc: Global, block: &Block) -> Result<Netlist, NoMemory>
     requires { IsSound block.now }
     ensures { IfOk result (λ net. IsNetlistOf net block.now) }
 {
+    names_differ();
     let name = module_name(alloc, block)?;
     let mut net = Netlist::new(alloc, &name)?;
     build(alloc, &mut net, block)?;

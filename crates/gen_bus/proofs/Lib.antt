@@ -1,4 +1,4 @@
-mod OfBus
+pub mod OfBus
 mod Accessing
 mod WaitSteps
 mod Fronting
