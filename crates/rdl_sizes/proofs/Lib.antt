@@ -1,11 +1,11 @@
-mod Begun
+pub mod Begun
 pub mod Facts
 mod Gathered
 mod Laying
 pub mod Moding
-mod Offsets
+pub mod Offsets
 mod Runs
 pub mod Settled
-mod Sizing
+pub mod Sizing
 mod Sums
-mod Turns
+pub mod Turns

@@ -29,14 +29,15 @@ use Rattle.rdl_lineages.proofs.Order.{behind, few, once}
 use Rattle.rdl_sizes.specs.declared.known.Measure.{Measure}
 use Rattle.rdl_sizes.specs.declared.known.Sizes.{Sizes}
 use Rattle.rdl_sizes.specs.declared.lot.Lot.{Lot}
-use Rattle.rdl_sizes.specs.Bodies.{IsBodyOf}
+use Rattle.rdl_sizes.specs.Bodies.{IsBodyOf, addressed}
 use Rattle.rdl_sizes.specs.Elements.{element_starts}
 use Rattle.rdl_sizes.specs.Levels.{access_at, groups_at, levels, mode_under, size_at}
 use Rattle.rdl_sizes.specs.Lots.{AreLotsOf, greatest_access, lot_faults, parts_in}
 use Rattle.rdl_sizes.specs.Measuring.{measured}
 use Rattle.rdl_sizes.specs.Sized.{AreSizesFrom, IsMeasure, IsOffset, body_faults, measure_at, offset_at}
 use Rattle.rdl_sizes.proofs.Facts.{node-at}
-use Rattle.rdl_sizes.proofs.Offsets.{has_kind, same-counts}
+use Rattle.rdl_sizes.proofs.Gathered.{placed-by-kind}
+use Rattle.rdl_sizes.proofs.Offsets.{same-counts}
 use Rattle.rdl_sizes.proofs.Settled.{reg-accesswidth}
 use Rattle.rdl_sizes.proofs.Sums.{all-groups, group_faults, parts-are, same-faults, starts-are, widths-are}
 use Rattle.rdl_sizes.proofs.Turns.{AreKnown, as-many, drop-at, inside-at}
@@ -67,6 +68,10 @@ whole-take (x ∷ xs) = ap (λ ys. x ∷ ys) (whole-take xs)
 whole-take' : (xs : List Instance) → take (length xs) xs ≡ xs
 whole-take' [] = refl
 whole-take' (x ∷ xs) = ap (λ ys. x ∷ ys) (whole-take' xs)
+
+-- a node has an address
+abbrev pub has_kind : Node → Bool
+has_kind r = addressed (out-Node r).kind
 
 -- what a body is laid out as
 pub record IsLaid (mode : Mode) (lots : List Lot) (end access : ℕ) (starts : List ℕ) : Type 0 where
@@ -127,7 +132,7 @@ module _ (e : Elab) (clean : IsClean e) (settled : IsSettled e) (x : Row) (l : L
 
     pub many : length (filter has_kind (out-Node x.node.now).children.now) ≡ length starts
     many =
-        let same = same-counts all (l.node ∷ l.ancestors) rs rs (children l.node) row.inside (length rs) in
+        let same = same-counts {V = ℕ} 0 addressed has_address placed-by-kind all (l.node ∷ l.ancestors) rs rs (children l.node) row.inside (length rs) in
         let long = as-many all (l.node ∷ l.ancestors) rs rs (children l.node) row.inside in
         ap (λ xs. length (filter has_kind xs)) (sym (whole-take rs))
         ∙ (same
