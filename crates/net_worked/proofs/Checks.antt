@@ -27,22 +27,14 @@ no_seat ss i name w l h = sym (ap (λ xs. has_room xs name w) (drop_all i ss l))
 
 -- ports
 
-pub taken_on : (ss : List Seat) (i : ℕ) (s : Seat) → i < length ss → s ≡ get_or ss i s → is_none s.taken ≡ false → list_all (λ s. is_some s.taken) (drop i ss) ≡ list_all (λ s. is_some s.taken) ss → list_all (λ s. is_some s.taken) (drop (i + 1) ss) ≡ list_all (λ s. is_some s.taken) ss
-taken_on ss i s l e t h = sym (ap (λ c. c && list_all (λ s. is_some s.taken) (drop (i + 1) ss)) (some_of s.taken t)) ∙ sym (ap (list_all (λ s. is_some s.taken)) (next_of ss i s l e)) ∙ h
-  where
-    some_of : {X : Type 0} (o : Option X) → is_none o ≡ false → is_some o ≡ true
-    some_of None q = cc
-    some_of (Some x) q = refl
+abbrev taken : Seat → Bool
+taken s = is_some s.taken
 
-pub taken_not : (ss : List Seat) (i : ℕ) (s : Seat) → i < length ss → s ≡ get_or ss i s → is_none s.taken ≡ true → list_all (λ s. is_some s.taken) (drop i ss) ≡ list_all (λ s. is_some s.taken) ss → false ≡ list_all (λ s. is_some s.taken) ss
-taken_not ss i s l e t h = sym (ap (λ c. c && list_all (λ s. is_some s.taken) (drop (i + 1) ss)) (none_of s.taken t)) ∙ sym (ap (list_all (λ s. is_some s.taken)) (next_of ss i s l e)) ∙ h
-  where
-    none_of : {X : Type 0} (o : Option X) → is_none o ≡ true → is_some o ≡ false
-    none_of None q = refl
-    none_of (Some x) q = cc
+pub taken_on : (ss : List Seat) (i : ℕ) (s : Seat) → i < length ss → s ≡ get_or ss i s → is_some s.taken ≡ true → list_all (λ s. is_some s.taken) (drop i ss) ≡ list_all (λ s. is_some s.taken) ss → list_all (λ s. is_some s.taken) (drop (i + 1) ss) ≡ list_all (λ s. is_some s.taken) ss
+taken_on ss i s l e t h = sym (ap (λ c. c && list_all taken (drop (i + 1) ss)) t) ∙ sym (ap (list_all taken) (next_of ss i s l e)) ∙ h
 
-pub taken_all : (ss : List Seat) (i : ℕ) → length ss ≤ i → list_all (λ s. is_some s.taken) (drop i ss) ≡ list_all (λ s. is_some s.taken) ss → true ≡ list_all (λ s. is_some s.taken) ss
-taken_all ss i l h = sym (ap (list_all (λ s. is_some s.taken)) (drop_all i ss l)) ∙ h
+pub taken_all : (ss : List Seat) (i : ℕ) → length ss ≤ i → list_all (λ s. is_some s.taken) (drop i ss) ≡ list_all (λ s. is_some s.taken) ss → list_all (λ s. is_some s.taken) ss ≡ true
+taken_all ss i l h = sym h ∙ ap (list_all taken) (drop_all i ss l)
 
 -- nodes
 

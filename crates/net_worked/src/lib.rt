@@ -1,4 +1,4 @@
-//! Netlists of blocks for tests: the core behind the bus's pins, and what a netlist sees of a block.
+//! Netlists of blocks for tests: a core behind the bus's pins.
 //!
 //! The access of an edge is told by the bus's pins: the one of PSEL and PENABLE together, PWRITE, bits 17 to 2 of PADDR as the number of
 //! the word, and PWDATA. PREADY is 1 and PSLVERR 0.
@@ -7,8 +7,6 @@
 mod fault;
 mod nets;
 mod ports;
-mod scenes;
 
 pub use fault::Fault;
 pub use nets::core_net;
-pub use scenes::scene_net;

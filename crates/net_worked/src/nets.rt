@@ -1,7 +1,8 @@
 //! Netlists of blocks.
 
-ghost use Rattle.std.specs.Prelude.{◌≡◌, IfOk, OnOk, Contains};
-ghost use Rattle.rtl_net.specs.Net.{Extends, Grows, Has};
+ghost use Rattle.std.specs.Prelude.{◌≡◌, ◌<◌, IfOk, OnOk, length};
+ghost use Rattle.rtl_net.specs.Ids.{at};
+ghost use Rattle.rtl_net.specs.Net.{Grows, Has};
 ghost use Rattle.rb_model.specs.Ports.{input_pins};
 ghost use Rattle.rb_model.specs.Sound.{IsSound};
 ghost use Rattle.v_printer.specs.TextOf.{IsWhole};
@@ -18,8 +19,16 @@ use rb_model::Block;
 use rtl_net::{Id, Netlist};
 use std::alloc::Global;
 
+/// The node of the pin at a place.
+fn pin_at(pins: &[Id], place: usize) -> Id
+    requires { place < length pins.now }
+    ensures { result ≡ at pins.now place }
+{
+    pins[place]
+}
+
 /// The access that the bus's pins tell.
-pub(crate) fn inlet(net: &mut Netlist, block: &Block, pins: &[Id]) -> Result<Inlet, Fault>
+fn inlet(net: &mut Netlist, block: &Block, pins: &[Id]) -> Result<Inlet, Fault>
     requires { AreInputs net.old pins.now (input_pins block.now) }
     ensures older { OnOk result (Grows net.old net.new) }
     ensures inlet { IfOk result (HasInlet net.new) }
@@ -27,18 +36,23 @@ pub(crate) fn inlet(net: &mut Netlist, block: &Block, pins: &[Id]) -> Result<Inl
     if pins.len() < 6 {
         return Err(Fault::Port);
     }
-    let valid = both(net, pins[2], pins[3])?;
-    let word = slice(net, pins[1], 17, 2)?;
+    let address = pin_at(pins, 1);
+    let select = pin_at(pins, 2);
+    let enable = pin_at(pins, 3);
+    let write = pin_at(pins, 4);
+    let bits = pin_at(pins, 5);
+    let valid = both(net, select, enable)?;
+    let word = slice(net, address, 17, 2)?;
     Ok(Inlet {
         valid,
-        write: pins[4],
+        write,
         word,
-        bits: pins[5],
+        bits,
     })
 }
 
 /// Shows the outputs of the bus, of which PRDATA shows this node.
-pub(crate) fn show_bus(net: &mut Netlist, answer: Id) -> Result<(), Fault>
+fn show_bus(net: &mut Netlist, answer: Id) -> Result<(), Fault>
     requires { Has net.old answer }
     ensures { OnOk result (IsWhole net.new) }
 {

@@ -1,6 +1,7 @@
 //! Outputs at their seats, and netlists that are whole.
 
-ghost use Rattle.std.specs.Prelude.{◌≡◌, false, IsTrue, OnOk, is_some};
+ghost use Rattle.std.specs.Prelude.{◌≡◌, ◌&&◌, ◌==◌, true, false, IsTrue, OnOk, is_none, is_some};
+ghost use Rattle.std.specs.Str.{bytes_eq};
 ghost use Rattle.std.specs.Bool.{OnTrue};
 ghost use Rattle.std.specs.List.{list_all, list_any};
 ghost use Rattle.rtl_net.specs.Names.{is_net_name};
@@ -11,13 +12,27 @@ ghost use Rattle.v_printer.specs.TextOf.{IsWhole};
 use crate::fault::Fault;
 use rtl_net::{Id, NetNode, Netlist, Seat};
 
+/// Whether a port has the name.
+fn is_named(seat: &Seat, name: &[u8]) -> bool
+    ensures { result ≡ bytes_eq name.now seat.now.name }
+{
+    name == seat.name.bytes.as_slice()
+}
+
+/// Whether a port is free for an output of this width in bits.
+fn is_free(seat: &Seat, width: u8) -> bool
+    ensures { result ≡ (is_none seat.now.taken && seat.now.width == width) }
+{
+    seat.taken.is_none() && seat.width == width
+}
+
 /// Whether an output of this name and width in bits may be added to these ports.
 fn has_room(seats: &[Seat], name: &[u8], width: u8) -> bool
     ensures { result ≡ spec.has_room seats.now name.now width }
 {
     for seat in seats {
-        if name == seat.name.bytes.as_slice() {
-            return seat.taken.is_none() && seat.width == width;
+        if is_named(seat, name) {
+            return is_free(seat, width);
         }
     }
     true
@@ -36,12 +51,19 @@ pub(crate) fn show(net: &mut Netlist, name: &[u8], from: Id) -> Result<(), Fault
     Ok(())
 }
 
+/// Whether a port is taken.
+fn is_taken(seat: &Seat) -> bool
+    ensures { result ≡ is_some seat.now.taken }
+{
+    seat.taken.is_some()
+}
+
 /// Whether each port is taken.
 fn are_taken(seats: &[Seat]) -> bool
-    ensures { result ≡ list_all (λ s. is_some s.taken) seats.now }
+    ensures { OnTrue result (list_all (λ s. is_some s.taken) seats.now ≡ true) }
 {
     for seat in seats {
-        if seat.taken.is_none() {
+        if !is_taken(seat) {
             return false;
         }
     }
