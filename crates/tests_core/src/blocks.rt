@@ -11,10 +11,11 @@ use rb_worked::{
 };
 use std::alloc::Global;
 
-/// A worked block. `hw_first` says that hardware has the last word.
+/// A worked block. `hw_first` says that hardware has the last word; `Waits` is `One` behind a bus with a wait state.
 #[derive(Clone, Copy)]
 pub(crate) enum Worked {
     One,
+    Waits,
     Shared,
     Loaded { hw_first: bool },
     Set { hw_first: bool },
@@ -33,6 +34,7 @@ pub(crate) fn block_of(alloc: Global, block: Worked) -> Result<Block, NoMemory>
 {
     match block {
         Worked::One => one_register(alloc, 0),
+        Worked::Waits => one_register(alloc, 1),
         Worked::Shared => shared_address(alloc),
         Worked::Loaded { hw_first } => loaded_register(alloc, hw_first),
         Worked::Set { hw_first } => set_register(alloc, hw_first),

@@ -10,7 +10,7 @@ pub(crate) struct Case {
     pub table: &'static str,
 }
 
-pub(crate) const CASES: [Case; 18] = [
+pub(crate) const CASES: [Case; 20] = [
     Case {
         title: "a register is written and read",
         block: Worked::One,
@@ -112,5 +112,15 @@ pub(crate) const CASES: [Case; 18] = [
         title: "a counter of 64 bits saturates",
         block: Worked::Saturates,
         table: "PRESETn,PADDR,PSEL,PENABLE,PWRITE,PWDATA,incr$a$c,decr$a$c\n0,0,0,0,0,0,0,0\n1,0,0,0,0,0,1,1\n1,0,0,0,0,0,1,0\n1,0,0,0,0,0,0,1\n1,0,0,0,0,0,1,0\n1,0,0,0,0,0,0,0\n",
+    },
+    Case {
+        title: "an address without a word is answered by an error",
+        block: Worked::One,
+        table: "PRESETn,PADDR,PSEL,PENABLE,PWRITE,PWDATA\n0,0,0,0,0,0\n1,0,1,0,1,165\n1,0,1,1,1,165\n1,4,1,0,0,0\n1,4,1,1,0,0\n1,4,1,0,1,7\n1,4,1,1,1,7\n1,0,0,0,0,0\n",
+    },
+    Case {
+        title: "an access waits for one vector",
+        block: Worked::Waits,
+        table: "PRESETn,PADDR,PSEL,PENABLE,PWRITE,PWDATA\n0,0,0,0,0,0\n1,0,1,0,1,165\n1,0,1,1,1,165\n1,0,1,1,1,165\n1,0,1,0,0,0\n1,0,1,1,0,0\n1,0,1,1,0,0\n1,4,1,0,0,0\n1,4,1,1,0,0\n1,4,1,1,0,0\n1,0,0,0,0,0\n",
     },
 ];

@@ -1,14 +1,11 @@
 //! Why a case has no run.
 
-use net_worked::Fault as NetFault;
 use rb_base::NoMemory;
 use std::alloc::{AllocError, AllocFailed};
 
 #[derive(Drop)]
 pub(crate) enum Fault {
     NoMemory,
-    /// There is no netlist.
-    Net,
     /// The module or the table isn't one.
     Run,
 }
@@ -17,7 +14,6 @@ impl Fault {
     pub(crate) fn words(&self) -> &'static str {
         match self {
             Fault::NoMemory => "no memory",
-            Fault::Net => "no netlist",
             Fault::Run => "no module, or no table for it",
         }
     }
@@ -26,12 +22,6 @@ impl Fault {
 impl From<NoMemory> for Fault {
     fn from(_: NoMemory) -> Self {
         Fault::NoMemory
-    }
-}
-
-impl From<NetFault> for Fault {
-    fn from(_: NetFault) -> Self {
-        Fault::Net
     }
 }
 

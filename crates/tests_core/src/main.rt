@@ -1,4 +1,4 @@
-//! Cores of the worked blocks, printed, read back and stepped: a line for each edge, with the outputs of the module.
+//! The worked blocks' modules, printed, read back and stepped over rows worked out by hand: a line for each edge, with the outputs.
 #![tactic(auto)]
 
 mod blocks;
@@ -10,14 +10,14 @@ use crate::blocks::block_of;
 use crate::cases::{CASES, Case};
 use crate::fault::Fault;
 use crate::runs::run;
-use net_worked::core_net;
+use gen_apb::apb;
 use std::alloc::Global;
 use std::io;
 
-/// The outputs of a worked block's core over a table of pin values.
+/// The outputs of a worked block's module over a table of pin values.
 fn outputs(alloc: Global, case: Case) -> Result<Vec<u8>, Fault> {
     let block = block_of(alloc, case.block)?;
-    let net = core_net(alloc, &block)?;
+    let net = apb(alloc, &block)?;
     run(alloc, &net, case.table)
 }
 
