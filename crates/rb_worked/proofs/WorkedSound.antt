@@ -15,7 +15,7 @@ use Rattle.std.specs.Prelude.{AllPairs}
 use Rattle.std.specs.List.Sorted.{IsStrictlyIncreasing}
 use Rattle.rb_base.specs.declared.edge.Edge.{Edge}
 use Rattle.rb_model.specs.SoundField.{FieldIsSound, RefersWell, is_nonsticky, LevelFits}
-use Rattle.rb_worked.specs.Worked.{counter_block, event_block, event_word, half_word, loaded_block, loaded_word, lock_block, lock_word, one_block, one_word, plain_field, plain_word, shared_block, whole_slot}
+use Rattle.rb_worked.specs.Worked.{counter_block, event_block, event_word, half_word, loaded_block, loaded_word, lock_block, lock_word, once_block, one_block, one_word, plain_field, plain_word, reset_block, set_block, shared_block, whole_slot}
 
 module _ (w : ℕ) where
   at : (k : ℕ) (j i : RefItem) → Each (StandsBefore (one_block w).order k) (refs (one_block w) j) → Some j ≡ Some i → Each (StandsBefore (one_block w).order k) (refs (one_block w) i)
@@ -349,6 +349,122 @@ module _ (hw : Bool) where
     waits = omega arith;
     all_items = IsPermutation-refl _;
     ordered = loaded_ordered;
+  }
+
+module _ (hw : Bool) where
+  set_word_sound : WordIsSound (set_block hw) loaded_word
+  set_word_sound = word_of_one (set_block hw) 0 0 _ (omega arith) (record { view = _; field = _; of_view = refl; of_field = refl; some_bit = omega arith; in_word = omega arith; in_field = omega arith; whole = λ h. (refl, refl) })
+
+  set_ordered : IsOrdered (set_block hw) (set_block hw).order
+  set_ordered = ordered_all (set_block hw) (tt, (((0, omega arith, refl), tt), (((0, omega arith, refl), tt), (((0, omega arith, refl), tt), (tt, (tt, tt))))))
+
+  pub set_sound : IsSound (set_block hw)
+  set_sound = record {
+    named = refl;
+    signals = tt;
+    fields = (
+      record {
+        alone = record { wide = (omega arith, omega arith); reset = omega arith; count = tt; one_kind = refl; written_by = λ h. refl; pulse_alone = λ h. cc h; gate_fed = refl; source_fed = λ h. refl; pin = λ h. refl; latch_edge = refl; bus_reset = refl; shown_in_order = λ k below. absurd (omega arith); shown_counts = refl };
+        refers = record { source = tt; masks = tt; bits = tt; pulses = tt; amounts = tt; levels = tt };
+        in_register = (_, refl, refl);
+        reset_signal = tt;
+        one_view = refl;
+        class = refl;
+        once = refl;
+      },
+      tt,
+    );
+    views = (record { of = (_, refl, λ h. refl); gate_fed = refl; gate_bit = tt; read_in_one_slot = λ h. omega arith; written_in_one_slot = λ h. omega arith }, tt);
+    regs = (record { intr = refl; halt = refl }, tt);
+    reads = (set_word_sound, tt);
+    writes = (set_word_sound, tt);
+    some_word = (omega arith, omega arith);
+    by_address = λ k below. absurd (omega arith);
+    same_addresses = refl;
+    signal_paths = refl;
+    field_paths = refl;
+    view_paths = refl;
+    reg_paths = refl;
+    waits = omega arith;
+    all_items = IsPermutation-refl _;
+    ordered = set_ordered;
+  }
+
+once_word_sound : WordIsSound once_block loaded_word
+once_word_sound = word_of_one once_block 0 0 _ (omega arith) (record { view = _; field = _; of_view = refl; of_field = refl; some_bit = omega arith; in_word = omega arith; in_field = omega arith; whole = λ h. (refl, refl) })
+
+once_ordered : IsOrdered once_block once_block.order
+once_ordered = ordered_all once_block (tt, (((0, omega arith, refl), tt), (((0, omega arith, refl), tt), (((0, omega arith, refl), tt), (tt, (tt, tt))))))
+
+pub once_sound : IsSound once_block
+once_sound = record {
+  named = refl;
+  signals = tt;
+  fields = (
+    record {
+      alone = record { wide = (omega arith, omega arith); reset = omega arith; count = tt; one_kind = refl; written_by = λ h. h; pulse_alone = λ h. refl; gate_fed = refl; source_fed = λ h. h; pin = λ h. h; latch_edge = refl; bus_reset = refl; shown_in_order = λ k below. absurd (omega arith); shown_counts = refl };
+      refers = record { source = tt; masks = tt; bits = tt; pulses = tt; amounts = tt; levels = tt };
+      in_register = (_, refl, refl);
+      reset_signal = tt;
+      one_view = refl;
+      class = refl;
+      once = refl;
+    },
+    tt,
+  );
+  views = (record { of = (_, refl, λ h. refl); gate_fed = refl; gate_bit = tt; read_in_one_slot = λ h. omega arith; written_in_one_slot = λ h. omega arith }, tt);
+  regs = (record { intr = refl; halt = refl }, tt);
+  reads = (once_word_sound, tt);
+  writes = (once_word_sound, tt);
+  some_word = (omega arith, omega arith);
+  by_address = λ k below. absurd (omega arith);
+  same_addresses = refl;
+  signal_paths = refl;
+  field_paths = refl;
+  view_paths = refl;
+  reg_paths = refl;
+  waits = omega arith;
+  all_items = IsPermutation-refl _;
+  ordered = once_ordered;
+}
+
+module _ (sync low : Bool) where
+  reset_word_sound : WordIsSound (reset_block sync low) loaded_word
+  reset_word_sound = word_of_one (reset_block sync low) 0 0 _ (omega arith) (record { view = _; field = _; of_view = refl; of_field = refl; some_bit = omega arith; in_word = omega arith; in_field = omega arith; whole = λ h. (refl, refl) })
+
+  reset_ordered : IsOrdered (reset_block sync low) (reset_block sync low).order
+  reset_ordered = ordered_all (reset_block sync low) (tt, (tt, (((1, omega arith, refl), tt), (((1, omega arith, refl), tt), (((1, omega arith, refl), tt), (tt, (tt, tt)))))))
+
+  pub reset_sound : IsSound (reset_block sync low)
+  reset_sound = record {
+    named = refl;
+    signals = ((omega arith, omega arith, refl), tt);
+    fields = (
+      record {
+        alone = record { wide = (omega arith, omega arith); reset = omega arith; count = tt; one_kind = refl; written_by = λ h. h; pulse_alone = λ h. refl; gate_fed = refl; source_fed = λ h. h; pin = λ h. h; latch_edge = refl; bus_reset = refl; shown_in_order = λ k below. absurd (omega arith); shown_counts = refl };
+        refers = record { source = tt; masks = tt; bits = tt; pulses = tt; amounts = tt; levels = tt };
+        in_register = (_, refl, refl);
+        reset_signal = (_, refl, refl);
+        one_view = refl;
+        class = refl;
+        once = refl;
+      },
+      tt,
+    );
+    views = (record { of = (_, refl, λ h. refl); gate_fed = refl; gate_bit = tt; read_in_one_slot = λ h. omega arith; written_in_one_slot = λ h. omega arith }, tt);
+    regs = (record { intr = refl; halt = refl }, tt);
+    reads = (reset_word_sound, tt);
+    writes = (reset_word_sound, tt);
+    some_word = (omega arith, omega arith);
+    by_address = λ k below. absurd (omega arith);
+    same_addresses = refl;
+    signal_paths = refl;
+    field_paths = refl;
+    view_paths = refl;
+    reg_paths = refl;
+    waits = omega arith;
+    all_items = IsPermutation-refl _;
+    ordered = reset_ordered;
   }
 
 module _ (high : Option Level) where

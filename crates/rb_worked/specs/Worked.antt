@@ -253,17 +253,67 @@ clearing_view = record { path = codes "a$f"; field = 0; alias = false; reads = t
 abbrev pub loaded_word : Word
 loaded_word = plain_word 0 0 (record { view = 0; low = 0; from = 0; bits = 8 } ∷ [])
 
--- a register of that field
-abbrev pub loaded_block : Bool → Block
-loaded_block hw = record {
+-- a view whose writes set bits
+abbrev pub setting_view : View
+setting_view = record { path = codes "a$f"; field = 0; alias = false; reads = true; writes = true; once = false; on_write = on_write.WoSet; on_read = on_read.Off; gate = gate.Always }
+
+-- a register of that field, seen through this view
+abbrev pub loaded_by : View → Bool → Block
+loaded_by v hw = record {
   name = codes "t";
   signals = [];
   fields = loaded_field hw ∷ [];
-  views = clearing_view ∷ [];
+  views = v ∷ [];
   reads = loaded_word ∷ [];
   writes = loaded_word ∷ [];
   regs = plain_reg (codes "a") ∷ [];
   order = item.Field 0 ∷ item.Anded 0 ∷ item.Ored 0 ∷ item.Xored 0 ∷ item.SwMod 0 ∷ item.SwAcc 0 ∷ [];
+  waits = 0;
+}
+
+-- whose reads clear, and whose writes set
+abbrev pub loaded_block : Bool → Block
+loaded_block hw = loaded_by clearing_view hw
+
+abbrev pub set_block : Bool → Block
+set_block hw = loaded_by setting_view hw
+
+-- a field of 8 bits that software writes once
+abbrev pub once_field : Field
+once_field = record (plain_field (codes "a$f") 0 8) { once = true }
+
+abbrev pub once_view : View
+once_view = record (plain_view (codes "a$f") 0 true true) { once = true }
+
+-- a register of that field
+abbrev pub once_block : Block
+once_block = record {
+  name = codes "t";
+  signals = [];
+  fields = once_field ∷ [];
+  views = once_view ∷ [];
+  reads = loaded_word ∷ [];
+  writes = loaded_word ∷ [];
+  regs = plain_reg (codes "a") ∷ [];
+  order = item.Field 0 ∷ item.Anded 0 ∷ item.Ored 0 ∷ item.Xored 0 ∷ item.SwMod 0 ∷ item.SwAcc 0 ∷ [];
+  waits = 0;
+}
+
+-- a field of 8 bits that a signal resets to 0x12, at once or at the clock edge, where it is 0 or 1
+abbrev pub reset_field : (sync low : Bool) → Field
+reset_field sync low = record (plain_field (codes "a$f") 0 8) { reset = Some 18; reset_by = record { signal = Some 0; low = low; sync = sync } }
+
+-- a register of that field, and the signal
+abbrev pub reset_block : (sync low : Bool) → Block
+reset_block sync low = record {
+  name = codes "t";
+  signals = record { path = codes "rst"; width = 1; root = true } ∷ [];
+  fields = reset_field sync low ∷ [];
+  views = plain_view (codes "a$f") 0 true true ∷ [];
+  reads = loaded_word ∷ [];
+  writes = loaded_word ∷ [];
+  regs = plain_reg (codes "a") ∷ [];
+  order = item.Signal 0 ∷ item.Field 0 ∷ item.Anded 0 ∷ item.Ored 0 ∷ item.Xored 0 ∷ item.SwMod 0 ∷ item.SwAcc 0 ∷ [];
   waits = 0;
 }
 

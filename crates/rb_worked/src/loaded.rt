@@ -1,7 +1,7 @@
-//! A field that a read clears while a pin loads it.
+//! A field that software clears or sets while a pin loads it.
 ghost use Rattle.std.specs.Prelude.{◌≡◌, IfOk};
 ghost use Rattle.rb_model.specs.Sound.{IsSound};
-ghost use Rattle.rb_worked.specs.Worked.{clearing_view, loaded_block, loaded_field, loaded_word};
+ghost use Rattle.rb_worked.specs.Worked.{clearing_view, loaded_block, loaded_by, loaded_field, loaded_word, set_block, setting_view};
 
 use crate::parts::{one_field_order, plain_reg, plain_word, text};
 use rb_base::NoMemory;
@@ -63,7 +63,24 @@ fn clearing_view(alloc: Global) -> Result<View, NoMemory>
     })
 }
 
-fn loaded_word(alloc: Global) -> Result<Word, NoMemory>
+/// A view whose writes set bits.
+fn setting_view(alloc: Global) -> Result<View, NoMemory>
+    ensures { IfOk result (λ v. v ≡ setting_view) }
+{
+    Ok(View {
+        path: text(alloc, b"a$f")?,
+        field: 0,
+        alias: false,
+        reads: true,
+        writes: true,
+        once: false,
+        on_write: OnWrite::WoSet,
+        on_read: OnRead::Off,
+        gate: Gate::Always,
+    })
+}
+
+pub(crate) fn loaded_word(alloc: Global) -> Result<Word, NoMemory>
     ensures { IfOk result (λ w. w ≡ loaded_word) }
 {
     let slot = Slot {
@@ -75,9 +92,9 @@ fn loaded_word(alloc: Global) -> Result<Word, NoMemory>
     plain_word(alloc, 0, 0, &[slot])
 }
 
-/// A register of that field.
-fn built(alloc: Global, hw_first: bool) -> Result<Block, NoMemory>
-    ensures { IfOk result (λ b. b ≡ loaded_block hw_first) }
+/// A register of that field, seen through this view.
+fn built(alloc: Global, view: View, hw_first: bool) -> Result<Block, NoMemory>
+    ensures { IfOk result (λ b. b ≡ loaded_by view hw_first) }
 {
     Ok(Block {
         name: text(alloc, b"t")?,
@@ -88,7 +105,7 @@ fn built(alloc: Global, hw_first: bool) -> Result<Block, NoMemory>
             items: Vec::from_array(alloc, [loaded_field(alloc, hw_first)?])?,
         },
         views: Views {
-            items: Vec::from_array(alloc, [clearing_view(alloc)?])?,
+            items: Vec::from_array(alloc, [view])?,
         },
         reads: Words {
             items: Vec::from_array(alloc, [loaded_word(alloc)?])?,
@@ -110,5 +127,14 @@ pub fn loaded_register(alloc: Global, hw_first: bool) -> Result<Block, NoMemory>
     ensures block { IfOk result (λ b. b ≡ loaded_block hw_first) }
     ensures sound { IfOk result (λ b. IsSound b) }
 {
-    built(alloc, hw_first)
+    built(alloc, clearing_view(alloc)?, hw_first)
+}
+
+/// A register of a field of 8 bits that a write of 1 sets and that a pin loads by the leave of another; hardware or software has
+/// the last word.
+pub fn set_register(alloc: Global, hw_first: bool) -> Result<Block, NoMemory>
+    ensures block { IfOk result (λ b. b ≡ set_block hw_first) }
+    ensures sound { IfOk result (λ b. IsSound b) }
+{
+    built(alloc, setting_view(alloc)?, hw_first)
 }
