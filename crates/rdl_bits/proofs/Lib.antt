@@ -1,0 +1,3 @@
+mod Fielded
+mod Lists
+mod Registers

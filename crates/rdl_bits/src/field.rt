@@ -1,0 +1,51 @@
+//! A field of a register, by numbers.
+
+ghost use Rattle.std.specs.Prelude.{◌≡◌, ◌<◌, IfSome, List, Some, slice_get, true};
+ghost use Rattle.rdl_tree.specs.declared.item.Kind.TheVariants as kinds;
+ghost use Rattle.rdl_tree.specs.declared.node.Node.{Node as AnyNode, out-Node};
+ghost use Rattle.rdl_values.specs.Elaborated.{Says, nodes_of};
+ghost use Rattle.rdl_values.specs.Instances.{Instance, kind_of};
+ghost use Rattle.rdl_values.specs.Seen.{around_of};
+ghost use Rattle.rdl_layout.specs.Fields as fields;
+ghost use Rattle.rdl_addr.specs.Fields.{IsFieldOf};
+ghost use Rattle.rdl_sizes.specs.Bodies.{HasText};
+
+use crate::settings::{first_number, is_fit, side_of, width_by};
+use rdl_layers::{Props, first_related_decides};
+use rdl_layout::Field;
+use rdl_props::Prop;
+use rdl_reading::{number, range_given};
+use rdl_tree::{Env, Inst, Node};
+use rdl_values::Visible;
+
+/// The field whose text this is.
+fn of_text<'a>(props: &Props<'_>, child: &Node<'a>, inst: &Inst<'a>, env: &Env<'a>) -> Field
+    requires { (out-Node child.now).id < props.now.count }
+    ensures { (beside : List AnyNode) (c : Instance) → slice_get (nodes_of props.now) (out-Node child.now).id ≡ Some c → Says beside child.now c → HasText (around_of env.now) c → c.use_.inst ≡ Some inst.now
+        → kind_of c ≡ kinds.Field → fields.IsRange result.range → IsFieldOf result c }
+{
+    first_related_decides();
+    let visible = Visible {
+        tables: &[],
+        listed: Some(env),
+    };
+    let range = range_given(&inst.range, &visible);
+    let set = number(props, child.id, Prop::Fieldwidth);
+    Field {
+        place: child.place,
+        range,
+        width: width_by(first_number(inst.dims, &visible), range, set),
+        side: side_of(props, child.id),
+    }
+}
+
+/// A field in a register, in whose body this is seen. None where it has more than 64 bits or none.
+pub(crate) fn field_of<'a>(props: &Props<'_>, child: &Node<'a>, env: &Env<'a>) -> Option<Field>
+    requires { (out-Node child.now).id < props.now.count }
+    ensures fit { IfSome result fields.IsFit }
+    ensures field { IfSome result (λ f. (beside : List AnyNode) (c : Instance) → slice_get (nodes_of props.now) (out-Node child.now).id ≡ Some c → Says beside child.now c → HasText (around_of env.now) c
+        → kind_of c ≡ kinds.Field → IsFieldOf f c) }
+{
+    let field = of_text(props, child, child.inst?, env);
+    if is_fit(&field) { Some(field) } else { None }
+}
