@@ -1,0 +1,63 @@
+//! What a walk keeps.
+
+use indexmap::IndexMap;
+use rdl_bodies::Bodies;
+use rdl_children::Child;
+use rdl_judging::Failures;
+use rdl_parts::Standing;
+use std::alloc::Global;
+
+/// The most nodes that are judged (rule E9).
+pub const MOST_NODES: u32 = 65_536;
+
+/// The uses of an open body that give nodes where it stands.
+#[derive(Clone, Copy)]
+pub struct Judgement<'a> {
+    pub body: usize,
+    pub standing: Standing,
+    pub children: &'a [Child<'a>],
+}
+
+/// By what a judgement is looked up: the body, how many names a path has in it, and how many bytes its text has before them.
+#[derive(Clone, Copy, PartialEq, Eq, Hash)]
+pub(crate) struct Spot {
+    pub body: usize,
+    pub depth: u8,
+    pub prefix: u16,
+}
+
+/// The open bodies, the failures so far, how many nodes were counted, and what was judged. A body is judged once where it stands as
+/// deep, behind as long a text: all elements of an array have one body.
+#[derive(Drop)]
+pub struct Walk<'a> {
+    pub bodies: Bodies<'a>,
+    pub failures: Failures,
+    /// How many nodes were counted, at most one above those that are judged.
+    pub count: u32,
+    pub(crate) judgements: Vec<Judgement<'a>>,
+    // Which judgement to try.
+    pub(crate) known: IndexMap<Spot, usize>,
+}
+
+impl<'a> Walk<'a> {
+    ghost use Rattle.std.specs.Prelude.{◌≡◌, []};
+    ghost use Rattle.rdl_bodies.specs.Kept.{AreKept};
+    ghost use Rattle.rdl_walk.specs.Walking.{AreWalking};
+
+    /// A walk that has visited nothing yet.
+    pub fn new(alloc: Global, bodies: Bodies<'a>, failures: Failures) -> Self
+        requires { AreKept bodies failures }
+        ensures walking { AreWalking result }
+        ensures bodies { result.bodies ≡ bodies.entry }
+        ensures failures { result.failures ≡ failures }
+        ensures count { result.count ≡ 0 }
+    {
+        Walk {
+            bodies,
+            failures,
+            count: 0,
+            judgements: Vec::new(alloc),
+            known: IndexMap::new(alloc),
+        }
+    }
+}
