@@ -10,7 +10,7 @@ use Rattle.v_printer.specs.Module.{port_of}
 use Rattle.rb_model.specs.Kept.{kept_pins}
 use Rattle.first_form.specs.Form.{Form}
 use Rattle.first_form.specs.Described.{path_of, block_of}
-use Rattle.first_net.specs.Netlist.{IsNetlistOf}
+use Rattle.gen_text.specs.Netlist.{IsNetlistOf}
 use Rattle.first_net.specs.Nodes.{IsFirst}
 use Rattle.first_net.proofs.Running.{runs}
 

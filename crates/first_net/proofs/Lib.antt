@@ -1,4 +1,3 @@
-mod Agreeing
 mod Answering
 mod Running
 mod FirstNet

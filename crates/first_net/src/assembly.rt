@@ -5,7 +5,7 @@ ghost use Rattle.rtl_net.specs.Net.{Extends, registers_of, undriven};
 ghost use Rattle.first_form.specs.Form.{IsSaid};
 ghost use Rattle.first_form.specs.Described.{block_of, path_of};
 ghost use Rattle.first_form.specs.Parts.{shown};
-ghost use Rattle.first_net.specs.Netlist.{IsNetlistOf};
+ghost use Rattle.gen_text.specs.Netlist.{IsNetlistOf};
 ghost use Rattle.first_net.specs.Nodes.{HasPins, HasBusPorts, HasOneRegister, HasLogic, ShowsBus, IsFirst};
 ghost use Rattle.rtl_net.specs.Names.{is_identifier};
 

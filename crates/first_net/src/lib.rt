@@ -5,10 +5,8 @@ mod assembly;
 mod bus;
 mod decode;
 mod gates;
-mod laws;
 mod logic;
 mod text;
 
 pub use assembly::netlist;
-pub use laws::text_agrees;
 pub use text::module_text;

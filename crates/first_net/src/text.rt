@@ -8,6 +8,7 @@ ghost use Rattle.first_form.specs.Parts.{shown};
 
 use crate::assembly::netlist;
 use first_form::Form;
+use gen_text::text_agrees;
 use rb_base::NoMemory;
 use std::alloc::Global;
 use v_printer::text;
@@ -18,6 +19,7 @@ pub fn module_text(alloc: Global, form: &Form<'_>) -> Result<Vec<u8>, NoMemory>
     requires { IsSaid (shown form.now) }
     ensures { IfOk result (λ text. Agrees text.items (block_of (shown form.now))) }
 {
+    text_agrees();
     let net = netlist(alloc, form)?;
     let text = text(alloc, &net)?;
     Ok(text)

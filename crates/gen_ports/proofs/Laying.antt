@@ -6,7 +6,7 @@ use Rattle.std.specs.List.{list_any}
 use Rattle.std.specs.Str.{bytes_eq}
 use Rattle.std.proofs.lemmas.Bool.{eq-eqb}
 use Rattle.std.proofs.lemmas.List.{length-append, map-append, take_all}
-use Rattle.std.proofs.lemmas.Option.{same_Some, slice_get_read}
+use Rattle.std.proofs.lemmas.Option.{same_Some, slice_get_read, get_or_from_slice_get, slice_get_within}
 use Rattle.rb_base.specs.declared.ports.Dir.{Dir}
 use Rattle.rb_base.specs.declared.ports.Dir.TheVariants.{In, Out}
 use Rattle.rb_base.specs.declared.ports.Pin.{Pin}
@@ -354,20 +354,26 @@ port_more b first net new ids ids' end p sofar here h name registers undriven cl
 pub pins_laid : (b : Block) (net : Net) (ids : List Id) → AreInputs net ids (input_pins b) → HasPins b net ids
 pins_laid b net ids h = record { long = h.long; each = λ k p e other. h.each k p e }
 
-name_place : (b : Block) (k : Kept) (j : ℕ) → slice_get (field_kept b) j ≡ Some k → slice_get (map (λ p. p.name) (kept_pins b)) j ≡ Some (register_name b k)
-name_place b k j here =
-    mapped_at (λ (p : Pin). p.name) (kept_pins b) j (kept_pin b k) (mapped_at (kept_pin b) (kept b) j k (front (field_kept b) (if has_wait b then Waited ∷ Data ∷ Error ∷ [] else []) k j here))
+name_place : (b : Block) (k : Kept) (j : ℕ) → slice_get (kept b) j ≡ Some k → slice_get (map (λ p. p.name) (kept_pins b)) j ≡ Some (register_name b k)
+name_place b k j here = mapped_at (λ (p : Pin). p.name) (kept_pins b) j (kept_pin b k) (mapped_at (kept_pin b) (kept b) j k here)
 
-pub kept_new : (b : Block) (net : Net) (k : Kept) → distinct (port_names (ports b) ++ map (λ p. p.name) (kept_pins b)) ≡ true → AreSeatsOf net.seats (ports b) → registers_of net.nodes ≡ [] → Contains (field_kept b) k
+pub kept_new : (b : Block) (net : Net) (k : Kept) → distinct (port_names (ports b) ++ map (λ p. p.name) (kept_pins b)) ≡ true → AreSeatsOf net.seats (ports b) → registers_of net.nodes ≡ [] → Contains (kept b) k
     → IsNew net (register_name b k)
 kept_new b net k apart seats none c = record {
   seats =
       let (j, low, is) = c in
-      let here : slice_get (field_kept b) j ≡ Some k = slice_get_read (field_kept b) (length (field_kept b)) j k refl low (sym is) in
+      let here : slice_get (kept b) j ≡ Some k = slice_get_read (kept b) (length (kept b)) j k refl low (sym is) in
       subst (λ ns. Lacks ns (register_name b k)) (sym (names_of net.seats (ports b) seats))
       (lacks_behind (port_names (ports b)) (map (λ p. p.name) (kept_pins b)) j (register_name b k) (Apart-from (port_names (ports b) ++ map (λ p. p.name) (kept_pins b)) apart) (name_place b k j here));
   registers = subst (λ rs. Lacks (map (λ r. r.name) rs) (register_name b k)) (sym none) refl;
 }
+
+-- what a field keeps is kept
+pub kept_of_fields : (b : Block) (k : Kept) → Contains (field_kept b) k → Contains (kept b) k
+kept_of_fields b k (j, low, is) =
+    let here : slice_get (field_kept b) j ≡ Some k = slice_get_read (field_kept b) (length (field_kept b)) j k refl low (sym is) in
+    let there : slice_get (kept b) j ≡ Some k = front (field_kept b) (if has_wait b then Waited ∷ Data ∷ Error ∷ [] else []) k j here in
+    (j, slice_get_within (kept b) j k there, get_or_from_slice_get (kept b) j k k there)
 
 out_side : (d : Dir) → Rattle.v_design.specs.Design.is_output (record { dir = d; name = []; width = 0 }) ≡ true → d ≡ Out
 out_side In e = cc

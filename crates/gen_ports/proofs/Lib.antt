@@ -1,2 +1,2 @@
 pub mod Laying
-pub mod Portals
+mod Portals

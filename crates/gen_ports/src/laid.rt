@@ -9,7 +9,7 @@ ghost use Rattle.rtl_net.specs.Net.{Extends, HasClock, IsWidth, registers_of, un
 ghost use Rattle.rtl_net.specs.Ports.{IsFree, IsNew};
 ghost use Rattle.rtl_net.specs.declared.node.Seat.{Seat};
 ghost use Rattle.rb_base.specs.declared.ports.Dir.TheVariants.{In};
-ghost use Rattle.rb_model.specs.Kept.{Kept, register_name};
+ghost use Rattle.rb_model.specs.Kept.{Kept, kept, register_name};
 ghost use Rattle.rb_model.specs.Ports as spec;
 ghost use Rattle.rb_model.specs.References.{Each};
 ghost use Rattle.rb_model.specs.Sound.{IsSound};
@@ -64,7 +64,8 @@ pub fn port_nodes(alloc: Global, net: &mut Netlist, block: &Block) -> Result<Vec
     ensures seats { OnOk result (AreSeatsOf net.new.seats (spec.ports block.now)) }
     ensures inputs { IfOk result (λ ids. AreInputs net.new ids.items (spec.input_pins block.now)) }
     ensures pins { IfOk result (λ ids. HasPins block.now net.new ids.items) }
-    ensures kept { OnOk result ((k : Kept) → Contains (field_kept block.now) k → IsNew net.new (register_name block.now k)) }
+    ensures kept { OnOk result ((k : Kept) → Contains (kept block.now) k → IsNew net.new (register_name block.now k)) }
+    ensures of_fields { OnOk result ((k : Kept) → Contains (field_kept block.now) k → IsNew net.new (register_name block.now k)) }
     ensures outputs { OnOk result (Each (λ p. IsFree net.new p.name p.width) (outputs_among (spec.ports block.now))) }
 {
     names_differ();

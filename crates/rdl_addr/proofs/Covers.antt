@@ -27,7 +27,7 @@ use Rattle.rdl_addr.specs.Layout.{Mode, regalign, Group, group, grouped, has_add
 
 -- Lists.
 
-filter-append : (xs ys : List Instance) → filter has_address (xs ++ ys) ≡ filter has_address xs ++ filter has_address ys
+pub filter-append : (xs ys : List Instance) → filter has_address (xs ++ ys) ≡ filter has_address xs ++ filter has_address ys
 filter-append [] ys = refl
 filter-append (x ∷ xs) ys = go (has_address x) (filter-append xs ys)
   where
@@ -37,15 +37,15 @@ filter-append (x ∷ xs) ys = go (has_address x) (filter-append xs ys)
 
 -- What stands in what.
 
-child_held : (n c : Instance) → IsChildOf n c → holds (kind_of n) (kind_of c) ≡ true
+pub child_held : (n c : Instance) → IsChildOf n c → holds (kind_of n) (kind_of c) ≡ true
 child_held n c h = subst (λ p. may_hold p (kind_of c) ≡ true) h.in_body (held h.by c h.given_)
 
-abbrev addressed : Kind → Bool
+abbrev pub addressed : Kind → Bool
 addressed kind.Field = false
 addressed kind.Signal = false
 addressed _ = true
 
-address_by_kind : (n : Instance) (k : Kind) → kind_of n ≡ k → has_address n ≡ addressed k
+pub address_by_kind : (n : Instance) (k : Kind) → kind_of n ≡ k → has_address n ≡ addressed k
 address_by_kind n kind.Addrmap e = rw e refl
 address_by_kind n kind.Regfile e = rw e refl
 address_by_kind n kind.Reg e = rw e refl
@@ -63,17 +63,17 @@ reg_holds kind.Signal h = refl
 reg_holds _ h = cc
 
 -- in what has no address stands nothing
-alone : (n : Instance) → has_address n ≡ false → children n ≡ []
+pub alone : (n : Instance) → has_address n ≡ false → children n ≡ []
 alone n e = empty_of_none (IsChildOf n) (children n) (λ c h. unit_holds (kind_of n) (kind_of c) (sym (address_by_kind n (kind_of n) refl) ∙ e) (child_held n c h)) (children-given n)
 
 none_of : (k : ℕ) (n : Instance) → has_address n ≡ false → filter has_address (with_below k n) ≡ []
 none_of zero n e = rw e refl
 none_of (suc k) n e = let cs = alone n e in ap (λ ns. filter has_address (n ∷ flat_map (with_below k) ns)) cs ∙ rw e refl
 
-abbrev Unaddressed : Instance → Type 0
+abbrev pub Unaddressed : Instance → Type 0
 Unaddressed c = has_address c ≡ false
 
-in_reg : (n : Instance) → kind_of n ≡ kind.Reg → AllByRecursion Unaddressed (children n)
+pub in_reg : (n : Instance) → kind_of n ≡ kind.Reg → AllByRecursion Unaddressed (children n)
 in_reg n e = each-imp (IsChildOf n) Unaddressed (children n) (λ c h. address_by_kind c (kind_of c) refl ∙ reg_holds (kind_of c) (subst (λ k. holds k (kind_of c) ≡ true) e (child_held n c h))) (children-given n)
 
 none_among : (k : ℕ) (cs : List Instance) → AllByRecursion Unaddressed cs → filter has_address (flat_map (with_below k) cs) ≡ []
@@ -92,28 +92,28 @@ below_addressed k (c ∷ cs) = filter-append (with_below k c) (flat_map (with_be
 
 -- The instances of a body, as they are placed.
 
-firsts : (at step : ℕ) (ns : List Instance) → map (λ c. c.0) (elements_from at step ns) ≡ ns
+pub firsts : (at step : ℕ) (ns : List Instance) → map (λ c. c.0) (elements_from at step ns) ≡ ns
 firsts at step [] = refl
 firsts at step (n ∷ ns) = ap (λ xs. n ∷ xs) (firsts (at + step) step ns)
 
-abbrev members : Group → List Instance
+abbrev pub members : Group → List Instance
 members g = g.first ∷ g.others
 
-abbrev placed_groups : Mode → ℕ → List Group → List (Instance × ℕ)
+abbrev pub placed_groups : Mode → ℕ → List Group → List (Instance × ℕ)
 placed_groups mode before gs = flat_map (λ g. elements_from g.1 (stride mode g.0) (g.0.first ∷ g.0.others)) (starts mode before gs)
 
-in_groups : (mode : Mode) (before : ℕ) (gs : List Group) → map (λ c. c.0) (placed_groups mode before gs) ≡ flat_map members gs
+pub in_groups : (mode : Mode) (before : ℕ) (gs : List Group) → map (λ c. c.0) (placed_groups mode before gs) ≡ flat_map members gs
 in_groups mode before [] = refl
 in_groups mode before (g ∷ gs) =
     map-append (λ c. c.0) (elements_from (start mode before g) (stride mode g) (g.first ∷ g.others)) (placed_groups mode (end mode before g) gs)
     ∙ ap (λ xs. xs ++ map (λ c. c.0) (placed_groups mode (end mode before g) gs)) (firsts (start mode before g) (stride mode g) (g.first ∷ g.others))
     ∙ ap (λ xs. members g ++ xs) (in_groups mode (end mode before g) gs)
 
-of_group : (size access : Instance → ℕ) (ns : List Instance) → flat_map members (group size access ns) ≡ ns
+pub of_group : (size access : Instance → ℕ) (ns : List Instance) → flat_map members (group size access ns) ≡ ns
 of_group size access [] = refl
 of_group size access (n ∷ ns) = append-nil (n ∷ ns)
 
-of_grouped : (size access : Instance → ℕ) (ss : List Seen) → flat_map members (grouped size access (map (λ s. filter has_address (given_by s)) ss)) ≡ filter has_address (flat_map given_by ss)
+pub of_grouped : (size access : Instance → ℕ) (ss : List Seen) → flat_map members (grouped size access (map (λ s. filter has_address (given_by s)) ss)) ≡ filter has_address (flat_map given_by ss)
 of_grouped size access [] = refl
 of_grouped size access (s ∷ ss) =
     flat_map-append members (group size access (filter has_address (given_by s))) (grouped size access (map (λ s. filter has_address (given_by s)) ss))
@@ -121,7 +121,7 @@ of_grouped size access (s ∷ ss) =
     ∙ ap (λ xs. filter has_address (given_by s) ++ xs) (of_grouped size access ss)
     ∙ sym (filter-append (given_by s) (flat_map given_by ss))
 
-offsets_of : (k : ℕ) (mode : Mode) (n : Instance) → map (λ c. c.0) (offsets (mode_in mode n) (groups k mode n)) ≡ filter has_address (children n)
+pub offsets_of : (k : ℕ) (mode : Mode) (n : Instance) → map (λ c. c.0) (offsets (mode_in mode n) (groups k mode n)) ≡ filter has_address (children n)
 offsets_of k mode n = in_groups (mode_in mode n) 0 (groups k mode n) ∙ of_grouped (size_of k (mode_in mode n)) (access_of k) (seen_in n)
 
 -- Going down.
@@ -175,7 +175,7 @@ all_deep_enough : (k : ℕ) (cs : List Instance) → ((c : Instance) → Deep k 
 all_deep_enough k [] g h = refl
 all_deep_enough k (c ∷ cs) g h = ap (λ xs. xs ++ flat_map (with_below (suc k)) cs) (g c h.0) ∙ ap (λ xs. with_below k c ++ xs) (all_deep_enough k cs g h.1)
 
-deep_enough : (k : ℕ) (n : Instance) → Deep k n → with_below (suc k) n ≡ with_below k n
+pub deep_enough : (k : ℕ) (n : Instance) → Deep k n → with_below (suc k) n ≡ with_below k n
 deep_enough zero n d = ap (λ cs. n ∷ flat_map (with_below 0) cs) (bottom n d)
 deep_enough (suc k) n d = ap (λ xs. n ∷ xs) (all_deep_enough k (children n) (λ c q. deep_enough k c q) (lower k n d))
 

@@ -1,8 +1,8 @@
-mod Covers
-mod Fielding
+pub mod Covers
+pub mod Fielding
 mod Found
-mod Grouped
+pub mod Grouped
 mod Members
-mod Read
-mod Registering
-mod Using
+pub mod Read
+pub mod Registering
+pub mod Using

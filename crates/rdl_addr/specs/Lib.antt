@@ -6,5 +6,6 @@ pub mod Parts
 pub mod Registers
 pub mod Rounding
 pub mod Rules
+pub mod Spots
 pub mod Tables
 pub mod Texts

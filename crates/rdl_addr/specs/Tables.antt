@@ -1,16 +1,17 @@
 -- The tables that the map of a tree is kept in.
-use Rattle.std.specs.Prelude.{◌≡◌, ℕ, length, slice_index_or}
+use Rattle.std.specs.Prelude.{◌≡◌, ℕ, length}
 use Rattle.rdl_values.specs.Elaborated.{nodes_of}
 use Rattle.rdl_addr.specs.declared.map.Spot.{Spot}
+use Rattle.rdl_addr.specs.Spots.{bits_at, spot_at}
 use Rattle.rdl_addr.specs.declared.map.Map.TheInside.{Inside}
 use Rattle.rdl_addr.specs.Answers.{HasAddressAt, IsAddressAt, IsSizeAt, IsFieldAt, AreBitsAt}
 
 -- where a node stands, and which bits it has
 abbrev pub spot_of : Inside → ℕ → Spot
-spot_of a k = slice_index_or a.spots.items k (record { address = 0; size = 0 })
+spot_of a k = spot_at a.spots.items k
 
 abbrev pub bits_of : Inside → ℕ → ℕ × ℕ
-bits_of a k = slice_index_or a.bits.items k (0, 0)
+bits_of a k = bits_at a.bits.items k
 
 -- Node by node, the places of those that have an address, and the bits of the fields.
 pub record AreTables (a : Inside) : Type 0 where

@@ -10,4 +10,4 @@ pub use laws::{
     fields_have_bits, instances_have_texts, layout_covers, parts_are_groups, readings_agree,
     registers_are_placed, rounding_is_least,
 };
-pub use map::Map;
+pub use map::{Map, Spot};

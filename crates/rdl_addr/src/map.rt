@@ -1,13 +1,16 @@
 //! The addresses and bits of a tree.
 
+ghost use Rattle.std.specs.Prelude.{◌≡◌, ℕ, length};
+ghost use Rattle.rdl_values.specs.Elaborated.{nodes_of};
 ghost use Rattle.rdl_addr.specs.Answers.{AreBitsAt, HasAddressAt, IsAddressAt, IsFieldAt, IsSizeAt};
+ghost use Rattle.rdl_addr.specs.Spots.{bits_at, spot_at};
 
 use rdl_tree::Elab;
 use std::marker::Model;
 
 /// Where a register or container stands, in bytes.
 #[derive(Clone, Copy)]
-pub(crate) struct Spot {
+pub struct Spot {
     pub address: u64,
     pub size: u64,
 }
@@ -42,7 +45,19 @@ impl<'a> Model for Map<'a> {
     ghost invariant = { AreTables };
 }
 
-impl Map<'_> {
+impl<'a> Map<'a> {
+    /// The map of a tree from its tables: for each node where it stands, and for each node its high and its low bit.
+    pub fn of_tables(elab: Elab<'a>, spots: Vec<Spot>, bits: Vec<(u8, u8)>) -> Map<'a>
+        requires all_placed { length spots.items ≡ length (nodes_of elab) }
+        requires addresses { (k : ℕ) → HasAddressAt elab k → IsAddressAt elab k (spot_at spots.items k).address }
+        requires sizes { (k : ℕ) → HasAddressAt elab k → IsSizeAt elab k (spot_at spots.items k).size }
+        requires all_fields { length bits.items ≡ length (nodes_of elab) }
+        requires fields { (k : ℕ) → IsFieldAt elab k → AreBitsAt elab k (bits_at bits.items k) }
+        ensures { result ≡ elab.entry }
+    {
+        Map { elab, spots, bits }
+    }
+
     /// The address of a register or container, in bytes (SystemRDL 2.0, 5.1.2.2).
     pub fn address(&self, node: u32) -> u64
         requires { HasAddressAt self.now node }

@@ -38,6 +38,7 @@ pub record GivesUses (s : Scene) (position : ℕ) (r : ItemUses) (us : List Use)
   pub type : TypeUsed
   pub list : List Inst
   pub all_are : all ≡ seens type us list
+  pub alias_is : type.alias ≡ r.alias
   pub closure : IsClosureAt s.tables.now s.components.now s.numbers.now (position ∷ s.outer.now) r.found type.closure
   pub pairs : map pair_of r.uses.given.items ≡ flat_map (given_in type) all
   pub values : list ≢ [] → (i : Inst) → AreValues (bound_of (use_by type i) type.closure) r.uses.binding

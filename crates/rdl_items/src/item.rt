@@ -36,10 +36,12 @@ pub struct Scene<'s, 'a> {
     pub parent: Parent,
 }
 
-/// The uses of one item that give nodes: the definition, in which of the bodies round the item it stands, and the instances.
+/// The uses of one item that give nodes: the definition, in which of the bodies round the item it stands, the primary that they are
+/// aliases of, if they are aliases, and the instances.
 #[derive(Drop)]
 pub struct ItemUses<'a> {
     pub found: Found<'a>,
+    pub alias: Option<Name<'a>>,
     pub uses: Uses<'a>,
 }
 
@@ -72,6 +74,7 @@ fn judge_found<'a>(
     ensures given { IfOk result (λ r. (t : TypeUsed) (us : List Use) → IsTypeOf found.entry.def.now alias.entry insts.now.args.now place scene.now.parent (chain_of scene.now) (drop found.entry.level scene.now.numbers.now) t → AreEarlier earlier.old us → map pair_of r.uses.given.items ≡ flat_map (given_in t) (seens t us insts.now.list.now)) }
     ensures values { IfOk result (λ r. (t : TypeUsed) → IsTypeOf found.entry.def.now alias.entry insts.now.args.now place scene.now.parent (chain_of scene.now) (drop found.entry.level scene.now.numbers.now) t → insts.now.list.now ≢ [] → (i : AnyInst) → AreValues (bound_of (use_by t i) t.closure) r.uses.binding) }
     ensures same { IfOk result (λ r. r.found ≡ found.entry) }
+    ensures alias { IfOk result (λ r. r.alias ≡ alias.entry) }
 {
     let visible = Chain {
         nearest: None,
@@ -91,7 +94,7 @@ fn judge_found<'a>(
         earlier,
         failures,
     )?;
-    Ok(ItemUses { found, uses })
+    Ok(ItemUses { found, alias, uses })
 }
 
 /// Puts in all failures of the uses that an item makes: instances behind a definition, or of a named one. It gives those that give

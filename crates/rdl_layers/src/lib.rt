@@ -12,7 +12,7 @@ mod setting;
 pub use candidate::{Candidate, deciding};
 pub use error::LayerError;
 pub use laws::{first_related_decides, references_stand_where_taken, settings_have_forms};
-pub use props::Props;
+pub use props::{Entry, Props, setting_of};
 pub use rank::Rank;
 pub use related::is_related;
 pub use setting::Setting;

@@ -2,16 +2,18 @@
 
 ghost use Rattle.std.specs.Prelude.{◌≡◌, ◌<◌};
 ghost use Rattle.rdl_layers.specs.Answers.{SaysAt};
-ghost use Rattle.rdl_layers.specs.Tables.{setting_in};
+ghost use Rattle.rdl_layers.specs.Tables.{AreTablesOf, decided_in, default_in, is_false_set, setting_in, settled_by};
 
 use crate::Setting;
-use rdl_props::Prop;
+use crate::related::is_related;
+use rb_base::Keyword;
+use rdl_props::{Prop, group};
 use rdl_tree::Elab;
 use std::marker::Model;
 
-/// What a property of a node is set to.
+/// What an assignment that applies to a node gives its property.
 #[derive(Clone, Copy)]
-pub(crate) struct Entry<'a> {
+pub struct Entry<'a> {
     pub prop: Prop,
     pub setting: Setting<'a>,
 }
@@ -20,7 +22,7 @@ pub(crate) struct Entry<'a> {
 #[derive(Drop)]
 pub struct Props<'a> {
     elab: Elab<'a>,
-    /// For each node the properties that are set.
+    /// For each node what decides its properties, the first one of a group before the others.
     entries: Vec<Vec<Entry<'a>>>,
 }
 
@@ -44,19 +46,82 @@ impl<'a> Model for Props<'a> {
     ghost invariant = { AreTables };
 }
 
-/// What the first entry of a property sets it to.
-fn setting_of<'a>(entries: &[Entry<'a>], prop: Prop) -> Setting<'a>
-    ensures { result ≡ setting_in prop entries.now }
+// What the table of properties gives a property that nothing assigns.
+fn default_of<'a>(prop: Prop) -> Setting<'a>
+    ensures { result ≡ default_in prop }
+{
+    use Prop::*;
+
+    match prop {
+        Addressing => Setting::Word(Keyword::Regalign),
+        Regwidth => Setting::Number(32),
+        Signalwidth | Fieldwidth => Setting::Number(1),
+        Sw | Hw => Setting::Word(Keyword::Rw),
+        Precedence => Setting::Hard(false),
+        Lsb0 | Littleendian | Sync | Activehigh => Setting::Flag(true),
+        FieldReset | Anded | Ored | Xored | Swmod | Swacc => Setting::Flag(false),
+        Singlepulse | Counter | Overflow | Underflow => Setting::Flag(false),
+        _ => Setting::Unset,
+    }
+}
+
+// Whether it is the boolean false.
+fn is_false(setting: &Setting) -> bool
+    ensures { result ≡ is_false_set setting.now }
+{
+    match setting {
+        Setting::Flag(flag) => !*flag,
+        _ => false,
+    }
+}
+
+// What the deciding entry makes of a property: another one of the group leaves it unset, and false leaves the whole group unset.
+fn settled<'a>(entry: &Entry<'a>, prop: Prop) -> Setting<'a>
+    ensures { result ≡ settled_by prop entry.now }
+{
+    let empties = group(prop).is_some() & is_false(&entry.setting);
+    if (prop == entry.prop) & !empties {
+        entry.setting
+    } else {
+        Setting::Unset
+    }
+}
+
+// What the first entry of a property, or of one that excludes it, makes of it.
+fn decided<'a>(entries: &[Entry<'a>], prop: Prop, default: Setting<'a>) -> Setting<'a>
+    ensures { result ≡ decided_in prop default.entry entries.now }
 {
     for entry in entries {
-        if entry.prop == prop {
-            return entry.setting;
+        if is_related(prop, entry.prop) {
+            return settled(entry, prop);
         }
     }
-    Setting::Unset
+    default
+}
+
+/// What the entries make of a property: the first one of it, or of one that excludes it, decides, and where there is none the table
+/// of properties does. An accesswidth that nothing assigns is the register's regwidth (SystemRDL 2.0, 10.6).
+pub fn setting_of<'a>(entries: &[Entry<'a>], prop: Prop) -> Setting<'a>
+    ensures { result ≡ setting_in prop entries.now }
+{
+    match prop {
+        Prop::Accesswidth => {
+            let width = decided(entries, Prop::Regwidth, default_of(Prop::Regwidth));
+            decided(entries, prop, width)
+        }
+        _ => decided(entries, prop, default_of(prop)),
+    }
 }
 
 impl<'a> Props<'a> {
+    /// The settings of a tree, from what decides the properties of each node.
+    pub fn of(elab: Elab<'a>, entries: Vec<Vec<Entry<'a>>>) -> Self
+        requires { AreTablesOf elab entries.items }
+        ensures { result ≡ elab.entry }
+    {
+        Props { elab, entries }
+    }
+
     /// What the property of the node of this number is set to (SystemRDL 2.0, 5.1.3). It takes no memory.
     pub fn value(&self, node: u32, prop: Prop) -> Setting<'a>
         requires { node < self.now.count }

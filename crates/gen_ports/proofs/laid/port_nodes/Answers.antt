@@ -4,7 +4,7 @@ use Rattle.v_design.specs.Design.{inputs_among}
 use Rattle.gen_ports.specs.Laid.{AreInputs, AreSeatsOf}
 use Rattle.std.specs.Str.{bytes_eq}
 use Rattle.rtl_net.specs.Names.{clock}
-use Rattle.gen_ports.proofs.Laying.{kept_new, listed, next_new, none_left, on_true, outputs_free, pins_laid, port_at, port_more, told_true}
+use Rattle.gen_ports.proofs.Laying.{kept_new, kept_of_fields, listed, next_new, none_left, on_true, outputs_free, pins_laid, port_at, port_more, told_true}
 use Rattle.gen_ports.proofs.laid.port_nodes.Goals as goal
 
 pub add-requires-clause-named : goal.add-requires-clause-named
@@ -45,6 +45,12 @@ pub returns-clause-kept : goal.returns-clause-kept
 returns-clause-kept c = λ k h.
     let done = none_left c.args.block.now c.in_ok-all.all.items c.deref-port-items.result.now c.loop-port.port-index c.in_ok-all.ensures c.deref-port-items.ensures.value c.loop-port-test.false in
     kept_new c.args.block.now c.loop-port.net k (c.names_differ.ensures c.args.block.now c.requires.sound) (subst (AreSeatsOf c.loop-port.net.seats) done c.loop-port.invariant.seats) (c.loop-port.invariant.registers ∙ c.requires.plain) h
+
+pub returns-clause-of_fields : goal.returns-clause-of_fields
+returns-clause-of_fields c = λ k h.
+    let done = none_left c.args.block.now c.in_ok-all.all.items c.deref-port-items.result.now c.loop-port.port-index c.in_ok-all.ensures c.deref-port-items.ensures.value c.loop-port-test.false in
+    kept_new c.args.block.now c.loop-port.net k (c.names_differ.ensures c.args.block.now c.requires.sound) (subst (AreSeatsOf c.loop-port.net.seats) done c.loop-port.invariant.seats) (c.loop-port.invariant.registers ∙ c.requires.plain)
+    (kept_of_fields c.args.block.now k h)
 
 pub returns-clause-outputs : goal.returns-clause-outputs
 returns-clause-outputs c =

@@ -41,6 +41,7 @@ returns-in-Some-clause-given c = λ p above scope us h old.
       type = t;
       list = is.list.now;
       all_are = seen;
+      alias_is = sym c.in_ok-judge_found-in-Some.ensures.alias;
       closure = subst (λ f. IsClosureAt s.tables.now s.components.now s.numbers.now (c.args.position ∷ s.outer.now) f t.closure) (sym c.in_ok-judge_found-in-Some.ensures.same) (record { def = refl; shown = h.shown });
       pairs = c.in_ok-judge_found-in-Some.ensures.given t us ty old ∙ ap (flat_map (given_in t)) (sym seen);
       values = c.in_ok-judge_found-in-Some.ensures.values t ty;
@@ -97,6 +98,7 @@ returns-in-Some-find_component-clause-given c = λ p above scope us h old.
       type = t;
       list = is.list.now;
       all_are = seen;
+      alias_is = sym c.in_ok-judge_found-in-Some-find_component.ensures.alias;
       closure = subst (λ f'. IsClosureAt s.tables.now s.components.now s.numbers.now (c.args.position ∷ s.outer.now) f' f.0) (sym c.in_ok-judge_found-in-Some-find_component.ensures.same) at;
       pairs = c.in_ok-judge_found-in-Some-find_component.ensures.given t us ty old ∙ ap (flat_map (given_in t)) (sym seen);
       values = c.in_ok-judge_found-in-Some-find_component.ensures.values t ty;

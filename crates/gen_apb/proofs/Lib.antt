@@ -1,0 +1,6 @@
+mod Filling
+mod Naming
+mod Edging
+mod Parts
+mod Running
+mod Titles

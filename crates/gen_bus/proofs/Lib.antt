@@ -1,0 +1,4 @@
+pub mod OfBus
+mod Accessing
+mod WaitSteps
+mod Fronting

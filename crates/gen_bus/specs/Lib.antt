@@ -1,0 +1,5 @@
+pub mod Accesses
+pub mod Bus
+pub mod Fronts
+pub mod Pins
+pub mod Waits

@@ -1,0 +1,13 @@
+//! What the definitions determine.
+
+ghost use Rattle.std.specs.Prelude.{ℕ, List};
+ghost use Rattle.rtl_net.specs.Net.{Net};
+ghost use Rattle.v_printer.specs.TextOf.{IsTextOf};
+ghost use Rattle.rb_model.specs.declared.block.Block.{Block};
+ghost use Rattle.rb_model.specs.Agreement.{Agrees};
+ghost use Rattle.gen_text.specs.Netlist.{IsNetlistOf};
+
+/// A text of a block's netlist agrees with the block.
+pub fn text_agrees()
+    ensures { (net : Net) (b : Block) (text : List ℕ) → IsNetlistOf net b → IsTextOf net text → Agrees text b }
+{}

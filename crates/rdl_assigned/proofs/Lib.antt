@@ -1,0 +1,4 @@
+mod Related
+mod Judging
+mod Behind
+pub mod Reading

@@ -1,0 +1,4 @@
+pub mod Allowed
+pub mod Taken
+pub mod Layers
+pub mod Defaults

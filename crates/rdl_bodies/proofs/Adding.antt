@@ -1,0 +1,353 @@
+-- What holds where one body more is open, or one site more is listed.
+use Rattle.std.proofs.Common.{◌≡◌, ◌∙◌, ℕ, ◌+◌, ◌<◌, ◌≤◌, List, [], ◌∷◌, ◌++◌, length, map, take, slice_get, Option, None, Some, option_map, option_to_list, refl, sym, ap, subst, arith, append-nil, ◌⊎◌, inl, inr}
+use Rattle.std.specs.Borrow.{Bor}
+use Rattle.std.proofs.lemmas.List.{length-append}
+use Rattle.std.proofs.lemmas.Option.{slice_get_within}
+use Rattle.rb_base.specs.declared.fault.Fault.{Fault}
+use Rattle.rdl_tree.specs.InOrder.{IsInOrder}
+use Rattle.rdl_tree.specs.declared.item.Item.{Item}
+use Rattle.rdl_tree.specs.declared.value.Env.{Env}
+use Rattle.rdl_values.specs.Bodies as values
+use Rattle.rdl_values.specs.Bodies.{around, scope_at}
+use Rattle.rdl_values.specs.Chained.{chained}
+use Rattle.rdl_values.specs.Enums.{names_of, with_item, with_items}
+use Rattle.rdl_values.specs.Instances.{Instance, body}
+use Rattle.rdl_values.specs.Seen.{around_of, bound_of, enum_in, names_in}
+use Rattle.rdl_values.specs.Tabled.{listed_in}
+use Rattle.rdl_values.specs.Values.{Around, EnumOf, Names, Val}
+use Rattle.rdl_values.specs.Views as view
+use Rattle.rdl_values.specs.Views.{ItemIs, item_is}
+use Rattle.rdl_judging.specs.Noted.{Holds, with_all}
+use Rattle.rdl_judging.specs.Shown.{IsAlike}
+use Rattle.rdl_judging.proofs.Around.{alike_same}
+use Rattle.rdl_judging.proofs.Sets.{again, held, kept}
+use Rattle.rdl_names.specs.Named.{AreComponents}
+use Rattle.rdl_names.specs.declared.components.Components.{Components}
+use Rattle.rdl_names.specs.declared.enums.Opened.{Opened}
+use Rattle.rdl_scopes.specs.Scopes.{AreOpen, Shows, items_at, items_in}
+use Rattle.rdl_bodies.specs.Kept.{AreBelow, AreKept, Grows, IsBody, IsOpenFor, IsSite, of_names}
+use Rattle.rdl_bodies.specs.Opened.{IsOpened, IsText, IsTextFor}
+use Rattle.rdl_bodies.specs.Sited.{HaveEnvs, IsAt, IsOpenAs}
+use Rattle.rdl_bodies.specs.declared.bodies.Bodies.{Bodies}
+use Rattle.rdl_bodies.specs.declared.bodies.Body.{Body}
+use Rattle.rdl_bodies.specs.declared.bodies.Site.{Site}
+use Rattle.rdl_bodies.specs.declared.opening.BodyText.{BodyText}
+use Rattle.rdl_bodies.proofs.Growing.{AllSame, at_same, begins_get, begins_length, begins_same, chained_same, below_more, def_same, get_either, get_front, get_next, grows_on, grows_same, open_same, same_below, envs_same, shows_same, turned}
+
+-- The names of a body.
+
+item-bound : (outer : Around) (n : Names) (v : ItemIs) → (with_item outer n v).bound ≡ n.bound
+item-bound outer n (view.definition d) = refl
+item-bound outer n (view.enumeration m es) = refl
+item-bound outer n (view.made a of is) = refl
+item-bound outer n (view.default_ s) = refl
+item-bound outer n (view.local s) = refl
+item-bound outer n (view.dynamic p s) = refl
+
+items-bound : (outer : Around) (n : Names) (is : List Item) → (with_items outer n is).bound ≡ n.bound
+items-bound outer n [] = refl
+items-bound outer n (i ∷ is) = items-bound outer (with_item outer n (item_is i)) is ∙ item-bound outer n (item_is i)
+
+pub names_bound : (outer : Around) (bound : List (List ℕ × Val)) (is : List Item) → (names_of outer bound is).bound ≡ bound
+names_bound outer bound is = items-bound outer (record { bound = bound; enums = [] }) is
+
+same-names : (m : Names) (bound : List (List ℕ × Val)) (enums : List EnumOf) → bound ≡ m.bound → enums ≡ m.enums → record { bound = bound; enums = enums } ≡ m
+same-names m bound enums p q = ap (λ b. record { bound = b; enums = enums }) p ∙ ap (λ e. record { bound = m.bound; enums = e }) q
+
+-- the bodies round a text are seen in the code's way
+pub round_alike : (t : Bodies) (ks ps : List ℕ) (scope : values.Scope) → Shows t.tables.items t.components.items ks ps scope → IsAlike (chained t.tables.items ks) (around scope)
+round_alike t [] [] [] h = alike_same []
+round_alike t [] [] (l ∷ ls) h = absurd h
+round_alike t [] (p ∷ ps) ls h = absurd h
+round_alike t (k ∷ ks) [] ls h = absurd h
+round_alike t (k ∷ ks) (p ∷ ps) [] h = absurd h
+round_alike t (k ∷ ks) (p ∷ ps) (l ∷ ls) h = h.1
+
+-- the environment round a text
+pub env_found : (bodies : List Body) (ks : List ℕ) (k : ℕ) (ws : Around) (x : Body) → HaveEnvs bodies (k ∷ ks) ws → slice_get bodies k ≡ Some x → around_of x.env.now ≡ ws
+env_found bodies ks k [] x h e = absurd h
+env_found bodies ks k (a ∷ ws) x h e = let same : h.0.0 ≡ x = cc in subst (λ y. around_of y.env.now ≡ a ∷ ws) same h.0.2
+
+pub env_missing : (bodies : List Body) (ks : List ℕ) (k : ℕ) (ws : Around) → HaveEnvs bodies (k ∷ ks) ws → slice_get bodies k ≡ None → ⊥
+env_missing bodies ks k [] h e = h
+env_missing bodies ks k (a ∷ ws) h e = cc
+
+pub env_none : (bodies : List Body) (ws : Around) → HaveEnvs bodies [] ws → [] ≡ ws
+env_none bodies [] h = refl
+env_none bodies (a ∷ ws) h = absurd h
+
+-- Bodies and sites that were there stay what they are.
+module _ (t u : Bodies) (grown : Grows t u) (before gs : List Fault) (inv : AreKept t before) where
+  abbrev after : List Fault
+  after = with_all gs before
+
+  here : (ks : List ℕ) → AreBelow (length t.tables.items) ks → AllSame t u ks
+  here ks low = same_below t u ks inv.components inv.list grown low
+
+  longer : length t.tables.items ≤ length u.tables.items
+  longer = begins_length t.tables.items u.tables.items grown.tables
+
+  pub site_stays : (s : Site) → IsSite t s → IsSite u s
+  site_stays s h = record {
+    below = below_more (length t.tables.items) (length u.tables.items) s.outer.now longer h.below;
+    defined = sym (def_same t u s.outer.now s.uptos.now (here s.outer.now h.below)) ∙ h.defined;
+    distinct = h.distinct;
+  }
+
+  open-for : (x : Body) (o : Option ℕ) → AreBelow (length t.tables.items) x.numbers.now → IsOpenFor t before x o → IsOpenFor u after x o
+  open-for x None low h = tt
+  open-for x (Some number) low h =
+      let s = h.0 in
+      let old = inv.sites number s h.1 in (
+        s,
+        begins_get t.sites.items u.sites.items number s grown.sites h.1,
+        λ n at.
+            let was = h.2 n (at_same u t s n.closure n.bound (turned t u s.outer.now (here s.outer.now old.below)) at) in
+            (open_same t u x (body n) (here x.numbers.now low) was.0, kept (of_names (body n)) gs before was.1),
+      )
+
+  pub body_stays : (k : ℕ) (x : Body) → slice_get t.list.items k ≡ Some x → IsBody u after k x
+  body_stays k x e =
+      let old = inv.bodies k x e in
+      let low : k < length t.components.items = let l = slice_get_within t.list.items k x e in let c = inv.components in let b = inv.list in omega (arith, l, c, b) in
+      record {
+        below = below_more (length t.tables.items) (length u.tables.items) x.numbers.now longer old.below;
+        items_are = ap (λ cs. items_at cs k) grown.components.1 ∙ ap items_in (get_front t.components.items grown.components.0 k low) ∙ old.items_are;
+        in_order = old.in_order;
+        of_site = open-for x x.site old.below old.of_site;
+      }
+
+-- One body more.
+
+-- the environment of a body whose names were opened
+pub env_opened : (e : Env) (ws : Around) (x : BodyText) (o : Opened) (outer : Option (Bor Env)) → around_of e ≡ names_in x.bound.now o.enums.now o.entries.now ∷ listed_in outer → listed_in outer ≡ ws → map (enum_in o.entries.now) o.enums.now ≡ (names_of ws (map bound_of x.bound.now) x.items.now).enums
+    → around_of e ≡ names_of ws (map bound_of x.bound.now) x.items.now ∷ ws
+env_opened e ws x o outer is round enums =
+    is ∙ ap (λ bs. names_in x.bound.now o.enums.now o.entries.now ∷ bs) round
+    ∙ ap (λ n. n ∷ ws) (same-names (names_of ws (map bound_of x.bound.now) x.items.now) (map bound_of x.bound.now) (map (enum_in o.entries.now) o.enums.now) (sym (names_bound ws (map bound_of x.bound.now) x.items.now)) enums)
+
+-- What is known of a body that is put behind the others.
+pub record IsNext (t u : Bodies) (number : ℕ) (x : BodyText) (r : Body) : Type 0 where
+  pub numbered : number ≡ length t.tables.items
+  pub table : Names
+  pub component : Components
+  pub tables : u.tables.items ≡ t.tables.items ++ (table ∷ [])
+  pub components : u.components.items ≡ t.components.items ++ (component ∷ [])
+  pub list : u.list.items ≡ t.list.items ++ (r ∷ [])
+  pub sites : u.sites.items ≡ t.sites.items
+  pub is_of : AreComponents component x.items.now
+  pub site_is : r.site ≡ x.site
+  pub items_are : r.items.now ≡ x.items.now
+  pub kind_is : r.kind ≡ x.kind
+  pub numbers_are : r.numbers.now ≡ number ∷ x.outer.now
+  pub uptos_are : r.uptos.now ≡ x.uptos.now
+  pub env_is : (ws : Around) → HaveEnvs t.list.items x.outer.now ws → IsAlike (chained t.tables.items x.outer.now) ws → around_of r.env.now ≡ names_of ws (map bound_of x.bound.now) x.items.now ∷ ws
+  pub alike : (ws : Around) → IsAlike (chained t.tables.items x.outer.now) ws → IsAlike (table ∷ chained t.tables.items x.outer.now) (names_of ws (map bound_of x.bound.now) x.items.now ∷ ws)
+
+module _ (t u : Bodies) (number : ℕ) (x : BodyText) (r : Body) (new : IsNext t u number x r) where
+  pub grown_by : Grows t u
+  grown_by = record { tables = (new.table ∷ [], new.tables); components = (new.component ∷ [], new.components); list = (r ∷ [], new.list); sites = begins_same t.sites.items u.sites.items new.sites }
+
+  module _ (c : length t.components.items ≡ length t.tables.items) (b : length t.list.items ≡ length t.tables.items) (below : AreBelow (length t.tables.items) x.outer.now) where
+    rounds : AllSame t u x.outer.now
+    rounds = same_below t u x.outer.now c b grown_by below
+
+    own-items : items_at u.components.items number ≡ x.items.now
+    own-items =
+        let e : number ≡ length t.components.items = let n = new.numbered in omega (arith, n, c) in
+        ap (λ k. items_at u.components.items k) e ∙ ap (λ cs. items_at cs (length t.components.items)) new.components ∙ ap items_in (get_next t.components.items new.component) ∙ new.is_of.same
+
+    own-chain : chained u.tables.items (number ∷ x.outer.now) ≡ new.table ∷ chained t.tables.items x.outer.now
+    own-chain =
+        ap (λ k. option_to_list (slice_get u.tables.items k) ++ chained u.tables.items x.outer.now) new.numbered
+        ∙ ap (λ ts. option_to_list (slice_get ts (length t.tables.items)) ++ chained u.tables.items x.outer.now) new.tables
+        ∙ ap (λ o. option_to_list o ++ chained u.tables.items x.outer.now) (get_next t.tables.items new.table)
+        ∙ ap (λ ws. new.table ∷ ws) (sym (chained_same t u x.outer.now rounds))
+
+    pub own_body : slice_get u.list.items number ≡ Some r
+    own_body =
+        let e : number ≡ length t.list.items = let n = new.numbered in omega (arith, n, b) in
+        ap (λ k. slice_get u.list.items k) e ∙ ap (λ xs. slice_get xs (length t.list.items)) new.list ∙ get_next t.list.items r
+
+    module _ (v : values.Body) (h : IsText t x v) where
+      alike : IsAlike (chained u.tables.items (number ∷ x.outer.now)) (v.names ∷ around v.outer)
+      alike =
+          subst (λ ws. IsAlike ws (v.names ∷ around v.outer)) (sym own-chain)
+          (subst (λ n. IsAlike (new.table ∷ chained t.tables.items x.outer.now) (n ∷ around v.outer)) (sym h.names_are) (new.alike (around v.outer) (round_alike t x.outer.now x.uptos.now v.outer h.round.shown)))
+
+      shown : (i : ℕ) → Shows u.tables.items u.components.items (number ∷ x.outer.now) (i ∷ x.uptos.now) (scope_at v (take i x.items.now))
+      shown i = (ap (take i) (sym own-items), alike, shows_same t u x.outer.now x.uptos.now v.outer rounds h.round.shown)
+
+      shown-here : (i : ℕ) → Shows u.tables.items u.components.items r.numbers.now (i ∷ r.uptos.now) (scope_at v (take i r.items.now))
+      shown-here i =
+          subst (λ is. Shows u.tables.items u.components.items r.numbers.now (i ∷ r.uptos.now) (scope_at v (take i is))) (sym new.items_are)
+          (subst (λ us. Shows u.tables.items u.components.items r.numbers.now (i ∷ us) (scope_at v (take i x.items.now))) (sym new.uptos_are)
+          (subst (λ ns. Shows u.tables.items u.components.items ns (i ∷ x.uptos.now) (scope_at v (take i x.items.now))) (sym new.numbers_are) (shown i)))
+
+      env : around_of r.env.now ≡ v.names ∷ around v.outer
+      env = new.env_is (around v.outer) h.round.envs (round_alike t x.outer.now x.uptos.now v.outer h.round.shown) ∙ ap (λ n. n ∷ around v.outer) (sym h.names_are)
+
+      pub opened_as : IsOpenAs u r v
+      opened_as = record {
+        items_are = h.items_are ∙ sym new.items_are;
+        kind_is = h.kind_is ∙ sym new.kind_is;
+        shown = shown-here;
+        envs = subst (λ ns. HaveEnvs u.list.items ns (v.names ∷ around v.outer)) (sym new.numbers_are) ((r, own_body, env), envs_same t u x.outer.now (around v.outer) rounds h.round.envs);
+      }
+
+  -- All is kept where the failures of the names were put in.
+  module _ (before after : List Fault) (inv : AreKept t before) (in_order : IsInOrder x.items.now) (below : AreBelow (length t.tables.items) x.outer.now) (some : (v : values.Body) × IsText t x v) (put : (v : values.Body) → IsText t x v → after ≡ with_all (of_names v) before)
+      (of_site : IsTextFor t x x.site) where
+    abbrev fails : List Fault
+    fails = of_names some.0
+
+    is-after : after ≡ with_all fails before
+    is-after = put some.0 some.1
+
+    new-for : (o : Option ℕ) → IsTextFor t x o → IsOpenFor u after r o
+    new-for None h = tt
+    new-for (Some k) h = (
+      h.0,
+      ap (λ ss. slice_get ss k) new.sites ∙ h.1,
+      λ n at.
+          let back = at_same u t h.0 n.closure n.bound (turned t u h.0.outer.now (same_below t u h.0.outer.now inv.components inv.list grown_by (inv.sites k h.0 h.1).below)) at in
+          let text = h.2 n back in
+          (opened_as inv.components inv.list below (body n) text, subst (λ fs. Holds fs (of_names (body n))) (sym (put (body n) text)) (held (of_names (body n)) before)),
+    )
+
+    one-more : length u.tables.items ≡ length t.tables.items + 1
+    one-more = ap length new.tables ∙ length-append t.tables.items (new.table ∷ [])
+
+    new-body : IsBody u after number r
+    new-body = record {
+      below = subst (AreBelow (length u.tables.items)) (sym new.numbers_are) (let n = new.numbered in omega (arith, n, one-more), below_more (length t.tables.items) (length u.tables.items) x.outer.now (omega (arith, one-more)) below);
+      items_are = own-items inv.components inv.list below ∙ sym new.items_are;
+      in_order = subst IsInOrder (sym new.items_are) in_order;
+      of_site = subst (IsOpenFor u after r) (sym new.site_is) (new-for x.site of_site);
+    }
+
+    bodies-kept : (k : ℕ) (y : Body) → slice_get u.list.items k ≡ Some y → IsBody u after k y
+    bodies-kept k y e = go (get_either t.list.items r y k (sym (ap (λ xs. slice_get xs k) new.list) ∙ e))
+      where
+        go : (slice_get t.list.items k ≡ Some y) ⊎ ((k ≡ length t.list.items) × (r ≡ y)) → IsBody u after k y
+        go (inl h) = subst (λ fs. IsBody u fs k y) (sym is-after) (body_stays t u grown_by before fails inv k y h)
+        go (inr h) =
+            let at : number ≡ k = let n = new.numbered in let l = inv.list in let i = h.0 in omega (arith, n, l, i) in
+            subst (λ z. IsBody u after k z) h.1 (subst (λ m. IsBody u after m r) at new-body)
+
+    components-open : AreOpen u.components.items
+    components-open = subst AreOpen (sym new.components) (push t.components.items inv.open_)
+      where
+        own : AreComponents new.component new.component.items.now
+        own = subst (AreComponents new.component) (sym new.is_of.same) new.is_of
+
+        push : (cs : List Components) → AreOpen cs → AreOpen (cs ++ (new.component ∷ []))
+        push [] all = (own, tt)
+        push (d ∷ cs) all = (all.0, push cs all.1)
+
+    pub all_kept : AreKept u after
+    all_kept = record {
+      components = let c = ap length new.components ∙ length-append t.components.items (new.component ∷ []) in let i = inv.components in omega (arith, c, i, one-more);
+      list = let l = ap length new.list ∙ length-append t.list.items (r ∷ []) in let i = inv.list in omega (arith, l, i, one-more);
+      open_ = components-open;
+      sites = λ k s e. site_stays t u grown_by before fails inv s (inv.sites k s (sym (ap (λ ss. slice_get ss k) new.sites) ∙ e));
+      bodies = bodies-kept;
+    }
+
+    pub is_opened : (v : values.Body) → IsText t x v → IsOpened t u before after number v
+    is_opened v h = record {
+      kept = all_kept;
+      grown = grown_by;
+      noted = put v h;
+      body = r;
+      here = own_body inv.components inv.list below;
+      open_ = opened_as inv.components inv.list below v h;
+    }
+
+-- All is kept where failures were put in.
+pub kept_more : (t : Bodies) (before gs : List Fault) → AreKept t before → AreKept t (with_all gs before)
+kept_more t before gs inv = record {
+  components = inv.components;
+  list = inv.list;
+  open_ = inv.open_;
+  sites = inv.sites;
+  bodies = λ k x e. body_stays t t (grows_same t t refl refl refl ([], sym (append-nil t.sites.items))) before gs inv k x e;
+}
+
+-- All is kept where a site was put behind the others.
+module _ (t u : Bodies) (s : Site) (tables : u.tables ≡ t.tables) (components : u.components ≡ t.components) (list : u.list ≡ t.list) (sites : u.sites.items ≡ t.sites.items ++ (s ∷ [])) where
+  pub grown_listed : Grows t u
+  grown_listed = grows_same t u (ap (λ v. v.items) tables) (ap (λ v. v.items) components) (ap (λ v. v.items) list) (s ∷ [], sites)
+
+  pub kept_listed : (before : List Fault) → AreKept t before → IsSite t s → AreKept u before
+  kept_listed before inv new = record {
+    components = ap (λ v. length v.items) components ∙ inv.components ∙ sym (ap (λ v. length v.items) tables);
+    list = ap (λ v. length v.items) list ∙ inv.list ∙ sym (ap (λ v. length v.items) tables);
+    open_ = subst (λ v. AreOpen v.items) (sym components) inv.open_;
+    sites = λ k x e. go x (get_either t.sites.items s x k (sym (ap (λ ss. slice_get ss k) sites) ∙ e)) k;
+    bodies = λ k x e. body_stays t u grown_listed before [] inv k x (sym (ap (λ v. slice_get v.items k) list) ∙ e);
+  }
+    where
+      go : (x : Site) {k : ℕ} → (slice_get t.sites.items k ≡ Some x) ⊎ ((k ≡ length t.sites.items) × (s ≡ x)) → (j : ℕ) → IsSite u x
+      go x (inl h) j = site_stays t u grown_listed before [] inv x (inv.sites _ x h)
+      go x (inr h) j = subst (IsSite u) h.1 (site_stays t u grown_listed before [] inv s new)
+
+-- The environment round a text, by the first of the numbers of the bodies round it.
+
+pub env_listed : (bodies : List Body) (ks : List ℕ) (ws : Around) (k : ℕ) → HaveEnvs bodies ks ws → slice_get ks 0 ≡ Some k → listed_in (option_map (λ x. x.env) (slice_get bodies k)) ≡ ws
+env_listed bodies [] ws k h e = cc
+env_listed bodies (j ∷ ks) ws k h e = go (slice_get bodies k) refl
+  where
+    same : j ≡ k
+    same = cc
+
+    go : (o : Option Body) → slice_get bodies k ≡ o → listed_in (option_map (λ x. x.env) o) ≡ ws
+    go None f = absurd (env_missing bodies ks j ws h (ap (λ n. slice_get bodies n) same ∙ f))
+    go (Some x) f = env_found bodies ks j ws x h (ap (λ n. slice_get bodies n) same ∙ f)
+
+pub env_alone : (bodies : List Body) (ks : List ℕ) (ws : Around) → HaveEnvs bodies ks ws → slice_get ks 0 ≡ None → [] ≡ ws
+env_alone bodies [] ws h e = env_none bodies ws h
+env_alone bodies (j ∷ ks) ws h e = cc
+
+-- A body that is open for a site already.
+pub open_again : (t : Bodies) (before : List Fault) (k number : ℕ) (x : Body) (s : Site) (n : Instance) → AreKept t before → slice_get t.list.items k ≡ Some x → x.site ≡ Some number → slice_get t.sites.items number ≡ Some s → IsAt t s n.closure n.bound → IsOpened t t before before k (body n)
+open_again t before k number x s n inv e of here at =
+    let site = subst (IsOpenFor t before x) of (inv.bodies k x e).of_site in
+    let same : site.0 ≡ s = let both : Some site.0 ≡ Some s = sym site.1 ∙ here in cc in
+    let found = site.2 n (subst (λ y. IsAt t y n.closure n.bound) (sym same) at) in
+    record {
+      kept = inv;
+      grown = grows_same t t refl refl refl ([], sym (append-nil t.sites.items));
+      noted = sym (again (of_names (body n)) before found.1);
+      body = x;
+      here = e;
+      open_ = found.0;
+    }
+
+-- Where the lists are the same, all is.
+module _ (t u v : Bodies) (tables : v.tables ≡ u.tables) (components : v.components ≡ u.components) (list : v.list ≡ u.list) (sites : v.sites ≡ u.sites) where
+  pub grown_same : Grows u v
+  grown_same = grows_same u v (ap (λ x. x.items) tables) (ap (λ x. x.items) components) (ap (λ x. x.items) list) (begins_same u.sites.items v.sites.items (ap (λ x. x.items) sites))
+
+  every : (ks : List ℕ) → AllSame u v ks
+  every [] = tt
+  every (k ∷ ks) = (record { table = ap (λ x. slice_get x.items k) (sym tables); component = ap (λ x. slice_get x.items k) (sym components); body = ap (λ x. slice_get x.items k) (sym list) }, every ks)
+
+  pub kept_same : (before : List Fault) → AreKept u before → AreKept v before
+  kept_same before inv = record {
+    components = ap (λ x. length x.items) components ∙ inv.components ∙ sym (ap (λ x. length x.items) tables);
+    list = ap (λ x. length x.items) list ∙ inv.list ∙ sym (ap (λ x. length x.items) tables);
+    open_ = subst (λ x. AreOpen x.items) (sym components) inv.open_;
+    sites = λ k x e. site_stays u v grown_same before [] inv x (inv.sites k x (sym (ap (λ ss. slice_get ss.items k) sites) ∙ e));
+    bodies = λ k x e. body_stays u v grown_same before [] inv k x (sym (ap (λ bs. slice_get bs.items k) list) ∙ e);
+  }
+
+  pub opened_same : (before after : List Fault) (k : ℕ) (b : values.Body) → IsOpened t u before after k b → IsOpened t v before after k b
+  opened_same before after k b h = record {
+    kept = kept_same after h.kept;
+    grown = grows_on t u v h.grown grown_same;
+    noted = h.noted;
+    body = h.body;
+    here = ap (λ bs. slice_get bs.items k) list ∙ h.here;
+    open_ = open_same u v h.body b (every h.body.numbers.now) h.open_;
+  }

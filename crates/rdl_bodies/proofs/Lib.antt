@@ -1,0 +1,4 @@
+pub mod Growing
+mod Distinct
+pub mod Adding
+mod Places

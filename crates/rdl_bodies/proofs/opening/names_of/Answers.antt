@@ -1,0 +1,9 @@
+use Rattle.std.proofs.Common.{◌∙◌, ap, sym}
+use Rattle.rdl_values.specs.Phase3.{of_enums, twice_defined}
+use Rattle.rdl_judging.specs.Noted.{with_all}
+use Rattle.rdl_judging.proofs.Sets.{with_all-append}
+use Rattle.rdl_bodies.proofs.opening.names_of.Goals as goal
+
+pub returns-clause-noted : goal.returns-clause-noted
+returns-clause-noted c = λ b i n a.
+    c.in_ok-opened.ensures.noted b i (n ∙ ap (λ t. t.bound) (sym c.in_ok-table.ensures)) a ∙ ap (with_all (of_enums b)) (c.in_ok-judge_names.ensures b i).put ∙ sym (with_all-append (twice_defined b) (of_enums b) c.args.failures.now)

@@ -1,0 +1,3 @@
+pub mod Sited
+pub mod Opened
+pub mod Kept

@@ -1,0 +1,95 @@
+//! The list of open bodies.
+
+ghost use Rattle.std.specs.Prelude.{◌≡◌};
+
+use indexmap::IndexMap;
+use rdl_names::Components;
+use rdl_tree::{Bound, Def, Env, Item, Kind};
+use rdl_values::Table;
+
+/// A definition in the bodies round its text, with the values of its parameters.
+#[derive(Clone, Copy)]
+pub struct Site<'a> {
+    pub def: &'a Def<'a>,
+    /// The bodies round its text, the nearest first, by their numbers.
+    pub outer: &'a [usize],
+    /// How many items of each stand before it.
+    pub uptos: &'a [usize],
+    pub bound: &'a [Bound<'a>],
+}
+
+/// An open body.
+#[derive(Clone, Copy)]
+pub struct Body<'a> {
+    /// The number of its site; the root has none.
+    pub site: Option<usize>,
+    pub items: &'a [Item<'a>],
+    /// The kind of its nodes; the root has none.
+    pub kind: Option<Kind>,
+    /// Its own number, and those of the bodies round its definition's text, the nearest first.
+    pub numbers: &'a [usize],
+    /// How many items of the bodies round it stand before its definition.
+    pub uptos: &'a [usize],
+    pub env: &'a Env<'a>,
+}
+
+/// The value of a parameter, as part of a key.
+#[derive(PartialEq, Eq, Hash, Drop)]
+pub(crate) enum Given<'a> {
+    Number(u64),
+    Flag(bool),
+    Str(&'a [u8]),
+}
+
+/// By what a site is looked up: the nearest body round its definition, how many items of that stand before it, and the values of its
+/// parameters.
+#[derive(PartialEq, Eq, Hash, Drop)]
+pub(crate) struct Key<'a> {
+    pub outer: Option<usize>,
+    pub upto: Option<usize>,
+    pub values: Vec<Given<'a>>,
+}
+
+/// The bodies of a source that are open, and the sites of those that may be.
+#[derive(Drop)]
+pub struct Bodies<'a> {
+    pub(crate) tables: Vec<Table<'a>>,
+    pub(crate) components: Vec<Components<'a>>,
+    pub(crate) list: Vec<Body<'a>>,
+    pub(crate) sites: Vec<Site<'a>>,
+    // Which site to try for a key, and which body for a site.
+    pub(crate) known: IndexMap<Key<'a>, usize>,
+    pub(crate) opened: IndexMap<usize, usize>,
+}
+
+impl<'a> Bodies<'a> {
+    ghost use Rattle.std.specs.Prelude.{◌≡◌, slice_get};
+
+    /// The tables of the bodies by their numbers.
+    pub fn tables(&self) -> &[Table<'a>]
+        ensures { result.now ≡ self.now.tables.items }
+    {
+        &self.tables
+    }
+
+    /// The components of the bodies by their numbers.
+    pub fn components(&self) -> &[Components<'a>]
+        ensures { result.now ≡ self.now.components.items }
+    {
+        &self.components
+    }
+
+    /// The body of a number.
+    pub fn body(&self, number: usize) -> Option<Body<'a>>
+        ensures { result ≡ slice_get self.now.list.items number }
+    {
+        self.list.get(number).copied()
+    }
+
+    /// The site of a number.
+    pub fn site(&self, number: usize) -> Option<Site<'a>>
+        ensures { result ≡ slice_get self.now.sites.items number }
+    {
+        self.sites.get(number).copied()
+    }
+}

@@ -1,0 +1,12 @@
+//! The bodies of a source that are open: each once for the bodies round its definition, the definition and the values of its
+//! parameters.
+#![tactic(auto)]
+
+mod bodies;
+mod opening;
+mod root;
+mod same;
+mod sites;
+
+pub use bodies::{Bodies, Body, Site};
+pub use root::open_root;

@@ -1,0 +1,269 @@
+//! Bodies that are opened.
+
+ghost use Rattle.std.specs.Prelude.{◌≡◌, ◌∷◌, ◌++◌, [], cond, is_some, map, option_map, IfOk, OnOk, slice_get};
+ghost use Rattle.rdl_tree.specs.InOrder.{IsInOrder};
+ghost use Rattle.rdl_values.specs.Bodies.{Body as BodyOf, around};
+ghost use Rattle.rdl_values.specs.Chained.{chained};
+ghost use Rattle.rdl_values.specs.Seen.{around_of, bound_of, names_in};
+ghost use Rattle.rdl_values.specs.Tabled.{listed_in};
+ghost use Rattle.rdl_values.specs.Values.{Around, entry_named};
+ghost use Rattle.rdl_judging.specs.Noted.{with_all};
+ghost use Rattle.rdl_judging.specs.Shown.{IsAlike};
+ghost use Rattle.rdl_names.specs.Opened as names;
+ghost use Rattle.rdl_bodies.specs.Kept.{AreDistinct, of_names};
+ghost use Rattle.rdl_bodies.specs.Opened.{IsBodyOf};
+ghost use Rattle.rdl_bodies.specs.Sited.{HaveEnvs};
+
+use crate::bodies::{Bodies, Body};
+use bumpalo::Bump;
+use bumpalo::collections::into_bump_slice;
+use rb_base::NoMemory;
+use rdl_judging::Failures;
+use rdl_names::{Components, Opened, Outer, judge_names, open_names};
+use rdl_tree::{Bound, Env, Item, Kind};
+use rdl_values::Table;
+use std::alloc::Global;
+
+/// The text of a body, with the values of its parameters, in the bodies round it.
+#[derive(Clone, Copy)]
+pub(crate) struct BodyText<'a> {
+    pub site: Option<usize>,
+    pub items: &'a [Item<'a>],
+    pub kind: Option<Kind>,
+    pub outer: &'a [usize],
+    pub uptos: &'a [usize],
+    pub bound: &'a [Bound<'a>],
+}
+
+// Puts a parameter behind the others, where none has its name.
+fn add_parameter<'a>(table: &mut Table<'a>, parameter: &Bound<'a>) -> Result<(), NoMemory>
+    ensures enums { table.new.enums ≡ table.old.enums }
+    ensures added { OnOk result (table.new.bound ≡ cond (is_some (entry_named parameter.now.name.text.now table.old.bound)) table.old.bound (table.old.bound ++ (bound_of parameter.now ∷ []))) }
+{
+    table.add(parameter.name.text, parameter.value)?;
+    Ok(())
+}
+
+// A table of parameters, no two of one name.
+fn table_of<'a>(alloc: Global, bound: &[Bound<'a>]) -> Result<Table<'a>, NoMemory>
+    requires { AreDistinct [] (map bound_of bound.now) }
+    ensures { IfOk result (λ t. t ≡ (record { bound = map bound_of bound.now; enums = [] })) }
+{
+    let mut table = Table::new(alloc);
+    for parameter in bound {
+        add_parameter(&mut table, parameter)?;
+    }
+    Ok(table)
+}
+
+// The names of a body, the failures of which are put in.
+fn names_of<'a>(
+    alloc: Global,
+    arena: &'a Bump,
+    tables: &[Table<'a>],
+    text: &BodyText<'a>,
+    failures: &mut Failures,
+) -> Result<Opened<'a>, NoMemory>
+    requires distinct { AreDistinct [] (map bound_of text.now.bound.now) }
+    requires in_order { IsInOrder text.now.items.now }
+    ensures opened { IfOk result (names.IsOpened (map bound_of text.now.bound.now) text.now.items.now (record { tables = tables.entry; numbers = text.now.outer })) }
+    ensures noted { OnOk result ((b : BodyOf) → b.items ≡ text.now.items.now → b.names.bound ≡ map bound_of text.now.bound.now → IsAlike (chained tables.now text.now.outer.now) (around b.outer)
+        → failures.new ≡ with_all (of_names b) failures.old) }
+{
+    judge_names(alloc, text.items, failures)?;
+    let table = table_of(alloc, text.bound)?;
+    let outer = Outer {
+        tables,
+        numbers: text.outer,
+    };
+    let opened = open_names(alloc, arena, table, text.items, &outer, failures)?;
+    Ok(opened)
+}
+
+// The first of some numbers.
+fn first_of(numbers: &[usize]) -> Option<usize>
+    ensures { result ≡ slice_get numbers.now 0 }
+{
+    numbers.first().copied()
+}
+
+// The environment of a body.
+fn env_at<'a>(list: &[Body<'a>], number: usize) -> Option<&'a Env<'a>>
+    ensures { result ≡ option_map (λ x. x.env) (slice_get list.now number) }
+{
+    list.get(number).map(|body| body.env)
+}
+
+// The environment of the nearest of some bodies.
+fn env_round<'a>(list: &[Body<'a>], outer: &[usize]) -> Option<&'a Env<'a>>
+    ensures { (bodies : Around) → HaveEnvs list.now outer.now bodies → listed_in result ≡ bodies }
+{
+    match first_of(outer) {
+        Some(nearest) => env_at(list, nearest),
+        None => None,
+    }
+}
+
+// An environment in the arena.
+fn env_in<'a>(
+    arena: &'a Bump,
+    bound: &'a [Bound<'a>],
+    opened: &Opened<'a>,
+    outer: Option<&'a Env<'a>>,
+) -> Result<&'a Env<'a>, NoMemory>
+    ensures { IfOk result (λ e. around_of e.now ≡ names_in bound.now opened.now.enums.now opened.now.entries.now ∷ listed_in outer.entry) }
+{
+    let env = arena.try_alloc(Env {
+        bound,
+        enums: opened.enums,
+        entries: opened.entries,
+        outer,
+    })?;
+    Ok(env)
+}
+
+// The number of a body, and those of the bodies round it.
+fn numbers_in<'a>(arena: &'a Bump, number: usize, outer: &[usize]) -> Result<&'a [usize], NoMemory>
+    ensures { IfOk result (λ r. r.now ≡ number ∷ outer.now) }
+{
+    let mut numbers: Vec<usize, &'a Bump> = Vec::new(arena);
+    numbers.push(number)?;
+    for round in outer {
+        numbers.push(*round)?;
+    }
+    Ok(into_bump_slice(numbers))
+}
+
+// The body of a text.
+fn body_of<'a>(
+    arena: &'a Bump,
+    number: usize,
+    text: &BodyText<'a>,
+    opened: &Opened<'a>,
+    outer: Option<&'a Env<'a>>,
+) -> Result<Body<'a>, NoMemory>
+    ensures { IfOk result (IsBodyOf number text.now opened.now outer.entry) }
+{
+    let env = env_in(arena, text.bound, opened, outer)?;
+    let numbers = numbers_in(arena, number, text.outer)?;
+    Ok(Body {
+        site: text.site,
+        items: text.items,
+        kind: text.kind,
+        numbers,
+        uptos: text.uptos,
+        env,
+    })
+}
+
+impl<'a> Bodies<'a> {
+    ghost use Rattle.std.specs.Prelude.{◌≡◌, ◌∷◌, ◌++◌, [], ℕ, length, map, IfOk, IfSome, OnOk, Some, slice_get};
+    ghost use Rattle.rb_base.specs.declared.fault.Fault.{Fault as AnyFault};
+    ghost use Rattle.rdl_tree.specs.InOrder.{IsInOrder};
+    ghost use Rattle.rdl_values.specs.Bodies.{Body as BodyOf};
+    ghost use Rattle.rdl_values.specs.Instances.{Instance, body};
+    ghost use Rattle.rdl_values.specs.Seen.{bound_of};
+    ghost use Rattle.rdl_bodies.specs.Kept.{AreBelow, AreDistinct, AreKept};
+    ghost use Rattle.rdl_bodies.specs.Opened.{CanOpen, IsOpened, IsText, IsTextFor};
+    ghost use Rattle.rdl_bodies.specs.Sited.{IsAt};
+    ghost use Rattle.rdl_bodies.specs.declared.bodies.Body.{Body as OpenBody};
+    ghost use Rattle.rdl_bodies.specs.declared.bodies.Site.{Site as SiteOf};
+
+    // Puts a body behind the others.
+    fn push(
+        &mut self,
+        table: Table<'a>,
+        components: Components<'a>,
+        body: Body<'a>,
+    ) -> Result<(), NoMemory>
+        ensures tables { OnOk result (self.new.tables.items ≡ self.old.tables.items ++ (table.entry ∷ [])) }
+        ensures components { OnOk result (self.new.components.items ≡ self.old.components.items ++ (components.entry ∷ [])) }
+        ensures list { OnOk result (self.new.list.items ≡ self.old.list.items ++ (body.entry ∷ [])) }
+        ensures sites { self.new.sites.items ≡ self.old.sites.items }
+    {
+        self.tables.push(table)?;
+        self.components.push(components)?;
+        self.list.push(body)?;
+        Ok(())
+    }
+
+    // Opens the body of a text.
+    pub(crate) fn add(
+        &mut self,
+        alloc: Global,
+        arena: &'a Bump,
+        text: &BodyText<'a>,
+        failures: &mut Failures,
+    ) -> Result<usize, NoMemory>
+        requires kept { AreKept self.old failures.old }
+        requires distinct { AreDistinct [] (map bound_of text.now.bound.now) }
+        requires in_order { IsInOrder text.now.items.now }
+        requires below { AreBelow (length self.old.tables.items) text.now.outer.now }
+        requires of_site { IsTextFor self.old text.now text.now.site }
+        requires some { (b : BodyOf) × IsText self.old text.now b }
+        ensures number { IfOk result (λ k. k ≡ length self.old.tables.items) }
+        ensures opened { IfOk result (λ k. (b : BodyOf) → IsText self.old text.now b → IsOpened self.old self.new failures.old failures.new k b) }
+    {
+        let opened = names_of(alloc, arena, &self.tables, text, failures)?;
+        let outer = env_round(&self.list, text.outer);
+        let number = self.tables.len();
+        let body = body_of(arena, number, text, &opened, outer)?;
+        let components = Components::of(alloc, text.items)?;
+        self.push(opened.table, components, body)?;
+        Ok(number)
+    }
+
+    // The body that is open for a site, if there is one.
+    fn find_open(&self, site: usize) -> Option<usize>
+        ensures { IfSome result (λ k. (x : OpenBody) × (slice_get self.now.list.items k ≡ Some x) × (x.site ≡ Some site)) }
+    {
+        let number = self.opened.get(&site).copied()?;
+        match self.list.get(number) {
+            Some(body) if body.site == Some(site) => Some(number),
+            _ => None,
+        }
+    }
+
+    // Notes which body to try for a site.
+    fn note_open(&mut self, site: usize, number: usize) -> Result<(), NoMemory>
+        ensures tables { self.new.tables ≡ self.old.tables }
+        ensures components { self.new.components ≡ self.old.components }
+        ensures list { self.new.list ≡ self.old.list }
+        ensures sites { self.new.sites ≡ self.old.sites }
+    {
+        self.opened.insert(site, number)?;
+        Ok(())
+    }
+
+    /// The body of a site, which is opened where it isn't yet. The failures of its names are put in: E2, and those of its
+    /// enumerations.
+    pub fn open(
+        &mut self,
+        alloc: Global,
+        arena: &'a Bump,
+        site: usize,
+        failures: &mut Failures,
+    ) -> Result<usize, NoMemory>
+        requires kept { AreKept self.old failures.old }
+        requires some { CanOpen self.old site }
+        ensures { IfOk result (λ k. (s : SiteOf) (n : Instance) → slice_get self.old.sites.items site ≡ Some s → IsAt self.old s n.closure n.bound → IsOpened self.old self.new failures.old failures.new k (body n)) }
+    {
+        if let Some(number) = self.find_open(site) {
+            return Ok(number);
+        }
+        let Some(of) = self.site(site) else {
+            return Ok(0);
+        };
+        let text = BodyText {
+            site: Some(site),
+            items: of.def.items,
+            kind: Some(of.def.kind),
+            outer: of.outer,
+            uptos: of.uptos,
+            bound: of.bound,
+        };
+        let number = self.add(alloc, arena, &text, failures)?;
+        self.note_open(site, number)?;
+        Ok(number)
+    }
+}

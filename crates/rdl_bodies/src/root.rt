@@ -1,0 +1,46 @@
+//! The body of the root.
+
+ghost use Rattle.std.specs.Prelude.{◌≡◌, IfOk};
+ghost use Rattle.rdl_tree.specs.InOrder.{IsInOrder};
+ghost use Rattle.rdl_tree.specs.declared.item.Source.{Source as AnySource};
+ghost use Rattle.rdl_values.specs.Top.{root};
+ghost use Rattle.rdl_bodies.specs.Opened.{IsRootOpen};
+
+use crate::bodies::Bodies;
+use crate::opening::BodyText;
+use bumpalo::Bump;
+use indexmap::IndexMap;
+use rb_base::NoMemory;
+use rdl_judging::Failures;
+use rdl_tree::Item;
+use std::alloc::Global;
+
+/// The root's body alone, which has the number 0. The failures of its names are put in: E2, and those of its enumerations.
+pub fn open_root<'a>(
+    alloc: Global,
+    arena: &'a Bump,
+    items: &'a [Item<'a>],
+    failures: &mut Failures,
+) -> Result<Bodies<'a>, NoMemory>
+    requires { IsInOrder items.now }
+    ensures { IfOk result (λ t. (s : AnySource) → s.items.now ≡ items.now → IsRootOpen t failures.old failures.new (root s)) }
+{
+    let mut bodies = Bodies {
+        tables: Vec::new(alloc),
+        components: Vec::new(alloc),
+        list: Vec::new(alloc),
+        sites: Vec::new(alloc),
+        known: IndexMap::new(alloc),
+        opened: IndexMap::new(alloc),
+    };
+    let text = BodyText {
+        site: None,
+        items,
+        kind: None,
+        outer: &[],
+        uptos: &[],
+        bound: &[],
+    };
+    bodies.add(alloc, arena, &text, failures)?;
+    Ok(bodies)
+}

@@ -1,0 +1,138 @@
+//! Sites that are listed, each once.
+
+ghost use Rattle.std.specs.Prelude.{◌≡◌, ℕ, List, Some, map, IfOk, IfSome, OnOk, length, slice_get};
+ghost use Rattle.rb_base.specs.declared.fault.Fault.{Fault as AnyFault};
+
+use crate::bodies::{Bodies, Given, Key, Site};
+use crate::same::{are_equal, are_same};
+use bumpalo::Bump;
+use bumpalo::collections::into_bump_slice;
+use rb_base::NoMemory;
+use rdl_tree::{Bound, Def, Value};
+use std::alloc::Global;
+
+// The values of some parameters.
+fn values_of<'a>(alloc: Global, bound: &[Bound<'a>]) -> Result<Vec<Given<'a>>, NoMemory> {
+    let mut values = Vec::new(alloc);
+    for parameter in bound {
+        values.push(match parameter.value {
+            Value::Number(n) => Given::Number(n),
+            Value::Flag(b) => Given::Flag(b),
+            Value::Str(s) => Given::Str(s),
+        })?;
+    }
+    Ok(values)
+}
+
+// By what a site is looked up.
+fn key_of<'a>(
+    alloc: Global,
+    outer: &[usize],
+    uptos: &[usize],
+    bound: &[Bound<'a>],
+) -> Result<Key<'a>, NoMemory> {
+    let values = values_of(alloc, bound)?;
+    Ok(Key {
+        outer: outer.first().copied(),
+        upto: uptos.first().copied(),
+        values,
+    })
+}
+
+// A copy in the arena.
+fn numbers_in<'a>(arena: &'a Bump, numbers: &[usize]) -> Result<&'a [usize], NoMemory>
+    ensures { IfOk result (λ r. r.now ≡ numbers.now) }
+{
+    let mut copy: Vec<usize, &'a Bump> = Vec::new(arena);
+    for number in numbers {
+        copy.push(*number)?;
+    }
+    Ok(into_bump_slice(copy))
+}
+
+// A copy in the arena.
+fn bound_in<'a>(arena: &'a Bump, bound: &[Bound<'a>]) -> Result<&'a [Bound<'a>], NoMemory>
+    ensures { IfOk result (λ r. r.now ≡ bound.now) }
+{
+    let mut copy: Vec<Bound<'a>, &'a Bump> = Vec::new(arena);
+    for parameter in bound {
+        copy.push(*parameter)?;
+    }
+    Ok(into_bump_slice(copy))
+}
+
+impl<'a> Bodies<'a> {
+    ghost use Rattle.std.specs.Prelude.{◌≡◌, ◌∷◌, ◌++◌, [], List, Some, map, IfOk, IfSome, OnOk, length, slice_get};
+    ghost use Rattle.rb_base.specs.declared.fault.Fault.{Fault as AnyFault};
+    ghost use Rattle.rdl_values.specs.Bodies.{Closure};
+    ghost use Rattle.rdl_values.specs.Parameters.{Bound as BoundOf};
+    ghost use Rattle.rdl_values.specs.Seen.{bound_of};
+    ghost use Rattle.rdl_bodies.specs.Kept.{AreBelow, AreDistinct, AreKept};
+    ghost use Rattle.rdl_bodies.specs.Opened.{IsListed, IsSame};
+    ghost use Rattle.rdl_bodies.specs.Sited.{AreRound, def_at};
+    ghost use Rattle.rdl_bodies.specs.declared.bodies.Site.{Site as SiteOf};
+
+    // The site of a key, where it is this one.
+    fn find_site(
+        &self,
+        key: &Key<'a>,
+        outer: &[usize],
+        uptos: &[usize],
+        bound: &[Bound<'a>],
+    ) -> Option<usize>
+        ensures { IfSome result (λ k. (s : SiteOf) × (slice_get self.now.sites.items k ≡ Some s) × IsSame s outer.now uptos.now (map bound_of bound.now)) }
+    {
+        let number = self.known.get(key).copied()?;
+        match self.sites.get(number) {
+            Some(site)
+                if are_equal(site.outer, outer)
+                    && are_equal(site.uptos, uptos)
+                    && are_same(site.bound, bound) => { Some(number) }
+            _ => None,
+        }
+    }
+
+    // Puts a site behind the others.
+    fn push_site(&mut self, site: Site<'a>, key: Key<'a>) -> Result<(), NoMemory>
+        ensures tables { self.new.tables ≡ self.old.tables }
+        ensures components { self.new.components ≡ self.old.components }
+        ensures list { self.new.list ≡ self.old.list }
+        ensures sites { OnOk result (self.new.sites.items ≡ self.old.sites.items ++ (site.entry ∷ [])) }
+    {
+        let number = self.sites.len();
+        self.sites.push(site)?;
+        self.known.insert(key, number)?;
+        Ok(())
+    }
+
+    /// The number of the site of a definition in these bodies, behind so many items of each, with these values of its parameters: one
+    /// that is listed, or else a new one.
+    pub fn list(
+        &mut self,
+        alloc: Global,
+        arena: &'a Bump,
+        def: &'a Def<'a>,
+        outer: &[usize],
+        uptos: &[usize],
+        bound: &[Bound<'a>],
+    ) -> Result<usize, NoMemory>
+        requires below { AreBelow (length self.old.tables.items) outer.now }
+        requires defined { def_at self.old.components.items outer.now uptos.now ≡ Some def.now }
+        requires distinct { AreDistinct [] (map bound_of bound.now) }
+        ensures { IfOk result (λ k. (held : List AnyFault) (c : Closure) (b : BoundOf) → AreKept self.old held → c.def ≡ def.now → AreRound self.old outer.now uptos.now c.scope → b ≡ map bound_of bound.now → IsListed self.old self.new held k c b) }
+    {
+        let key = key_of(alloc, outer, uptos, bound)?;
+        if let Some(number) = self.find_site(&key, outer, uptos, bound) {
+            return Ok(number);
+        }
+        let number = self.sites.len();
+        let site = Site {
+            def,
+            outer: numbers_in(arena, outer)?,
+            uptos: numbers_in(arena, uptos)?,
+            bound: bound_in(arena, bound)?,
+        };
+        self.push_site(site, key)?;
+        Ok(number)
+    }
+}

@@ -1,0 +1,5 @@
+pub mod Reached
+pub mod Bounds
+mod Flat
+pub mod Itemized
+mod Sharing

@@ -1,0 +1,135 @@
+//! The uses of one item.
+
+ghost use Rattle.std.specs.Prelude.{◌≡◌, ◌≢◌, [], ◌∷◌, Some, drop, IfOk, OnOk};
+ghost use Rattle.rdl_children.specs.Children.{AddsGiven, AddsOne};
+ghost use Rattle.rdl_children.specs.Items.{AddsUses, CanAdd};
+
+use crate::child::Child;
+use bumpalo::Bump;
+use bumpalo::collections::into_bump_slice;
+use rb_base::NoMemory;
+use rdl_bodies::{Bodies, Body};
+use rdl_items::ItemUses;
+use rdl_params::Binding;
+use rdl_tree::Name;
+use rdl_uses::Given;
+use std::alloc::Global;
+
+// A copy of some dimensions in the arena.
+fn dims_in<'a>(arena: &'a Bump, dims: &[u64]) -> Result<&'a [u64], NoMemory>
+    ensures { IfOk result (λ r. r.now ≡ dims.now) }
+{
+    let mut copy: Vec<u64, &'a Bump> = Vec::new(arena);
+    for dim in dims {
+        copy.push(*dim)?;
+    }
+    Ok(into_bump_slice(copy))
+}
+
+// Puts an instance behind the others.
+fn add_one<'a>(
+    arena: &'a Bump,
+    site: usize,
+    alias: Option<Name<'a>>,
+    one: &Given<'a>,
+    list: &mut Vec<Child<'a>, &'a Bump>,
+) -> Result<(), NoMemory>
+    ensures { OnOk result (AddsOne site alias.entry one.now list.old.items list.new.items) }
+{
+    let dims = dims_in(arena, &one.dims)?;
+    list.push(Child {
+        site,
+        inst: one.inst,
+        dims,
+        alias,
+    })?;
+    Ok(())
+}
+
+// Puts the instances of an item behind the others.
+fn add_given<'a>(
+    arena: &'a Bump,
+    site: usize,
+    alias: Option<Name<'a>>,
+    given: &[Given<'a>],
+    list: &mut Vec<Child<'a>, &'a Bump>,
+) -> Result<(), NoMemory>
+    ensures { OnOk result (AddsGiven site alias.entry given.now list.old.items list.new.items) }
+{
+    for one in given {
+        add_one(arena, site, alias, one, list)?;
+    }
+    Ok(())
+}
+
+// The bodies from a level on.
+fn behind<'s>(numbers: &'s [usize], level: usize) -> &'s [usize]
+    ensures { result.now ≡ drop level numbers.now }
+{
+    if level <= numbers.len() {
+        &numbers[level..]
+    } else {
+        &[]
+    }
+}
+
+// How many items are seen of the bodies round a definition.
+fn uptos_of(
+    alloc: Global,
+    position: usize,
+    uptos: &[usize],
+    level: usize,
+) -> Result<Vec<usize>, NoMemory>
+    ensures { IfOk result (λ r. r.items ≡ position ∷ drop level uptos.now) }
+{
+    let mut list = Vec::new(alloc);
+    list.push(position)?;
+    let rest = behind(uptos, level);
+    for upto in rest {
+        list.push(*upto)?;
+    }
+    Ok(list)
+}
+
+// Puts the instances of an item behind the others, with the values of their parameters.
+fn add_bound<'a>(
+    alloc: Global,
+    arena: &'a Bump,
+    bodies: &mut Bodies<'a>,
+    body: &Body<'a>,
+    item: &ItemUses<'a>,
+    binding: &Binding<'a>,
+    list: &mut Vec<Child<'a>, &'a Bump>,
+) -> Result<(), NoMemory>
+    requires can { CanAdd bodies.old body.now item.now }
+    requires given { item.now.uses.given.items ≢ [] }
+    requires bound { item.now.uses.binding ≡ Some binding.now }
+    ensures { OnOk result (AddsUses bodies.old bodies.new body.now item.now list.old.items list.new.items) }
+{
+    let outer = behind(body.numbers, item.found.level);
+    let uptos = uptos_of(alloc, item.found.position, body.uptos, item.found.level)?;
+    let site = bodies.list(alloc, arena, item.found.def, outer, &uptos, &binding.bound)?;
+    add_given(arena, site, item.alias, &item.uses.given, list)?;
+    Ok(())
+}
+
+/// Puts the instances of an item behind the others.
+pub(crate) fn add_uses<'a>(
+    alloc: Global,
+    arena: &'a Bump,
+    bodies: &mut Bodies<'a>,
+    body: &Body<'a>,
+    item: &ItemUses<'a>,
+    list: &mut Vec<Child<'a>, &'a Bump>,
+) -> Result<(), NoMemory>
+    requires { CanAdd bodies.old body.now item.now }
+    ensures { OnOk result (AddsUses bodies.old bodies.new body.now item.now list.old.items list.new.items) }
+{
+    if item.uses.given.is_empty() {
+        return Ok(());
+    }
+    match &item.uses.binding {
+        Some(binding) => add_bound(alloc, arena, bodies, body, item, binding, list),
+        None => Ok(()),
+    }
+}

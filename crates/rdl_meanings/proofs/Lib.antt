@@ -1,0 +1,4 @@
+pub mod Steps
+mod Numbers
+mod Looked
+mod Given

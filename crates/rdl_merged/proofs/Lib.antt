@@ -1,0 +1,5 @@
+mod Related
+mod Found
+mod Said
+mod Each
+mod Reset

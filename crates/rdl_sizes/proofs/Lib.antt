@@ -1,0 +1,11 @@
+pub mod Begun
+pub mod Facts
+mod Gathered
+mod Laying
+pub mod Moding
+pub mod Offsets
+mod Runs
+pub mod Settled
+pub mod Sizing
+mod Sums
+pub mod Turns

@@ -1,0 +1,3 @@
+pub mod Numbered
+mod Stepping
+mod Wants

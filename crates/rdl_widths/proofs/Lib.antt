@@ -1,0 +1,4 @@
+mod Numbers
+mod Assigned
+mod Noted
+mod Ranges
