@@ -30,23 +30,23 @@ use Rattle.rdl_spots.specs.Addresses.{AreFirst, IsSpot, address_at, address_by}
 
 -- Nodes that stand in no other are signals or the top.
 
+deeper-among : (k : ℕ) (n : Instance) (up : List Instance) (l : Lineage) → ((c : Instance) → In (lineages_below k (n ∷ up) c) l → length (n ∷ up) ≤ length l.ancestors) → (cs : List Instance) → In (flat_map (lineages_below k (n ∷ up)) cs) l → length up ≤ length l.ancestors
+deeper-among k n up l each [] h = absurd h
+deeper-among k n up l each (c ∷ cs) h = elim (in-either (lineages_below k (n ∷ up) c) (flat_map (lineages_below k (n ∷ up)) cs) l h) [
+  | inl q ↦ let d = each c q in omega (arith, d)
+  | inr q ↦ deeper-among k n up l each cs q
+]
+
 deeper : (k : ℕ) (up : List Instance) (n : Instance) (l : Lineage) → In (lineages_below k up n) l → length up ≤ length l.ancestors
 deeper zero up n l (inl e) = let s = ap (λ x. length x.ancestors) e in omega (arith, s)
 deeper zero up n l (inr h) = absurd h
 deeper (suc k) up n l (inl e) = let s = ap (λ x. length x.ancestors) e in omega (arith, s)
-deeper (suc k) up n l (inr h) = among (children n) h
-  where
-    among : (cs : List Instance) → In (flat_map (lineages_below k (n ∷ up)) cs) l → length up ≤ length l.ancestors
-    among [] h = absurd h
-    among (c ∷ cs) h = elim (in-either (lineages_below k (n ∷ up) c) (flat_map (lineages_below k (n ∷ up)) cs) l h) [
-      | inl q ↦ let d = deeper k (n ∷ up) c l q in omega (arith, d)
-      | inr q ↦ among cs q
-    ]
+deeper (suc k) up n l (inr h) = deeper-among k n up l (λ c q. deeper k (n ∷ up) c l q) (children n) h
 
 signal-unplaced : (n : Instance) → IsAtRoot n → has_address n ≡ true → ⊥
-signal-unplaced n h yes =
+signal-unplaced n h placed =
     let signal : is_signal (kind_of n) ≡ true = subst (λ p. may_hold p (kind_of n) ≡ true) h.in_body (held h.by n h.given_) in
-    by (kind_of n) signal (sym (address_by_kind n (kind_of n) refl) ∙ yes)
+    by (kind_of n) signal (sym (address_by_kind n (kind_of n) refl) ∙ placed)
   where
     by : (k : Kind) → is_signal k ≡ true → addressed k ≡ true → ⊥
     by kinds.Signal s a = cc a
@@ -159,3 +159,6 @@ module _ (e : Elab) (rows : List Row) (are : AreRows e rows) (sizes : Sizes) (kn
             let twin : spot_row.0 ≡ l = cc one in
             let value : address_at new k ≡ address_by as_ x.parent (offset_at sizes.offsets.items i) = ap (λ xs. address_at xs k) pushed ∙ (at-end as_ a k (same ∙ sym many) ∙ is) in
             subst (IsSpot e l) (sym value) (subst (λ y. IsSpot e y (address_by as_ x.parent (offset_at sizes.offsets.items i))) twin (mine x.parent spot_row.2 (ap (λ y. has_address y.node) twin ∙ placed)))
+
+pub no-addresses : (e : Elab) (as_ : List ℕ) → as_ ≡ [] → AreFirst e as_
+no-addresses e as_ none = record { spots = λ k l less at placed. absurd (let z = ap length none in omega (arith, less, z)) }
