@@ -5,14 +5,14 @@ ghost use Rattle.rtl_net.specs.Net.{Extends, IsWidth, Has, Stands};
 ghost use Rattle.rtl_net.specs.Names.{is_net_name};
 ghost use Rattle.gen_worked.specs.Open.{IsOpen, AreStanding, IsPinName};
 
+use crate::fault::Fault;
 use rtl_net::{Id, Netlist};
 use sim_run::simulate;
 use std::alloc::Global;
-use std::test::Fail;
 use v_printer::text;
 
 /// Adds an input pin.
-fn pin(net: &mut Netlist, name: &[u8], width: u8) -> Result<Id, Fail>
+fn pin(net: &mut Netlist, name: &[u8], width: u8) -> Result<Id, Fault>
     requires open { IsOpen net.old }
     requires named { IsPinName name.now }
     requires wide { IsWidth width }
@@ -21,7 +21,7 @@ fn pin(net: &mut Netlist, name: &[u8], width: u8) -> Result<Id, Fail>
     ensures stands { IfOk result (λ id. Stands net.new id width) }
 {
     if net.has(name) {
-        return Err(Fail::new("pins of different names"));
+        return Err(Fault::Names);
     }
     let id = net.input(name, width)?;
     Ok(id)
@@ -35,7 +35,7 @@ struct Three {
     c: Id,
 }
 
-fn three_pins(net: &mut Netlist, a: &[u8], b: &[u8], c: &[u8], width: u8) -> Result<Three, Fail>
+fn three_pins(net: &mut Netlist, a: &[u8], b: &[u8], c: &[u8], width: u8) -> Result<Three, Fault>
     requires open { IsOpen net.old }
     requires a { IsPinName a.now }
     requires b { IsPinName b.now }
@@ -70,7 +70,7 @@ pub(crate) struct Bench {
     pub r: Id,
 }
 
-pub(crate) fn nine_pins(alloc: Global, width: u8) -> Result<Bench, Fail>
+pub(crate) fn nine_pins(alloc: Global, width: u8) -> Result<Bench, Fault>
     requires { IsWidth width }
     ensures open { IfOk result (λ t. IsOpen t.net) }
     ensures values { IfOk result (λ t. AreStanding t.net t.v t.x t.y width) }
@@ -96,7 +96,7 @@ pub(crate) fn nine_pins(alloc: Global, width: u8) -> Result<Bench, Fail>
 }
 
 /// Adds an output that shows a node.
-pub(crate) fn show(net: &mut Netlist, name: &[u8], from: Id) -> Result<(), Fail>
+pub(crate) fn show(net: &mut Netlist, name: &[u8], from: Id) -> Result<(), Fault>
     requires open { IsOpen net.old }
     requires named { IsTrue (is_net_name name.now) }
     requires stands { Has net.old from }
@@ -105,23 +105,23 @@ pub(crate) fn show(net: &mut Netlist, name: &[u8], from: Id) -> Result<(), Fail>
     ensures some { OnOk result (0 < length net.new.seats) }
 {
     if net.has(name) {
-        return Err(Fail::new("ports of different names"));
+        return Err(Fault::Names);
     }
     net.output(name, from)?;
     Ok(())
 }
 
 /// The outputs of the netlist's module over a table of pin values, as text.
-pub(crate) fn run(alloc: Global, net: &Netlist, table: &str) -> Result<Vec<u8>, Fail>
+pub(crate) fn run(alloc: Global, net: &Netlist, table: &str) -> Result<Vec<u8>, Fault>
     requires open { IsOpen net.now }
     requires some { 0 < length net.now.seats }
 {
     let module = text(alloc, net)?;
     if module.len() >= u32::MAX as usize {
-        return Err(Fail::new("a short module"));
+        return Err(Fault::Run);
     }
     match simulate(alloc, &module, table.as_bytes()) {
         Ok(outputs) => Ok(outputs),
-        Err(_) => Err(Fail::new("a run")),
+        Err(_) => Err(Fault::Run),
     }
 }

@@ -4,10 +4,12 @@ ghost use Rattle.std.specs.Prelude.{ℕ, ◌≤◌};
 ghost use Rattle.rtl_net.specs.Net.{Net, IsWidth, MayHave, Stands};
 
 use crate::bench::{nine_pins, run, show};
+use crate::fault::Fault;
+use crate::outputs::print_outputs;
 use gen_counters::count;
 use rtl_net::Id;
 use std::alloc::Global;
-use std::test::Fail;
+use std::io;
 
 /// The level at which a counter saturates, if it does.
 fn level(pin: Id, saturates: bool) -> Option<Id>
@@ -18,7 +20,13 @@ fn level(pin: Id, saturates: bool) -> Option<Id>
 
 /// The next values of a counter, and whether it overflows or underflows. The pins are the value v, how far it counts up
 /// and down, x and y, and the levels at which it saturates where it does, a above and b below.
-fn counted(alloc: Global, width: u8, above: bool, below: bool, table: &str) -> Result<Vec<u8>, Fail>
+fn counted(
+    alloc: Global,
+    width: u8,
+    above: bool,
+    below: bool,
+    table: &str,
+) -> Result<Vec<u8>, Fault>
     requires wide { IsWidth width }
     requires narrow { width ≤ 64 }
 {
@@ -32,27 +40,62 @@ fn counted(alloc: Global, width: u8, above: bool, below: bool, table: &str) -> R
     run(alloc, &bench.net, table)
 }
 
-#[test]
-fn counters_saturate_before_they_wrap(rt: HostRuntime) -> Result<(), Fail> {
-    let wide = "v,x,y,a,b,c,p,q,r\n18446744073709551615,1,1,0,0,0,0,0,0\n";
-    let all = counted(rt.alloc(), 64, false, false, wide)?;
-    assert_eq!(rt;
-        all.as_slice(),
-        "next,over,under\n0xffffffffffffffff,0x0,0x0\n".as_bytes()
-    );
-    let up = "v,x,y,a,b,c,p,q,r\n14,3,0,15,0,0,0,0,0\n";
-    let down = "v,x,y,a,b,c,p,q,r\n1,0,3,0,0,0,0,0,0\n";
-    let both = "v,x,y,a,b,c,p,q,r\n14,3,3,10,0,0,0,0,0\n";
-    let rows: [(bool, bool, &str, &str); 5] = [
-        (false, false, up, "next,over,under\n0x1,0x1,0x0\n"),
-        (true, false, up, "next,over,under\n0xf,0x1,0x0\n"),
-        (false, false, down, "next,over,under\n0xe,0x0,0x1\n"),
-        (false, true, down, "next,over,under\n0x0,0x0,0x1\n"),
-        (true, false, both, "next,over,under\n0xa,0x0,0x0\n"),
+/// A counter of so many bits that saturates above or below, with what it is counted by.
+#[derive(Clone, Copy)]
+struct Worked {
+    title: &'static str,
+    above: bool,
+    below: bool,
+    table: &'static str,
+}
+
+const UP: &str = "v,x,y,a,b,c,p,q,r\n14,3,0,15,0,0,0,0,0\n";
+
+const DOWN: &str = "v,x,y,a,b,c,p,q,r\n1,0,3,0,0,0,0,0,0\n";
+
+const BOTH: &str = "v,x,y,a,b,c,p,q,r\n14,3,3,10,0,0,0,0,0\n";
+
+const WIDE: &str = "v,x,y,a,b,c,p,q,r\n18446744073709551615,1,1,0,0,0,0,0,0\n";
+
+/// Counters saturate before they wrap.
+pub(crate) fn print_counts(rt: HostRuntime) -> io::Result<()> {
+    let wide = counted(rt.alloc(), 64, false, false, WIDE);
+    print_outputs(rt, "64 bits count up and down by 1 from the top", wide)?;
+    let cases = [
+        Worked {
+            title: "4 bits count up past the top and wrap",
+            above: false,
+            below: false,
+            table: UP,
+        },
+        Worked {
+            title: "they saturate at the top",
+            above: true,
+            below: false,
+            table: UP,
+        },
+        Worked {
+            title: "they count down past 0 and wrap",
+            above: false,
+            below: false,
+            table: DOWN,
+        },
+        Worked {
+            title: "they saturate at 0",
+            above: false,
+            below: true,
+            table: DOWN,
+        },
+        Worked {
+            title: "they count up and down and saturate at 10",
+            above: true,
+            below: false,
+            table: BOTH,
+        },
     ];
-    for (above, below, table, values) in rows {
-        let answer = counted(rt.alloc(), 4, above, below, table)?;
-        assert_eq!(rt; answer.as_slice(), values.as_bytes());
+    for case in cases {
+        let outputs = counted(rt.alloc(), 4, case.above, case.below, case.table);
+        print_outputs(rt, case.title, outputs)?;
     }
     Ok(())
 }

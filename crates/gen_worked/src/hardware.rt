@@ -2,11 +2,13 @@
 ghost use Rattle.std.specs.Prelude.{◌≡◌, IfOk};
 
 use crate::bench::{nine_pins, run, show};
+use crate::fault::Fault;
+use crate::outputs::print_outputs;
 use gen_fields::{FinishIds, LoadIds, finish, load};
 use rb_base::{NoMemory, Text};
 use rb_model::{Class, Feed, Field, Gate, Latch, Mask, RefItem, ResetBy, Shows};
 use std::alloc::Global;
-use std::test::Fail;
+use std::io;
 
 /// A field of 4 bits that software and hardware write.
 pub(crate) fn field(alloc: Global, gate: Gate, keep: Mask, pulse: bool) -> Result<Field, NoMemory>
@@ -46,7 +48,7 @@ pub(crate) fn field(alloc: Global, gate: Gate, keep: Mask, pulse: bool) -> Resul
 }
 
 /// The values of a field after loads. The pins are the value v, the number x and the gate p.
-fn loaded(alloc: Global, gate: Gate, pulse: bool, table: &str) -> Result<Vec<u8>, Fail> {
+fn loaded(alloc: Global, gate: Gate, pulse: bool, table: &str) -> Result<Vec<u8>, Fault> {
     let field = field(alloc, gate, Mask::Off, pulse)?;
     let mut bench = nine_pins(alloc, 4)?;
     let from = LoadIds {
@@ -58,27 +60,24 @@ fn loaded(alloc: Global, gate: Gate, pulse: bool, table: &str) -> Result<Vec<u8>
     run(alloc, &bench.net, table)
 }
 
-#[test]
-fn loads_pass_through_their_gates(rt: HostRuntime) -> Result<(), Fail> {
+/// Loads pass through their gates, and a single pulse lasts one edge.
+pub(crate) fn print_loads(rt: HostRuntime) -> io::Result<()> {
     let table = "v,x,y,a,b,c,p,q,r\n9,6,0,0,0,0,1,0,0\n9,6,0,0,0,0,0,0,0\n";
-    let rows: [(Gate, bool, &str); 4] = [
-        (Gate::Always, false, "o\n0x6\n0x6\n"),
-        (Gate::High(Feed::Pin), false, "o\n0x6\n0x9\n"),
-        (Gate::Low(Feed::Pin), false, "o\n0x9\n0x6\n"),
-        (Gate::High(Feed::Pin), true, "o\n0x0\n0x0\n"),
+    let rows: [(&str, Gate, bool); 4] = [
+        ("a load without a gate", Gate::Always, false),
+        ("through a high gate", Gate::High(Feed::Pin), false),
+        ("through a low gate", Gate::Low(Feed::Pin), false),
+        ("of a single pulse", Gate::High(Feed::Pin), true),
     ];
-    for (gate, pulse, values) in rows {
-        assert_eq!(rt;
-            loaded(rt.alloc(), gate, pulse, table)?.as_slice(),
-            values.as_bytes()
-        );
+    for (title, gate, pulse) in rows {
+        print_outputs(rt, title, loaded(rt.alloc(), gate, pulse, table))?;
     }
     Ok(())
 }
 
 /// The values of a field after the last steps. The pins are the old value v, the value x and the mask y, and hwset and
 /// hwclr at p and q.
-fn finished(alloc: Global, keep: Mask, table: &str) -> Result<Vec<u8>, Fail> {
+fn finished(alloc: Global, keep: Mask, table: &str) -> Result<Vec<u8>, Fault> {
     let field = field(alloc, Gate::Always, keep, false)?;
     let mut bench = nine_pins(alloc, 4)?;
     let from = FinishIds {
@@ -91,19 +90,16 @@ fn finished(alloc: Global, keep: Mask, table: &str) -> Result<Vec<u8>, Fail> {
     run(alloc, &bench.net, table)
 }
 
-#[test]
-fn masks_keep_bits_of_the_old_value(rt: HostRuntime) -> Result<(), Fail> {
+/// Masks keep bits of the old value from hardware's set and clear.
+pub(crate) fn print_masks(rt: HostRuntime) -> io::Result<()> {
     let table = "v,x,y,a,b,c,p,q,r\n9,6,3,0,0,0,0,0,0\n9,6,3,0,0,0,1,0,0\n9,6,3,0,0,0,1,1,0\n";
-    let rows: [(Mask, &str); 3] = [
-        (Mask::Off, "o\n0x6\n0xf\n0x0\n"),
-        (Mask::Enable(RefItem::Field(1)), "o\n0xa\n0xb\n0x8\n"),
-        (Mask::Mask(RefItem::Field(1)), "o\n0x5\n0xd\n0x1\n"),
+    let rows: [(&str, Mask); 3] = [
+        ("set and clear without a mask", Mask::Off),
+        ("with an enable", Mask::Enable(RefItem::Field(1))),
+        ("with a mask", Mask::Mask(RefItem::Field(1))),
     ];
-    for (keep, values) in rows {
-        assert_eq!(rt;
-            finished(rt.alloc(), keep, table)?.as_slice(),
-            values.as_bytes()
-        );
+    for (title, keep) in rows {
+        print_outputs(rt, title, finished(rt.alloc(), keep, table))?;
     }
     Ok(())
 }

@@ -1,14 +1,16 @@
 //! Latches, and a register's interrupt lines.
 
 use crate::bench::{nine_pins, run, show};
+use crate::fault::Fault;
+use crate::outputs::print_outputs;
 use gen_intr::{Masked, any, latch};
 use rb_base::Edge;
 use rb_model::Latch;
 use std::alloc::Global;
-use std::test::Fail;
+use std::io;
 
 /// The values of an interrupt after its latch. The pins are the value v, the input x and the input before, y.
-fn latched(alloc: Global, how: Latch) -> Result<Vec<u8>, Fail> {
+fn latched(alloc: Global, how: Latch) -> Result<Vec<u8>, Fault> {
     let mut bench = nine_pins(alloc, 4)?;
     let id = latch(&mut bench.net, how, bench.v, bench.x, Some(bench.y))?;
     show(&mut bench.net, b"o", id)?;
@@ -19,30 +21,24 @@ fn latched(alloc: Global, how: Latch) -> Result<Vec<u8>, Fail> {
     )
 }
 
-#[test]
-fn events_are_kept_bit_by_bit_or_whole(rt: HostRuntime) -> Result<(), Fail> {
-    let rows: [(Edge, &str, &str); 5] = [
-        (Edge::Level, "o\n0xb\n0x3\n", "o\n0x8\n0x3\n"),
-        (Edge::Posedge, "o\n0xa\n0x2\n", "o\n0x8\n0x2\n"),
-        (Edge::Negedge, "o\n0xc\n0x4\n", "o\n0x8\n0x4\n"),
-        (Edge::Bothedge, "o\n0xe\n0x6\n", "o\n0x8\n0x6\n"),
-        (Edge::Nonsticky, "o\n0xb\n0x3\n", "o\n0x8\n0x3\n"),
+/// Events are kept bit by bit, or whole.
+pub(crate) fn print_latches(rt: HostRuntime) -> io::Result<()> {
+    let rows: [(&str, Edge); 5] = [
+        ("levels", Edge::Level),
+        ("rising edges", Edge::Posedge),
+        ("falling edges", Edge::Negedge),
+        ("both edges", Edge::Bothedge),
+        ("values as they are", Edge::Nonsticky),
     ];
-    for (edge, bits, whole) in rows {
-        assert_eq!(rt;
-            latched(rt.alloc(), Latch::Bits(edge))?.as_slice(),
-            bits.as_bytes()
-        );
-        assert_eq!(rt;
-            latched(rt.alloc(), Latch::Whole(edge))?.as_slice(),
-            whole.as_bytes()
-        );
+    for (title, edge) in rows {
+        print_outputs(rt, title, latched(rt.alloc(), Latch::Bits(edge)))?;
+        print_outputs(rt, "held whole", latched(rt.alloc(), Latch::Whole(edge)))?;
     }
     Ok(())
 }
 
 /// The line of the values v and x, of which x counts under the mask y.
-fn raised(alloc: Global, inverted: bool) -> Result<Vec<u8>, Fail> {
+fn raised(alloc: Global, inverted: bool) -> Result<Vec<u8>, Fault> {
     let mut bench = nine_pins(alloc, 4)?;
     let plain = Masked {
         value: bench.v,
@@ -63,15 +59,8 @@ fn raised(alloc: Global, inverted: bool) -> Result<Vec<u8>, Fail> {
     )
 }
 
-#[test]
-fn masks_choose_what_counts(rt: HostRuntime) -> Result<(), Fail> {
-    assert_eq!(rt;
-        raised(rt.alloc(), false)?.as_slice(),
-        "o\n0x1\n0x0\n0x1\n0x1\n".as_bytes()
-    );
-    assert_eq!(rt;
-        raised(rt.alloc(), true)?.as_slice(),
-        "o\n0x1\n0x1\n0x0\n0x1\n".as_bytes()
-    );
-    Ok(())
+/// Masks and enables choose what counts.
+pub(crate) fn print_lines(rt: HostRuntime) -> io::Result<()> {
+    print_outputs(rt, "a line with an enable", raised(rt.alloc(), false))?;
+    print_outputs(rt, "with a mask", raised(rt.alloc(), true))
 }

@@ -1,11 +1,13 @@
 //! The nine kinds of writes with gates, and the reads.
 
 use crate::bench::{nine_pins, run, show};
+use crate::fault::Fault;
+use crate::outputs::print_outputs;
 use gen_fields::{SoftHit, software};
 use rb_base::{NoMemory, Text};
 use rb_model::{Feed, Gate, OnRead, OnWrite, View};
 use std::alloc::Global;
-use std::test::Fail;
+use std::io;
 
 /// A view of a field that software reads and writes.
 pub(crate) fn view(
@@ -32,7 +34,7 @@ pub(crate) fn view(
 
 /// The values of a field after accesses through a view. The pins are the value v and the written bits x, whether it is
 /// written by p or read by q, and its gate r. The field was written before where p and q are 1.
-fn accessed(alloc: Global, view: &View, table: &str) -> Result<Vec<u8>, Fail> {
+fn accessed(alloc: Global, view: &View, table: &str) -> Result<Vec<u8>, Fault> {
     let mut bench = nine_pins(alloc, 4)?;
     let hit = SoftHit {
         write: bench.p,
@@ -54,66 +56,48 @@ const HIGH: &str =
 const LOW: &str =
     "v,x,y,a,b,c,p,q,r\n6,5,0,0,0,0,1,0,0\n6,5,0,0,0,0,1,0,1\n6,5,0,0,0,0,1,1,0\n6,5,0,0,0,0,0,0,0\n";
 
-#[test]
-fn writes_act_by_kind_where_their_gates_are_active(rt: HostRuntime) -> Result<(), Fail> {
-    let rows: [(OnWrite, &str); 9] = [
-        (OnWrite::Off, "o\n0x5\n0x6\n0x6\n0x6\n"),
-        (OnWrite::WoSet, "o\n0x7\n0x6\n0x6\n0x6\n"),
-        (OnWrite::WoClr, "o\n0x2\n0x6\n0x6\n0x6\n"),
-        (OnWrite::WoT, "o\n0x3\n0x6\n0x6\n0x6\n"),
-        (OnWrite::WzS, "o\n0xe\n0x6\n0x6\n0x6\n"),
-        (OnWrite::WzC, "o\n0x4\n0x6\n0x6\n0x6\n"),
-        (OnWrite::WzT, "o\n0xc\n0x6\n0x6\n0x6\n"),
-        (OnWrite::WClr, "o\n0x0\n0x6\n0x6\n0x6\n"),
-        (OnWrite::WSet, "o\n0xf\n0x6\n0x6\n0x6\n"),
+fn written(alloc: Global, on_write: OnWrite, gate: Gate, table: &str) -> Result<Vec<u8>, Fault> {
+    let view = view(alloc, on_write, OnRead::Off, gate, true)?;
+    accessed(alloc, &view, table)
+}
+
+/// Writes act by their kind where their gates are active.
+pub(crate) fn print_writes(rt: HostRuntime) -> io::Result<()> {
+    let rows: [(&str, OnWrite); 9] = [
+        ("a plain write", OnWrite::Off),
+        ("woset", OnWrite::WoSet),
+        ("woclr", OnWrite::WoClr),
+        ("wot", OnWrite::WoT),
+        ("wzs", OnWrite::WzS),
+        ("wzc", OnWrite::WzC),
+        ("wzt", OnWrite::WzT),
+        ("wclr", OnWrite::WClr),
+        ("wset", OnWrite::WSet),
     ];
-    for (on_write, values) in rows {
-        let high = view(
-            rt.alloc(),
-            on_write,
-            OnRead::Off,
-            Gate::High(Feed::Pin),
-            true,
-        )?;
-        assert_eq!(rt;
-            accessed(rt.alloc(), &high, HIGH)?.as_slice(),
-            values.as_bytes()
-        );
-        let low = view(
-            rt.alloc(),
-            on_write,
-            OnRead::Off,
-            Gate::Low(Feed::Pin),
-            true,
-        )?;
-        assert_eq!(rt;
-            accessed(rt.alloc(), &low, LOW)?.as_slice(),
-            values.as_bytes()
-        );
+    for (title, on_write) in rows {
+        let high = written(rt.alloc(), on_write, Gate::High(Feed::Pin), HIGH);
+        print_outputs(rt, title, high)?;
+        let low = written(rt.alloc(), on_write, Gate::Low(Feed::Pin), LOW);
+        print_outputs(rt, "through a low gate", low)?;
     }
     Ok(())
 }
 
-#[test]
-fn reads_clear_and_set(rt: HostRuntime) -> Result<(), Fail> {
+fn read_through(alloc: Global, on_read: OnRead, table: &str) -> Result<Vec<u8>, Fault> {
+    let view = view(alloc, OnWrite::Off, on_read, Gate::High(Feed::Pin), false)?;
+    accessed(alloc, &view, table)
+}
+
+/// Reads clear and set.
+pub(crate) fn print_reads(rt: HostRuntime) -> io::Result<()> {
     let table = "v,x,y,a,b,c,p,q,r\n6,5,0,0,0,0,0,1,0\n6,5,0,0,0,0,0,0,1\n";
-    let rows: [(OnRead, &str); 3] = [
-        (OnRead::Off, "o\n0x6\n0x6\n"),
-        (OnRead::RClr, "o\n0x0\n0x6\n"),
-        (OnRead::RSet, "o\n0xf\n0x6\n"),
+    let rows: [(&str, OnRead); 3] = [
+        ("a plain read", OnRead::Off),
+        ("rclr", OnRead::RClr),
+        ("rset", OnRead::RSet),
     ];
-    for (on_read, values) in rows {
-        let view = view(
-            rt.alloc(),
-            OnWrite::Off,
-            on_read,
-            Gate::High(Feed::Pin),
-            false,
-        )?;
-        assert_eq!(rt;
-            accessed(rt.alloc(), &view, table)?.as_slice(),
-            values.as_bytes()
-        );
+    for (title, on_read) in rows {
+        print_outputs(rt, title, read_through(rt.alloc(), on_read, table))?;
     }
     Ok(())
 }

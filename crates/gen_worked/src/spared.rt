@@ -4,6 +4,7 @@ ghost use Rattle.std.specs.Prelude.{◌≡◌, IfOk, OnOk};
 ghost use Rattle.rtl_net.specs.Net.{Grows, Stands};
 
 use crate::bench::{Bench, nine_pins};
+use crate::fault::Fault;
 use crate::hardware::field;
 use crate::software::view;
 use gen_counters::{counted, overflow, underflow};
@@ -16,7 +17,7 @@ use rb_base::NoMemory;
 use rb_model::{Feed, Field, Gate, Latch, Mask, OnRead, OnWrite, View};
 use rtl_net::{Id, Netlist};
 use std::alloc::Global;
-use std::test::Fail;
+use std::io;
 
 /// Two constants of four bits, and the two of one bit.
 #[derive(Clone, Copy)]
@@ -159,7 +160,7 @@ fn affect(
 }
 
 /// A netlist with the pins and constants.
-fn staged(alloc: Global) -> Result<(Netlist, Operands), Fail>
+fn staged(alloc: Global) -> Result<(Netlist, Operands), Fault>
     ensures v { IfOk result (λ t. Stands t.0 t.1.v 4) }
     ensures p { IfOk result (λ t. Stands t.0 t.1.p 1) }
     ensures zeros { IfOk result (λ t. Stands t.0 t.1.with.zeros 4) }
@@ -172,50 +173,68 @@ fn staged(alloc: Global) -> Result<(Netlist, Operands), Fail>
     Ok((net, Operands { v, p, with }))
 }
 
-#[test]
-fn constants_spare_operators(rt: HostRuntime) -> Result<(), Fail> {
+/// Whether an operator added no node.
+fn spares_operator(alloc: Global, case: Operator) -> Result<bool, Fault> {
+    let (mut net, of) = staged(alloc)?;
+    let before = net.nodes().len();
+    operate(&mut net, of, case)?;
+    Ok(net.nodes().len() == before)
+}
+
+fn print_spared(rt: HostRuntime, title: &str, spared: Result<bool, Fault>) -> io::Result<()> {
+    match spared {
+        Ok(true) => println!(rt; "{} takes no node", title),
+        Ok(false) => println!(rt; "{} takes a node", title),
+        Err(fault) => println!(rt; "{}: {}", title, fault.words()),
+    }
+}
+
+/// Operators that constants decide.
+pub(crate) fn print_operators(rt: HostRuntime) -> io::Result<()> {
     let cases = [
-        Operator::Both,
-        Operator::Either,
-        Operator::Choose,
-        Operator::Same,
-        Operator::Meet,
-        Operator::Merged,
-        Operator::Differ,
-        Operator::Sum,
-        Operator::Difference,
-        Operator::Slice,
-        Operator::Placed,
+        ("both", Operator::Both),
+        ("either", Operator::Either),
+        ("choose", Operator::Choose),
+        ("same", Operator::Same),
+        ("meet", Operator::Meet),
+        ("merged", Operator::Merged),
+        ("differ", Operator::Differ),
+        ("sum", Operator::Sum),
+        ("difference", Operator::Difference),
+        ("slice", Operator::Slice),
+        ("placed", Operator::Placed),
     ];
-    for case in cases {
-        let (mut net, of) = staged(rt.alloc())?;
-        let before = net.nodes().len();
-        operate(&mut net, of, case)?;
-        assert_eq!(rt; net.nodes().len(), before);
+    for (title, case) in cases {
+        print_spared(rt, title, spares_operator(rt.alloc(), case))?;
     }
     Ok(())
 }
 
-#[test]
-fn constants_spare_effects(rt: HostRuntime) -> Result<(), Fail> {
+/// Whether an effect added no node.
+fn spares_effect(alloc: Global, case: Effect) -> Result<bool, Fault> {
     let gate = Gate::Low(Feed::Pin);
-    let view = view(rt.alloc(), OnWrite::WoClr, OnRead::RSet, gate, true)?;
-    let field = field(rt.alloc(), Gate::Always, Mask::Off, false)?;
+    let view = view(alloc, OnWrite::WoClr, OnRead::RSet, gate, true)?;
+    let field = field(alloc, Gate::Always, Mask::Off, false)?;
+    let (mut net, of) = staged(alloc)?;
+    let before = net.nodes().len();
+    affect(&mut net, of, case, &view, &field)?;
+    Ok(net.nodes().len() == before)
+}
+
+/// Effects that constants decide.
+pub(crate) fn print_effects(rt: HostRuntime) -> io::Result<()> {
     let cases = [
-        Effect::Counted,
-        Effect::Overflow,
-        Effect::Underflow,
-        Effect::Software,
-        Effect::Load,
-        Effect::Finish,
-        Effect::Latch,
-        Effect::Any,
+        ("counted", Effect::Counted),
+        ("overflow", Effect::Overflow),
+        ("underflow", Effect::Underflow),
+        ("software", Effect::Software),
+        ("load", Effect::Load),
+        ("finish", Effect::Finish),
+        ("latch", Effect::Latch),
+        ("any", Effect::Any),
     ];
-    for case in cases {
-        let (mut net, of) = staged(rt.alloc())?;
-        let before = net.nodes().len();
-        affect(&mut net, of, case, &view, &field)?;
-        assert_eq!(rt; net.nodes().len(), before);
+    for (title, case) in cases {
+        print_spared(rt, title, spares_effect(rt.alloc(), case))?;
     }
     Ok(())
 }

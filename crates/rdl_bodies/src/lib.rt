@@ -9,4 +9,5 @@ mod same;
 mod sites;
 
 pub use bodies::{Bodies, Body, Site};
+pub use opening::table_of;
 pub use root::open_root;

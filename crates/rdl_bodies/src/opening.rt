@@ -44,8 +44,8 @@ fn add_parameter<'a>(table: &mut Table<'a>, parameter: &Bound<'a>) -> Result<(),
     Ok(())
 }
 
-// A table of parameters, no two of one name.
-fn table_of<'a>(alloc: Global, bound: &[Bound<'a>]) -> Result<Table<'a>, NoMemory>
+/// A table of parameters, no two of one name.
+pub fn table_of<'a>(alloc: Global, bound: &[Bound<'a>]) -> Result<Table<'a>, NoMemory>
     requires { AreDistinct [] (map bound_of bound.now) }
     ensures { IfOk result (λ t. t ≡ (record { bound = map bound_of bound.now; enums = [] })) }
 {

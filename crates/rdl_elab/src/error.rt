@@ -1,6 +1,6 @@
 //! Why a source has no tree of instances.
 
-use rb_base::Fault;
+use rb_base::{Fault, NoMemory};
 use std::alloc::{AllocError, AllocFailed};
 
 /// Why there is no tree of instances: rules E1 to E14, or V rules in what instances are given.
@@ -30,6 +30,17 @@ impl<T: Drop> From<AllocFailed<T>> for ElabError {
     ghost from_gives = { λ _ e. e ≡ NoMemory };
 
     fn from(_: AllocFailed<T>) -> Self {
+        ElabError::NoMemory
+    }
+}
+
+impl From<NoMemory> for ElabError {
+    ghost use Rattle.std.specs.Prelude.{◌≡◌};
+    ghost use Rattle.rdl_elab.specs.declared.error.ElabError.TheVariants as error;
+
+    ghost from_gives = { λ _ e. e ≡ error.NoMemory };
+
+    fn from(_: NoMemory) -> Self {
         ElabError::NoMemory
     }
 }

@@ -1,6 +1,11 @@
-//! The instances of a source. What its calls answer is defined in `specs/`; the calls themselves are still to be written.
+//! The instances of a source: the tree of all of them, or all that fails; and how many there are.
 #![tactic(auto)]
 
+mod elaborating;
 mod error;
+mod measuring;
+mod wanted;
 
+pub use elaborating::elaborate;
 pub use error::ElabError;
+pub use measuring::measure;

@@ -1,5 +1,5 @@
 mod Twice
 mod Found
 mod Entered
-mod Meant
-mod Opening
+pub mod Meant
+pub mod ByItem

@@ -35,9 +35,9 @@ pub struct Opened<'a> {
     pub entries: &'a [EntryValue<'a>],
 }
 
-// The names of a body as far as its items have been read.
+/// The names of a body as far as its items have been read.
 #[derive(Drop)]
-struct Opening<'a> {
+pub struct Opening<'a> {
     table: Table<'a>,
     enums: Vec<Name<'a>, &'a Bump>,
     entries: Vec<EntryValue<'a>, &'a Bump>,
@@ -62,6 +62,24 @@ fn list_entries<'a>(
 }
 
 impl<'a> Opening<'a> {
+    /// No item has been read: there are only parameters.
+    pub fn new(arena: &'a Bump, table: Table<'a>) -> Self
+        ensures { state_of result ≡ (record { table = table.entry; enums = []; entries = [] }) }
+    {
+        Opening {
+            table,
+            enums: Vec::new(arena),
+            entries: Vec::new(arena),
+        }
+    }
+
+    /// The names so far.
+    pub fn table(&self) -> &Table<'a>
+        ensures { result.now ≡ self.now.table }
+    {
+        &self.table
+    }
+
     // The entries of an enumeration, judged where the names so far and the bodies round them are visible.
     fn judged(
         &self,
@@ -94,8 +112,8 @@ impl<'a> Opening<'a> {
         list_entries(&mut self.entries, name, &judgement.entries)
     }
 
-    // What an item adds to the names.
-    fn read(
+    /// Reads an item behind the others, and puts in the failures of the enumeration that it defines.
+    pub fn read(
         &mut self,
         alloc: Global,
         item: &Item<'a>,
@@ -129,11 +147,7 @@ pub fn open_names<'a>(
     ensures noted { OnOk result ((b : Body) → b.items ≡ items.now → b.names.bound ≡ table.entry.bound → IsAlike (bodies outer.now) (around b.outer)
         → failures.new ≡ with_all (of_enums b) failures.old) }
 {
-    let mut opening = Opening {
-        table,
-        enums: Vec::new(arena),
-        entries: Vec::new(arena),
-    };
+    let mut opening = Opening::new(arena, table);
     for item in items {
         opening.read(alloc, item, outer, failures)?;
     }

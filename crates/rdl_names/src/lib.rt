@@ -6,4 +6,4 @@ mod entries;
 mod enums;
 
 pub use components::{Components, judge_names};
-pub use enums::{Opened, Outer, open_names};
+pub use enums::{Opened, Opening, Outer, open_names};

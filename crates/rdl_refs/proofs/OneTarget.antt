@@ -69,7 +69,7 @@ apart-filter R f (x ∷ xs) h = go (f x) (apart-filter R f xs h.1)
     go true k = (each-filter (R x) f xs h.0, k)
     go false k = k
 
-one_passes : {X : Type 0} (R : X → X → Type 0) (f : X → Bool) (xs : List X) → Apart R xs → ((x y : X) → f x ≡ true → f y ≡ true → R x y → ⊥) → AtMost (filter f xs)
+pub one_passes : {X : Type 0} (R : X → X → Type 0) (f : X → Bool) (xs : List X) → Apart R xs → ((x y : X) → f x ≡ true → f y ≡ true → R x y → ⊥) → AtMost (filter f xs)
 one_passes {X = X} R f xs h never = by (filter f xs) (apart-filter R f xs h) (passing f xs)
   where
     by : (ys : List X) → Apart R ys → AllByRecursion (λ x. f x ≡ true) ys → AtMost ys
@@ -98,7 +98,7 @@ are_same_steps [] (t ∷ ts) e = cc
 are_same_steps (s ∷ ss) [] e = cc
 are_same_steps (s ∷ ss) (t ∷ ts) e = let p = both_true (same_step s t) (same_steps ss ts) e in ap (λ x. x ∷ ss) (is_same_step s t p.0) ∙ ap (λ xs. t ∷ xs) (are_same_steps ss ts p.1)
 
-is_same_path : (p q : bodies.Path) → same_path p q ≡ true → p ≡ q
+pub is_same_path : (p q : bodies.Path) → same_path p q ≡ true → p ≡ q
 is_same_path (bodies.of_signal s) (bodies.of_signal t) e = ap bodies.of_signal (is_same_step s t (both_true (same_step s t) true e).0)
 is_same_path (bodies.below_top ss) (bodies.below_top ts) e = ap bodies.below_top (are_same_steps ss ts e)
 is_same_path (bodies.of_signal s) (bodies.below_top ts) e = cc
@@ -106,7 +106,7 @@ is_same_path (bodies.below_top ss) (bodies.of_signal t) e = cc
 
 -- Nodes of one body have other names or other indices.
 
-abbrev Other : Instance → Instance → Type 0
+abbrev pub Other : Instance → Instance → Type 0
 Other m n = m.use_.name.text.now ≡ n.use_.name.text.now → index_of m.path ≡ index_of n.path → ⊥
 
 last_step : (ss : List bodies.Step) (t : bodies.Step) → last_index (ss ++ (t ∷ [])) ≡ t.index
@@ -141,10 +141,10 @@ children_other : (n : Instance) (ss : List bodies.Step) → n.path ≡ bodies.be
 children_other n ss e = apart-imp (IsBy (child_path ss)) Differ Other (children n) (others (child_path ss) (last_step ss)) (each-imp (IsChildOf n) (IsBy (child_path ss)) (children n) (λ c h. named_child n c ss e h) (children-given n)) (children_apart n ss e)
 
 -- a node below the top, or one with nothing in its body
-abbrev Good : Instance → Type 0
+abbrev pub Good : Instance → Type 0
 Good n = ((ss : List bodies.Step) × (n.path ≡ bodies.below_top ss)) ⊎ (children n ≡ [])
 
-abbrev Fine : List Instance → Type 0
+abbrev pub Fine : List Instance → Type 0
 Fine ns = Apart Other ns × AllByRecursion Good ns
 
 fine_children : (n : Instance) → Good n → Fine (children n)
@@ -168,7 +168,7 @@ abbrev Rooted : Instance → Type 0
 Rooted n = is_at_root n.path ≡ true → IsBy bodies.of_signal n
 
 -- the nodes in the body of a node, or of the root
-abbrev members : List Instance → Option bodies.Path → List Instance
+abbrev pub members : List Instance → Option bodies.Path → List Instance
 members ns None = filter (λ n. is_at_root n.path) ns
 members ns (Some p) = flat_map children (filter (λ n. same_path n.path p) ns)
 
@@ -187,7 +187,7 @@ module _ (wanted : Option (List ℕ)) (s : Source) where
       not_there : (n : Instance) → IsUnder [] n → is_at_root n.path ≡ true → ⊥
       not_there n h e = let no : is_at_root n.path ≡ false = ap is_at_root h.1 in cc
 
-  members_fine : (o : Option bodies.Path) → Fine (members (nodes wanted s) o)
+  pub members_fine : (o : Option bodies.Path) → Fine (members (nodes wanted s) o)
   members_fine None = (
     apart-imp (IsBy bodies.of_signal) Differ Other (filter (λ n. is_at_root n.path) (nodes wanted s)) (others bodies.of_signal (λ t. refl)) (both Rooted (λ n. is_at_root n.path ≡ true) (IsBy bodies.of_signal) (filter (λ n. is_at_root n.path) (nodes wanted s)) (λ n h e. h e) (each-filter Rooted (λ n. is_at_root n.path) (nodes wanted s) all_rooted) (passing (λ n. is_at_root n.path) (nodes wanted s))) (apart-filter Differ (λ n. is_at_root n.path) (nodes wanted s) (nodes_apart wanted s)),
     each-filter Good (λ n. is_at_root n.path) (nodes wanted s) all_good,
@@ -217,7 +217,7 @@ same_children : (n : Lineage) (cs : List Instance) → nodes_in (map (child_of n
 same_children n [] = refl
 same_children n (c ∷ cs) = ap (λ xs. c ∷ xs) (same_children n cs)
 
-same_passing : (t : Instance → Bool) (ns : List Lineage) → nodes_in (filter (λ n. t n.node) ns) ≡ filter t (nodes_in ns)
+pub same_passing : (t : Instance → Bool) (ns : List Lineage) → nodes_in (filter (λ n. t n.node) ns) ≡ filter t (nodes_in ns)
 same_passing t [] = refl
 same_passing t (n ∷ ns) = go (t n.node) (same_passing t ns)
   where
@@ -234,11 +234,11 @@ same_led is ns [] = refl
 same_led is ns (t ∷ []) = same_passing (is t) ns
 same_led is ns (t ∷ u ∷ ts) = same_led is (flat_map children_in (filter (λ n. is t n.node) ns)) (u ∷ ts) ∙ ap (λ xs. led_down children is xs (u ∷ ts)) (same_inside (filter (λ n. is t n.node) ns) ∙ ap (flat_map children) (same_passing (is t) ns))
 
-same_members : (ns : List Lineage) (o : Option bodies.Path) → nodes_in (members_of ns o) ≡ members (nodes_in ns) o
+pub same_members : (ns : List Lineage) (o : Option bodies.Path) → nodes_in (members_of ns o) ≡ members (nodes_in ns) o
 same_members ns None = same_passing (λ n. is_at_root n.path) ns
 same_members ns (Some p) = same_inside (filter (λ n. same_path n.node.path p) ns) ∙ ap (flat_map children) (same_passing (λ n. same_path n.path p) ns)
 
-of_nodes : (ns : List Lineage) → AtMost (nodes_in ns) → AtMost ns
+pub of_nodes : (ns : List Lineage) → AtMost (nodes_in ns) → AtMost ns
 of_nodes [] h = tt
 of_nodes (n ∷ []) h = tt
 of_nodes (m ∷ n ∷ ns) h = absurd h

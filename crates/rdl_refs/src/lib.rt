@@ -14,4 +14,4 @@ pub use error::RefError;
 pub use item::{ItemOf, What};
 pub use laws::{all_references, circles_go_on, one_target};
 pub use ordering::{circling, order};
-pub use refs::Refs;
+pub use refs::{Refs, Target};

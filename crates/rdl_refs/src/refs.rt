@@ -1,11 +1,14 @@
 //! The references of a tree.
 
-ghost use Rattle.std.specs.Prelude.{◌<◌, ◌≡◌, ◌^◌, length, map};
+ghost use Rattle.std.specs.Prelude.{◌<◌, ◌≡◌, ◌^◌, ℕ, length, map};
+ghost use Rattle.rdl_props.specs.declared.prop.Prop.{Prop as AnyProp};
+ghost use Rattle.topological_order.specs.Waiting.{list_at};
 ghost use Rattle.topological_order.specs.Levels.{AreWithin, lists};
 ghost use Rattle.rdl_values.specs.Lineages.{lineages_of};
 ghost use Rattle.rdl_refs.specs.Answers.{AreItems, TargetAt};
 ghost use Rattle.rdl_refs.specs.Follows.{edges_of};
 ghost use Rattle.rdl_refs.specs.Items.{items};
+ghost use Rattle.rdl_refs.specs.Items.{items as items_of};
 ghost use Rattle.rdl_refs.specs.Tables.{item_at};
 
 use crate::ItemOf;
@@ -16,7 +19,7 @@ use std::marker::Model;
 
 /// The item that a property's setting names.
 #[derive(Clone, Copy)]
-pub(crate) struct Target {
+pub struct Target {
     pub prop: Prop,
     pub item: u32,
 }
@@ -65,6 +68,35 @@ fn item_of(targets: &[Target], prop: Prop) -> Option<u32>
         }
     }
     None
+}
+
+impl<'a> Refs<'a> {
+    /// The references of a tree from its tables: all items, for each one the numbers of those that it refers to and the place of its
+    /// node, and for each node the items that its settings name.
+    pub fn of_tables(
+        elab: Elab<'a>,
+        items: Vec<ItemOf>,
+        edges: Vec<Vec<usize>>,
+        places: Vec<Place>,
+        targets: Vec<Vec<Target>>,
+    ) -> Refs<'a>
+        requires listed { AreItems elab items.items }
+        requires refer { lists edges.items ≡ edges_of (lineages_of elab) }
+        requires within { AreWithin (lists edges.items) }
+        requires few { length edges.items < 2 ^ 32 }
+        requires placed { places.items ≡ map (λ i. i.node.use_.name.place) (items_of (lineages_of elab)) }
+        requires sized { length targets.items ≡ elab.count }
+        requires named { (k : ℕ) (p : AnyProp) → k < elab.count → TargetAt elab k p (item_at p (list_at targets.items k)) }
+        ensures { result ≡ elab.entry }
+    {
+        Refs {
+            elab,
+            items,
+            edges,
+            places,
+            targets,
+        }
+    }
 }
 
 impl Refs<'_> {

@@ -1,5 +1,5 @@
 pub mod Counting
 pub mod Steps
-mod Elements
-mod Loops
+pub mod Elements
+pub mod Loops
 pub mod Asking

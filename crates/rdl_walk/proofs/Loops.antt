@@ -43,7 +43,7 @@ pub record IsNextUse (t : Bodies) (x : Child) (xs : List Child) (ss : List Seen)
   pub child : IsChild t x use_
   pub children : AreChildren t xs rest
 
-next-use : (t : Bodies) (ys : List Child) (ss : List Seen) (x : Child) (xs : List Child) → AreChildren t ys ss → ys ≡ x ∷ xs → IsNextUse t x xs ss
+pub next-use : (t : Bodies) (ys : List Child) (ss : List Seen) (x : Child) (xs : List Child) → AreChildren t ys ss → ys ≡ x ∷ xs → IsNextUse t x xs ss
 next-use t _ _ x xs none e = absurd (not-empty x xs e)
 next-use t _ _ x xs (without {xs = ys} {s = s} {ss = ss} n h) e =
     let rec = next-use t ys ss x xs h e in
@@ -69,7 +69,7 @@ next-use t _ _ x xs (with_ {x = y} {xs = ys} {s = s} {ss = ss} c h) e =
       children = subst (λ zs. AreChildren t zs ss) others h;
     }
 
-no-more : (t : Bodies) (ys : List Child) (ss : List Seen) → AreChildren t ys ss → ys ≡ [] → flat_map given_by ss ≡ []
+pub no-more : (t : Bodies) (ys : List Child) (ss : List Seen) → AreChildren t ys ss → ys ≡ [] → flat_map given_by ss ≡ []
 no-more t _ _ none e = refl
 no-more t _ _ (without {xs = ys} {s = s} {ss = ss} n h) e = ap (λ ns. ns ++ flat_map given_by ss) n ∙ no-more t ys ss h e
 no-more t _ _ (with_ {x = y} {xs = ys} c h) e = absurd (not-empty y ys (sym e))

@@ -2,18 +2,19 @@
 ghost use Rattle.std.specs.Prelude.{IfOk};
 ghost use Rattle.v_printer.specs.TextOf.{IsWhole};
 
+use crate::fault::Fault;
 use rb_base::NoMemory;
 use rb_edge::CountSink;
 use rtl_net::{NetExpr, NetReset, Netlist};
 use std::alloc::Global;
-use std::test::Fail;
 use v_printer::{print, text};
 
-const ADDER: &str =
-    "module adder (\n  input a,\n  input b,\n  output s\n);\n  wire n$2;\n  assign n$2 = a + b;\n  assign s = n$2;\nendmodule\n";
-
-const PAIR: &str =
-    "module pair (\n  input PCLK,\n  input rst,\n  output [7:0] o\n);\n  reg [7:0] q;\n  reg [7:0] r;\n  assign o = r;\n  always @(posedge PCLK) q <= r;\n  always @(posedge PCLK or negedge rst)\n    if (!rst) r <= 8'ha5;\n    else r <= q;\nendmodule\n";
+/// The text of a module, and how many bytes a sink counts.
+#[derive(Drop)]
+pub(crate) struct Module {
+    pub text: Vec<u8>,
+    pub length: u64,
+}
 
 /// The sum of two inputs.
 fn adder(alloc: Global) -> Result<Netlist, NoMemory>
@@ -47,21 +48,22 @@ fn pair(alloc: Global) -> Result<Netlist, NoMemory>
     Ok(net)
 }
 
-#[test]
-fn wires_are_assigned(rt: HostRuntime) -> Result<(), Fail> {
-    let net = adder(rt.alloc())?;
-    let bytes = text(rt.alloc(), &net)?;
-    assert_eq!(rt; bytes.as_slice(), ADDER.as_bytes());
+fn module_of(alloc: Global, net: &Netlist) -> Result<Module, Fault>
+    requires { IsWhole net.now }
+{
+    let text = text(alloc, net)?;
     let mut count = CountSink::new();
-    print(&net, &mut count)?;
-    assert_eq!(rt; count.total(), ADDER.len() as u64);
-    Ok(())
+    print(net, &mut count)?;
+    Ok(Module {
+        text,
+        length: count.total(),
+    })
 }
 
-#[test]
-fn registers_have_blocks(rt: HostRuntime) -> Result<(), Fail> {
-    let net = pair(rt.alloc())?;
-    let bytes = text(rt.alloc(), &net)?;
-    assert_eq!(rt; bytes.as_slice(), PAIR.as_bytes());
-    Ok(())
+pub(crate) fn wires_are_assigned(alloc: Global) -> Result<Module, Fault> {
+    module_of(alloc, &adder(alloc)?)
+}
+
+pub(crate) fn registers_have_blocks(alloc: Global) -> Result<Module, Fault> {
+    module_of(alloc, &pair(alloc)?)
 }

@@ -1,7 +1,7 @@
 use Rattle.std.proofs.Common.{refl}
 use Rattle.std.proofs.lemmas.List.{take_all}
 use Rattle.rdl_names.specs.Opened.{state_of}
-use Rattle.rdl_names.proofs.Opening.{noted_step, opened_all, opened_step}
+use Rattle.rdl_names.proofs.ByItem.{noted_step, opened_all, opened_step}
 use Rattle.rdl_names.proofs.enums.open_names.Goals as goal
 
 pub loop-item-preserved : goal.loop-item-preserved

@@ -3,7 +3,7 @@ use Rattle.rdl_values.specs.Bodies.{Body, around, standing}
 use Rattle.rdl_judging.specs.Noted.{with_all}
 use Rattle.rdl_judging.specs.Shown.{IsAlike}
 use Rattle.rdl_names.specs.Opened.{bodies, state_of}
-use Rattle.rdl_names.proofs.Opening.{IsOpenedTo, enum_fails}
+use Rattle.rdl_names.proofs.ByItem.{IsOpenedTo, enum_fails}
 use Rattle.rdl_names.proofs.enums.open_names.Given as goal
 
 abbrev pub invariant-loop-item : goal.invariant-loop-item

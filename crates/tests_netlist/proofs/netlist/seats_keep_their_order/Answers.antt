@@ -23,16 +23,16 @@ free_wide : (net : Net) (name : List ℕ) (w u : ℕ) → w ≡ u → IsFree net
 free_wide net name w u e f = subst (λ x. IsFree net name x) (sym e) f
 
 pub seat-requires-clause-new : goal.seat-requires-clause-new
-seat-requires-clause-new g c = new_of c.in_ok-net.net _ [] (ap (λ n. n.seats) c.in_ok-net.ensures) (ap (λ n. registers_of n.nodes) c.in_ok-net.ensures) refl
+seat-requires-clause-new c = new_of c.in_ok-net.net _ [] (ap (λ n. n.seats) c.in_ok-net.ensures) (ap (λ n. registers_of n.nodes) c.in_ok-net.ensures) refl
 
 pub seat-requires-2-clause-new : goal.seat-requires-2-clause-new
-seat-requires-2-clause-new g c =
+seat-requires-2-clause-new c =
     let s0 : c.in_ok-net.net.seats ≡ [] = ap (λ n. n.seats) c.in_ok-net.ensures in
     let r0 : registers_of c.in_ok-net.net.nodes ≡ [] = ap (λ n. registers_of n.nodes) c.in_ok-net.ensures in
     new_of c.seat.new.self _ (record { name = 98 ∷ []; width = 1; taken = None } ∷ []) (c.in_ok-seat.ensures.seats ∙ ap (λ x. x ++ record { name = 98 ∷ []; width = 1; taken = None } ∷ []) s0) (ap registers_of c.in_ok-seat.ensures.nodes ∙ r0) refl
 
 pub input-requires-clause-free : goal.input-requires-clause-free
-input-requires-clause-free g c =
+input-requires-clause-free c =
     let b : Seat = record { name = 98 ∷ []; width = 1; taken = None } in
     let a : Seat = record { name = 97 ∷ []; width = 1; taken = None } in
     let s0 : c.in_ok-net.net.seats ≡ [] = ap (λ n. n.seats) c.in_ok-net.ensures in
@@ -43,10 +43,10 @@ input-requires-clause-free g c =
     free_of c.seat-2.new.self (97 ∷ []) 1 (b ∷ a ∷ []) s2 r2 refl
 
 pub output-requires-clause-stands : goal.output-requires-clause-stands
-output-requires-clause-stands g c = Stands-has _ _ _ c.in_ok-a.ensures.node.stands
+output-requires-clause-stands c = Stands-has _ _ _ c.in_ok-a.ensures.node.stands
 
 pub output-requires-clause-free : goal.output-requires-clause-free
-output-requires-clause-free g c =
+output-requires-clause-free c =
     let b : Seat = record { name = 98 ∷ []; width = 1; taken = None } in
     let a : Seat = record { name = 97 ∷ []; width = 1; taken = None } in
     let s0 : c.in_ok-net.net.seats ≡ [] = ap (λ n. n.seats) c.in_ok-net.ensures in

@@ -9,5 +9,5 @@ can_add : (net : Net) (a b : Id) (w : ℕ) → Stands net a w → Stands net b w
 can_add net a b w p q = (Stands-has net a w p, Stands-has net b w q, p.width ∙ sym q.width)
 
 pub fold-requires : goal.fold-requires
-fold-requires g c =
+fold-requires c =
     can_add c.wire-2.new.self c.in_ok-a.a c.in_ok-b.b 4 (Stands-grows _ _ _ _ c.in_ok-b.ensures.older c.in_ok-a.ensures.node.stands) c.in_ok-b.ensures.node.stands

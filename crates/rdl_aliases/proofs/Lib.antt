@@ -1,0 +1,5 @@
+pub mod Beside
+pub mod Lists
+mod Named
+pub mod Primaries
+pub mod Steps

@@ -1,0 +1,5 @@
+mod Aligned
+mod Bitten
+mod Bodily
+pub mod Descending
+mod Grouping

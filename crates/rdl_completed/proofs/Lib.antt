@@ -1,0 +1,3 @@
+mod Numbered
+mod Round
+mod Own

@@ -1,0 +1,2 @@
+mod Measured
+mod Refused

@@ -1,0 +1,30 @@
+//! A tree that grows.
+
+ghost use Rattle.std.specs.Prelude.{◌≡◌, ◌+◌, IfOk};
+
+use rb_base::NoMemory;
+use rdl_walk::Walk;
+
+/// The walk whose bodies the tree is made of, and how many nodes there are so far.
+#[derive(Drop)]
+pub(crate) struct Growing<'a> {
+    pub walk: Walk<'a>,
+    pub count: u32,
+}
+
+impl<'a> Growing<'a> {
+    /// The number of the next node.
+    pub(crate) fn number(&mut self) -> Result<u32, NoMemory>
+        ensures walk { self.new.walk ≡ self.old.walk }
+        ensures number { IfOk result (λ k. k ≡ self.old.count) }
+        ensures next { IfOk result (λ k. self.new.count ≡ self.old.count + 1) }
+    {
+        let number = self.count;
+        // No memory holds so many nodes.
+        let Some(next) = number.checked_add(1) else {
+            return Err(NoMemory);
+        };
+        self.count = next;
+        Ok(number)
+    }
+}

@@ -1,0 +1,3 @@
+mod Growing
+mod Numbering
+pub mod Places

@@ -1,0 +1,4 @@
+mod Chaining
+mod Numbers
+mod Stepping
+mod Whole

@@ -1,0 +1,11 @@
+use Rattle.std.proofs.Common.{filter, subst}
+use Rattle.rdl_values.specs.Seen.{around_of}
+use Rattle.rdl_leads.specs.Led.{IsLed, is_exactly}
+use Rattle.rdl_leads.proofs.Stepping.{from-one, if-ok}
+use Rattle.rdl_leads.proofs.walk.step_on.Goals as goal
+
+pub returns-in-Some : goal.returns-in-Some
+returns-in-Some c =
+    if-ok c.step_to.result _ _ (λ r h e ls clean are led.
+    let one = from-one e clean c.in-Some.node ls (subst (λ o. IsLed e o ls) c.in-Some.is led) in
+    subst (λ ms. IsLed e r (filter (is_exactly (around_of c.args.env.now) c.args.step.now) ms)) one.1 (h e are one.0)) c.step_to.ensures

@@ -1,0 +1,4 @@
+mod Marking
+mod Behind
+mod Taking
+mod Going

@@ -1,0 +1,4 @@
+pub mod Marks
+pub mod Pushed
+pub mod Judged
+pub mod Given

@@ -1,0 +1,4 @@
+mod Firsts
+mod Founding
+mod Keyed
+pub mod Standing

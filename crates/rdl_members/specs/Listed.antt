@@ -1,0 +1,47 @@
+-- The first of a list of rows under a key.
+use Rattle.std.specs.Prelude.{◌≡◌, ℕ, Bool, false, cond, List, [], ◌∷◌, Option, None, Some}
+use Rattle.std.specs.Option.{option_or}
+use Rattle.rdl_tree.specs.declared.item.Kind.{Kind}
+use Rattle.rdl_tree.specs.declared.item.Kind.TheVariants as kind
+use Rattle.rdl_tree.specs.declared.node.Node.{out-Node}
+use Rattle.rdl_index.specs.declared.table.Row.{Row}
+use Rattle.rdl_members.specs.Keyed.{Key, row_of, same_key}
+use Rattle.rdl_members.specs.declared.table.Members.{Members}
+
+-- the body of the node that it stands in, or the root's, where it is a signal
+abbrev pub body_by : ℕ → Option ℕ → Kind → Option ℕ
+body_by root (Some p) k = Some p
+body_by root None kind.Signal = Some root
+body_by root None k = None
+
+abbrev pub body_in : ℕ → Row → Option ℕ
+body_in root x = body_by root x.parent (out-Node x.node.now).kind
+
+-- a row with its indices, or without them, has a key
+abbrev pub element_key : ℕ → Row → Key
+element_key b x = record { body = b; name = (out-Node x.node.now).name.now; index = (out-Node x.node.now).index.now }
+
+abbrev pub name_key : ℕ → Row → Key
+name_key b x = record { body = b; name = (out-Node x.node.now).name.now; index = [] }
+
+abbrev pub key_is : (ℕ → Row → Key) → Key → Row → Option ℕ → Bool
+key_is key k x None = false
+key_is key k x (Some b) = same_key (key b x) k
+
+abbrev pub has_key : (ℕ → Row → Key) → ℕ → Key → Row → Bool
+has_key key root k x = key_is key k x (body_in root x)
+
+-- the number of the first
+abbrev pub first_row : (Row → Bool) → List Row → Option ℕ
+first_row has [] = None
+first_row has (x ∷ xs) = cond (has x) (Some (out-Node x.node.now).id) (first_row has xs)
+
+-- A row is added, where none is there under its key.
+pub record AddsRow (root : ℕ) (x : Row) (old new : Members) : Type 0 where
+  pub elements_ : (k : Key) → row_of new.elements k ≡ option_or (row_of old.elements k) (cond (has_key element_key root k x) (Some (out-Node x.node.now).id) None)
+  pub names_ : (k : Key) → row_of new.names k ≡ option_or (row_of old.names k) (cond (has_key name_key root k x) (Some (out-Node x.node.now).id) None)
+
+-- The first rows under each key.
+pub record AreFirst (root : ℕ) (rows : List Row) (m : Members) : Type 0 where
+  pub elements_ : (k : Key) → row_of m.elements k ≡ first_row (has_key element_key root k) rows
+  pub names_ : (k : Key) → row_of m.names k ≡ first_row (has_key name_key root k) rows

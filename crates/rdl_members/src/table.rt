@@ -1,0 +1,91 @@
+//! The nodes of a tree under the bodies that they are in.
+
+ghost use Rattle.std.specs.Prelude.{◌≡◌, IfOk};
+ghost use Rattle.rdl_values.specs.Elaboration.{IsClean};
+ghost use Rattle.rdl_index.specs.Rows.{AreRows};
+ghost use Rattle.rdl_members.specs.Found.{AreMembersOf};
+ghost use Rattle.rdl_members.specs.Listed.{body_by};
+
+use crate::keys::Keys;
+use rb_base::NoMemory;
+use rdl_index::Row;
+use rdl_tree::{Elab, Kind};
+use std::alloc::Global;
+
+/// The nodes of a tree under the number of the body that they are in, their names and their indices. The number of a node's body is
+/// the node's, and that of the root's the count of nodes.
+#[derive(Drop)]
+pub struct Members<'a> {
+    pub(crate) elements: Keys<'a>,
+    pub(crate) names: Keys<'a>,
+}
+
+/// The number of the body that a node is in: of the node that it stands in, or the root's, where it is a signal. The top is in none.
+fn body_of(parent: Option<u32>, kind: Kind, root: u32) -> Option<u32>
+    ensures { result ≡ body_by root parent kind }
+{
+    match (parent, kind) {
+        (Some(parent), _) => Some(parent),
+        (None, Kind::Signal) => Some(root),
+        _ => None,
+    }
+}
+
+impl<'a> Members<'a> {
+    ghost use Rattle.std.specs.Prelude.{◌≡◌, ◌≤◌, ◌<◌, IfSome, [], is_some, OnOk, option_to_list, option_and_then, filter, slice_get};
+    ghost use Rattle.std.specs.List.{list_any};
+    ghost use Rattle.rdl_tree.specs.declared.node.Elab.{Elab as AnyElab};
+    ghost use Rattle.rdl_values.specs.Lineages.{lineages_of};
+    ghost use Rattle.rdl_members.specs.Listed.{AddsRow};
+    ghost use Rattle.rdl_members.specs.Found.{AreMembersOf, is_element, is_named, members_at};
+
+    /// The node in a body that has this name and these indices.
+    pub fn find(&self, body: u32, name: &[u8], index: &[u64]) -> Option<u32>
+        ensures stands { IfSome result (λ k. (e : AnyElab) → AreMembersOf e self.now → k < e.count) }
+        ensures found { (e : AnyElab) → AreMembersOf e self.now → body ≤ e.count
+            → option_to_list (option_and_then (slice_get (lineages_of e)) result) ≡ filter (λ l. is_element name.now index.now l.node) (members_at (lineages_of e) body) }
+    {
+        self.elements.find(body, name, index)
+    }
+
+    /// Whether a node in a body has this name.
+    pub fn has(&self, body: u32, name: &[u8]) -> bool
+        ensures { (e : AnyElab) → AreMembersOf e self.now → body ≤ e.count → result ≡ list_any (λ l. is_named name.now l.node) (members_at (lineages_of e) body) }
+    {
+        let none: &[u64] = &[];
+        self.names.find(body, name, none).is_some()
+    }
+
+    /// Adds a row, where the root's body has this number.
+    fn add(&mut self, row: &Row<'a>, root: u32) -> Result<(), NoMemory>
+        ensures { OnOk result (AddsRow root row.now self.old self.new) }
+    {
+        let Some(body) = body_of(row.parent, row.node.kind, root) else {
+            return Ok(());
+        };
+        let node = row.node;
+        let none: &'a [u64] = &[];
+        self.elements.put(body, node.name, node.index, node.id)?;
+        self.names.put(body, node.name, none, node.id)
+    }
+}
+
+/// The nodes of a tree, of which these are the rows. The only error is want of memory.
+pub fn members_of<'a>(
+    alloc: Global,
+    elab: &Elab<'a>,
+    rows: &[Row<'a>],
+) -> Result<Members<'a>, NoMemory>
+    requires clean { IsClean elab.now }
+    requires rows { AreRows elab.now rows.now }
+    ensures { IfOk result (AreMembersOf elab.now) }
+{
+    let mut members = Members {
+        elements: Keys::new(alloc),
+        names: Keys::new(alloc),
+    };
+    for row in rows {
+        members.add(row, elab.count)?;
+    }
+    Ok(members)
+}

@@ -1,0 +1,6 @@
+pub mod Cuts
+pub mod Staying
+mod Uses
+mod Started
+mod Growing
+mod Topmost

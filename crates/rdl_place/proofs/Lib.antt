@@ -1,0 +1,7 @@
+mod Bounded
+mod Filled
+mod Fitting
+mod Keeping
+mod Knowing
+mod Listing
+mod Mapping

@@ -1,0 +1,3 @@
+mod Failed
+pub mod Filtered
+mod Listed

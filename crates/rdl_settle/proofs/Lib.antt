@@ -1,0 +1,3 @@
+mod Assigning
+mod Finishing
+mod Reordered

@@ -1,0 +1,72 @@
+-- What was found of the nodes of a tree, one by one.
+use Rattle.std.specs.Prelude.{◌≡◌, ◌≢◌, ◌<◌, ℕ, List, ◌++◌, flat_map, length, map, Vec}
+use Rattle.std.specs.Global.{Global}
+use Rattle.rb_base.specs.declared.fault.Fault.{Fault}
+use Rattle.rdl_tree.specs.declared.node.Elab.{Elab}
+use Rattle.rdl_values.specs.Elaborated.{nodes_of}
+use Rattle.rdl_values.specs.Instances.{Instance, body}
+use Rattle.rdl_values.specs.Lineages.{lineages_of}
+use Rattle.rdl_judging.specs.Noted.{with_all}
+use Rattle.rdl_layers.specs.Assignments.{dynamics}
+use Rattle.rdl_layers.specs.Judged.{all_failures, failures_of_dynamic}
+use Rattle.rdl_layers.specs.Phase4.{of_node}
+use Rattle.rdl_layers.specs.Settings.{applied_to, from_above}
+use Rattle.rdl_layers.specs.Tables.{entries_at}
+use Rattle.rdl_layers.specs.declared.props.Entry.{Entry}
+use Rattle.rdl_above.specs.Nested.{nested}
+use Rattle.rdl_marked.specs.Given.{ArePushed}
+use Rattle.rdl_merged.specs.Merged.{AreEntries}
+use Rattle.rdl_targets.specs.At.{IsAt}
+use Rattle.rdl_completed.specs.Completed.{IsNode, IsScene}
+use Rattle.rdl_layered.specs.Layered.{of_layers, of_nodes}
+use Rattle.rdl_layered.specs.declared.table.LayerTable.{LayerTable}
+use Rattle.rdl_layers.specs.declared.error.LayerError.{LayerError}
+use Rattle.rdl_layers.specs.declared.error.LayerError.TheVariants as error
+use Rattle.rdl_opened.specs.declared.spots.OpenTree.{OpenTree}
+use Rattle.rdl_opened.specs.declared.spots.Spot.{Spot}
+use Rattle.rdl_tree.specs.declared.node.Node.{Node}
+use Rattle.rdl_values.specs.Bodies.{standing}
+use Rattle.rdl_values.specs.Top.{root}
+
+-- the failures of the dynamic assignments in the body of a node
+abbrev pub of_dynamics : Instance → List Fault
+of_dynamics n = all_failures (failures_of_dynamic (nested n)) (dynamics (body n))
+
+-- The dynamic assignments in the body of a node were judged, and what they assign was put behind the entries of nodes.
+pub record IsAssigned (e : Elab) (n : Instance) (old new : List (Vec Entry Global)) (before after : List Fault) : Type 0 where
+  pub noted : after ≡ with_all (of_dynamics n) before
+  pub pushed : ArePushed e (nested n) old new
+
+-- So were those in the bodies of all of these: the entries of each node tell of what they assign to it, in turn.
+pub record AreAssigned (e : Elab) (ns : List Instance) (es : List (Vec Entry Global)) (before after : List Fault) : Type 0 where
+  pub all_nodes : length es ≡ e.count
+  pub noted : after ≡ with_all (flat_map of_dynamics ns) before
+  pub told : (j : ℕ) (m : Instance) → j < e.count → IsAt (lineages_of e) j m → AreEntries (nodes_of e) (entries_at es j) (flat_map (from_above m) (map nested ns))
+
+-- The entries of each node tell of all that applies to it.
+pub record AreCompleted (e : Elab) (es : List (Vec Entry Global)) (before after : List Fault) : Type 0 where
+  pub all_nodes : length es ≡ e.count
+  pub noted : after ≡ with_all (flat_map of_node (nodes_of e)) before
+  pub told : (j : ℕ) (m : Instance) → j < e.count → IsAt (lineages_of e) j m → AreEntries (nodes_of e) (entries_at es j) (applied_to m)
+
+-- The entries of the node of this number were completed, and nothing else changes.
+pub record IsCompletedAt (tree : OpenTree) (layers : LayerTable) (count : ℕ) (r : Node) (o : Spot) (k : ℕ) (old new : List (Vec Entry Global)) (before after : List Fault) : Type 0 where
+  pub same_length : length new ≡ length old
+  pub others : (j : ℕ) → j ≢ k → entries_at new j ≡ entries_at old j
+  pub here : (e : Elab) (n : Instance) → IsScene e tree layers count → IsNode e tree r o n → AreEntries (nodes_of e) (entries_at old k) (flat_map (from_above n) (standing n.above)) → AreEntries (nodes_of e) (entries_at new k) (applied_to n)
+  pub noted : (e : Elab) (n : Instance) → IsScene e tree layers count → IsNode e tree r o n → AreEntries (nodes_of e) (entries_at old k) (flat_map (from_above n) (standing n.above)) → after ≡ with_all (of_node n) before
+
+-- all failures of the phase, in another order
+abbrev pub all_of : Elab → List Fault
+all_of e = of_layers (root e.source.now) ++ of_nodes (nodes_of e) ++ flat_map of_dynamics (nodes_of e) ++ flat_map of_node (nodes_of e)
+
+-- All failures of the phase were put in, and the entries of each node tell of all that applies to it.
+pub record AreGathered (e : Elab) (es : List (Vec Entry Global)) (before after : List Fault) : Type 0 where
+  pub all_nodes : length es ≡ e.count
+  pub noted : after ≡ with_all (all_of e) before
+  pub told : (j : ℕ) (m : Instance) → j < e.count → IsAt (lineages_of e) j m → AreEntries (nodes_of e) (entries_at es j) (applied_to m)
+
+-- the error has these failures, or memory was refused
+abbrev pub IsRefused : List Fault → LayerError → Type 0
+IsRefused fs (error.Faults list) = list.items ≡ fs
+IsRefused fs error.NoMemory = Unit {0}

@@ -1,0 +1,89 @@
+//! What the bodies of all nodes assign to nodes below them.
+
+ghost use Rattle.std.specs.Prelude.{◌≡◌, [], ℕ, IfOk, OnOk, length, slice_get};
+ghost use Rattle.rdl_tree.specs.declared.node.Elab.{Elab};
+ghost use Rattle.rdl_tree.specs.declared.node.Node.{out-Node};
+ghost use Rattle.rdl_values.specs.Elaborated.{nodes_of};
+ghost use Rattle.rdl_values.specs.Elaboration.{IsClean};
+ghost use Rattle.rdl_values.specs.Instances.{Instance};
+ghost use Rattle.rdl_values.specs.Lineages.{lineages_of};
+ghost use Rattle.rdl_index.specs.Rows.{AreRows};
+ghost use Rattle.rdl_layers.specs.Tables.{entries_at};
+ghost use Rattle.rdl_opened.specs.Spots.{IsOpenTree, IsSpot};
+ghost use Rattle.rdl_targets.specs.At.{IsAt};
+ghost use Rattle.rdl_settle.specs.Gathered.{AreAssigned, IsAssigned};
+
+use rb_base::NoMemory;
+use rdl_index::Row;
+use rdl_judging::Failures;
+use rdl_layers::Entry;
+use rdl_marked::judge_dynamics;
+use rdl_opened::{OpenTree, Spot};
+use rdl_values::Chain;
+use std::alloc::Global;
+
+// No entries, for so many nodes.
+#[tactic(auto, using(crate::proofs::Assigning::none_push))]
+fn no_entries<'a>(alloc: Global, count: usize) -> Result<Vec<Vec<Entry<'a>>>, NoMemory>
+    ensures size { IfOk result (λ r. length r.items ≡ count) }
+    ensures none { IfOk result (λ r. (j : ℕ) → entries_at r.items j ≡ []) }
+{
+    let mut list = Vec::new(alloc);
+    for _ in 0..count {
+        list.push(Vec::new(alloc))?;
+    }
+    Ok(list)
+}
+
+// Judges the dynamic assignments in the body of a node.
+fn assign<'a>(
+    alloc: Global,
+    rows: &[Row<'a>],
+    row: &Row<'a>,
+    tree: &OpenTree<'a>,
+    spot: &Spot,
+    entries: &mut Vec<Vec<Entry<'a>>>,
+    failures: &mut Failures,
+) -> Result<(), NoMemory>
+    ensures { OnOk result ((e : Elab) (n : Instance) → AreRows e rows.now → IsAt (lineages_of e) (out-Node row.now.node.now).id n → IsSpot e tree.now.walk.bodies spot.now n → IsAssigned e n entries.old.items entries.new.items failures.old failures.new) }
+{
+    let bodies = &tree.walk.bodies;
+    let Some(body) = bodies.body(spot.body) else {
+        return Ok(());
+    };
+    let visible = Chain {
+        nearest: None,
+        tables: bodies.tables(),
+        numbers: body.numbers,
+    };
+    let node = row.node.id;
+    judge_dynamics(alloc, rows, node, body.items, &visible, entries, failures)?;
+    Ok(())
+}
+
+/// The node of a number among the open bodies.
+pub(crate) fn spot_at(spots: &[Spot], at: usize) -> Option<Spot>
+    ensures { result ≡ slice_get spots.now at }
+{
+    spots.get(at).copied()
+}
+
+/// Puts in all failures of the dynamic assignments in the bodies of the nodes of a tree, and gives what those that fail none assign to
+/// each node, in the order of the bodies.
+pub(crate) fn assign_all<'a>(
+    alloc: Global,
+    rows: &[Row<'a>],
+    tree: &OpenTree<'a>,
+    failures: &mut Failures,
+) -> Result<Vec<Vec<Entry<'a>>>, NoMemory>
+    ensures { IfOk result (λ r. (e : Elab) → IsClean e → AreRows e rows.now → IsOpenTree e tree.now → AreAssigned e (nodes_of e) r.items failures.old failures.new) }
+{
+    let mut entries = no_entries(alloc, rows.len())?;
+    for (at, row) in rows.iter().enumerate() {
+        let Some(spot) = spot_at(&tree.spots, at) else {
+            return Ok(entries);
+        };
+        assign(alloc, rows, row, tree, &spot, &mut entries, failures)?;
+    }
+    Ok(entries)
+}

@@ -1,0 +1,8 @@
+//! What every property of every node of a tree is set to (SystemRDL 2.0, 5.1.3).
+#![tactic(auto)]
+
+mod above;
+mod completing;
+mod settling;
+
+pub use settling::settle;

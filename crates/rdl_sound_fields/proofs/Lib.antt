@@ -1,0 +1,3 @@
+pub mod Fed
+mod Counting
+pub mod Alone

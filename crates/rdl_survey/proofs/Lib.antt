@@ -1,0 +1,4 @@
+pub mod Staying
+pub mod TopUses
+mod Listing
+pub mod Totals
