@@ -38,7 +38,7 @@ map-filter g p (x ∷ xs) = go (p (g x)) (map-filter g p xs)
     go false h = h
 
 -- A node stands at its number, where no other of its path is listed.
-found : (ns : List Instance) (n : Instance) → ((m : Instance) → In ns m → m.path ≡ n.path → m ≡ n) → In ns n → slice_get ns (number_of n ns) ≡ Some n
+pub found : (ns : List Instance) (n : Instance) → ((m : Instance) → In ns m → m.path ≡ n.path → m ≡ n) → In ns n → slice_get ns (number_of n ns) ≡ Some n
 found ns n unique i = sym (find_at (λ m. same_path m.path n.path) ns) ∙ first ns unique i
   where
     first : (ms : List Instance) → ((m : Instance) → In ms m → m.path ≡ n.path → m ≡ n) → In ms n → find (λ m. same_path m.path n.path) ms ≡ Some n
@@ -68,7 +68,7 @@ register-at wanted s n c =
 
 -- Fields, with their registers.
 
-abbrev pairs : List (Numbered Lineage) → List (Numbered Lineage × Instance)
+abbrev pub pairs : List (Numbered Lineage) → List (Numbered Lineage × Instance)
 pairs rs = flat_map (λ r. map (λ f. (r, f)) (fields_of r.register.node)) rs
 
 pub map-map : {X Y Z : Type 0} (g : Y → Z) (f : X → Y) (xs : List X) → map g (map f xs) ≡ map (λ x. g (f x)) xs
@@ -79,7 +79,7 @@ map-id : {X : Type 0} (xs : List X) → map (λ x. x) xs ≡ xs
 map-id [] = refl
 map-id (x ∷ xs) = ap (λ ys. x ∷ ys) (map-id xs)
 
-with-registers : (s : Source) (all : List Lineage) (rs : List (Numbered Lineage)) → map (λ p. field_of s all p.0 p.1) (pairs rs) ≡ flat_map (λ r. map (field_of s all r) (fields_of r.register.node)) rs
+pub with-registers : (s : Source) (all : List Lineage) (rs : List (Numbered Lineage)) → map (λ p. field_of s all p.0 p.1) (pairs rs) ≡ flat_map (λ r. map (field_of s all r) (fields_of r.register.node)) rs
 with-registers s all [] = refl
 with-registers s all (r ∷ rs) = map-append (λ (p : Numbered Lineage × Instance). field_of s all p.0 p.1) (map (λ f. (r, f)) (fields_of r.register.node)) (pairs rs)
     ∙ ap (λ xs. xs ++ map (λ (p : Numbered Lineage × Instance). field_of s all p.0 p.1) (pairs rs)) (map-map (λ (p : Numbered Lineage × Instance). field_of s all p.0 p.1) (λ f. (r, f)) (fields_of r.register.node))
@@ -96,7 +96,7 @@ numbered-nodes k v [] = refl
 numbered-nodes k v (l ∷ ls) = ap (λ xs. l ∷ xs) (numbered-nodes (k + 1) (v + length (fields_of l.node)) ls)
 
 -- the registers that are no aliases
-abbrev own : List Lineage → List (Numbered Lineage)
+abbrev pub own : List Lineage → List (Numbered Lineage)
 own all = filter (λ r. not (is_alias r.register.node)) (numbered_registers all)
 
 own-nodes : (all : List Lineage) → map (λ r. r.register.node) (own all) ≡ primaries (nodes_in all)
@@ -104,7 +104,7 @@ own-nodes all =
     map-filter (λ (r : Numbered Lineage). r.register.node) (λ n. not (is_alias n)) (numbered_registers all)
     ∙ ap (filter (λ n. not (is_alias n))) (sym (map-map (λ (l : Lineage). l.node) (λ (r : Numbered Lineage). r.register) (numbered_registers all)) ∙ ap (map (λ (l : Lineage). l.node)) (numbered-nodes 0 0 (filter (λ l. is_a kind.Reg l.node) all)) ∙ map-filter (λ (l : Lineage). l.node) (is_a kind.Reg) all)
 
-own-fields : (all : List Lineage) → map (λ p. p.1) (pairs (own all)) ≡ all_fields (nodes_in all)
+pub own-fields : (all : List Lineage) → map (λ p. p.1) (pairs (own all)) ≡ all_fields (nodes_in all)
 own-fields all = fields-alone (own all) ∙ ap (flat_map fields_of) (own-nodes all)
 
 -- what a list has where its image has something
@@ -113,7 +113,7 @@ got f [] k y e = cc e
 got f (x ∷ xs) zero y e = (x, refl, (let same : f x ≡ y = cc in same))
 got f (x ∷ xs) (suc k) y e = got f xs k y e
 
-field-in : (wanted : Option (List ℕ)) (s : Source) (n : Instance) → In (all_fields (nodes wanted s)) n → In (nodes wanted s) n
+pub field-in : (wanted : Option (List ℕ)) (s : Source) (n : Instance) → In (all_fields (nodes wanted s)) n → In (nodes wanted s) n
 field-in wanted s n i =
     let r = flat-in fields_of (primaries (nodes wanted s)) n i in
     let reg = in-filter (is_a kind.Reg) (nodes wanted s) r.0 (in-filter (λ x. not (is_alias x)) (registers (nodes wanted s)) r.0 r.1) in

@@ -1,2 +1,2 @@
 pub mod Found
-mod Standing
+pub mod Standing

@@ -28,11 +28,12 @@ use Rattle.rdl_rules.specs.Feeds.{count_of, ref_of, ref_to, when_some}
 use Rattle.rdl_rules.specs.Fields.{field_of}
 use Rattle.rdl_rules.specs.Numbers.{Numbered, all_fields, all_signals, number_of, registers}
 use Rattle.rdl_rules.specs.ReferenceRules as rules
+use Rattle.rdl_listed.specs.Lists.{HasLists}
 use Rattle.rdl_listed.specs.Standing.{FieldHas, HasItem, NodeHas}
 use Rattle.rdl_listed.proofs.Found.{field-at, register-at, signal-at}
 
 -- An element with its place.
-numbered : {X : Type 0} (n : ℕ) (xs : List X) (k : ℕ) (x : X) → slice_get xs k ≡ Some x → In (enumerate_from n xs) (n + k, x)
+pub numbered : {X : Type 0} (n : ℕ) (xs : List X) (k : ℕ) (x : X) → slice_get xs k ≡ Some x → In (enumerate_from n xs) (n + k, x)
 numbered n [] k x e = cc e
 numbered n (y ∷ ys) zero x e = let same : y ≡ x = cc e in inl (λ i. (at i, same i))
   where
@@ -40,7 +41,7 @@ numbered n (y ∷ ys) zero x e = let same : y ≡ x = cc e in inl (λ i. (at i, 
     at = omega arith
 numbered n (y ∷ ys) (suc k) x e = inr (subst (λ m. In (enumerate_from (n + 1) ys) (m, x)) (omega arith) (numbered (n + 1) ys k x e))
 
-from-start : {X : Type 0} (xs : List X) (k : ℕ) (x : X) → slice_get xs k ≡ Some x → In (enumerate_from 0 xs) (k, x)
+pub from-start : {X : Type 0} (xs : List X) (k : ℕ) (x : X) → slice_get xs k ≡ Some x → In (enumerate_from 0 xs) (k, x)
 from-start xs k x e = subst (λ m. In (enumerate_from 0 xs) (m, x)) (omega arith) (numbered 0 xs k x e)
 
 module _ (b : Block) where
@@ -95,7 +96,7 @@ field-wide b k n what.Intr e h = absurd h
 field-wide b k n what.Halt e h = absurd h
 
 -- The item of the block, by the kind of the node.
-abbrev ref-by : List Instance → Instance → Kind → What → RefItem
+abbrev pub ref-by : List Instance → Instance → Kind → What → RefItem
 ref-by ns n kind.Signal w = item.Signal (number_of n (all_signals ns))
 ref-by ns n kind.Field w = ref_of w (number_of n (all_fields ns))
 ref-by ns n _ w = ref_of w (number_of n (registers ns))
@@ -107,11 +108,14 @@ as-ref all i kind.Reg e = rw e refl
 as-ref all i kind.Addrmap e = rw e refl
 as-ref all i kind.Regfile e = rw e refl
 
-some-when : {A : Type 0} (c : Bool) (x : A) → is_some (when_some c x) ≡ c
+pub some-when : {A : Type 0} (c : Bool) (x : A) → is_some (when_some c x) ≡ c
 some-when true x = refl
 some-when false x = refl
 
-module _ (wanted : Option (List ℕ)) (s : Source) (waits : ℕ) (b : Block) (is : IsBlockOf wanted s waits b) where
+pub lists-of : (wanted : Option (List ℕ)) (s : Source) (waits : ℕ) (b : Block) → IsBlockOf wanted s waits b → HasLists wanted s b
+lists-of wanted s waits b is = record { signals_ = is.signals; fields_ = is.fields_; regs_ = is.regs }
+
+module _ (wanted : Option (List ℕ)) (s : Source) (b : Block) (is : HasLists wanted s b) where
   ns : List Instance
   ns = nodes wanted s
 
@@ -122,12 +126,12 @@ module _ (wanted : Option (List ℕ)) (s : Source) (waits : ℕ) (b : Block) (is
   in-halts k r e = in-right (when r.intr (item.Intr k)) (when r.halt (item.Halt k)) (item.Halt k) (subst (λ c. In (when c (item.Halt k)) (item.Halt k)) (sym e) (inl refl))
 
   signal-here : (n : Instance) → Contains (all_signals (nodes wanted s)) n → slice_get b.signals (number_of n (all_signals (nodes wanted s))) ≡ Some (signal_of n)
-  signal-here n c = ap (λ xs. slice_get xs (number_of n (all_signals (nodes wanted s)))) is.signals ∙ signal-at wanted s n c
+  signal-here n c = ap (λ xs. slice_get xs (number_of n (all_signals (nodes wanted s)))) is.signals_ ∙ signal-at wanted s n c
 
   register-here : (n : Instance) → Contains (registers (nodes wanted s)) n → slice_get b.regs (number_of n (registers (nodes wanted s))) ≡ Some (reg_of n)
-  register-here n c = ap (λ xs. slice_get xs (number_of n (registers (nodes wanted s)))) is.regs ∙ register-at wanted s n c
+  register-here n c = ap (λ xs. slice_get xs (number_of n (registers (nodes wanted s)))) is.regs_ ∙ register-at wanted s n c
 
-  field-here : (n : Instance) → Contains (all_fields (nodes wanted s)) n → (r : Numbered Lineage) × (slice_get b.fields (number_of n (all_fields (nodes wanted s))) ≡ Some (field_of s (lineages wanted s) r n))
+  pub field-here : (n : Instance) → Contains (all_fields (nodes wanted s)) n → (r : Numbered Lineage) × (slice_get b.fields (number_of n (all_fields (nodes wanted s))) ≡ Some (field_of s (lineages wanted s) r n))
   field-here n c = let h = field-at wanted s n c in (h.0, ap (λ xs. slice_get xs (number_of n (all_fields (nodes wanted s)))) is.fields_ ∙ h.1)
 
   listed-by : (n : Instance) (k : Kind) (w : What) → NodeHas (nodes wanted s) n k w → In (items b) (ref-by (nodes wanted s) n k w)
@@ -144,17 +148,17 @@ module _ (wanted : Option (List ℕ)) (s : Source) (waits : ℕ) (b : Block) (is
   wide-by n kind.Reg what.Halt h = refl
   wide-by n k w h = absurd h
 
-  same-ref : (i : Item) → ref_to (lineages wanted s) i ≡ ref-by (nodes wanted s) i.node (kind_of i.node) i.what
+  pub same-ref : (i : Item) → ref_to (lineages wanted s) i ≡ ref-by (nodes wanted s) i.node (kind_of i.node) i.what
   same-ref i = as-ref (lineages wanted s) i (kind_of i.node) refl ∙ ap (λ xs. ref-by xs i.node (kind_of i.node) i.what) (all_nodes wanted s)
 
-  item-in : (i : Item) → HasItem (nodes wanted s) i → Contains (items b) (ref_to (lineages wanted s) i)
+  pub item-in : (i : Item) → HasItem (nodes wanted s) i → Contains (items b) (ref_to (lineages wanted s) i)
   item-in i h = subst (Contains (items b)) (sym (same-ref i)) (in-to (items b) _ (listed-by i.node (kind_of i.node) i.what h))
 
   item-wide : (i : Item) → HasItem (nodes wanted s) i → item_width b (ref_to (lineages wanted s) i) ≡ rules.item_width i
   item-wide i h = ap (item_width b) (same-ref i) ∙ wide-by i.node (kind_of i.node) i.what h
 
 pub all-listed : (wanted : Option (List ℕ)) (s : Source) (waits : ℕ) (b : Block) (i : Item) → IsBlockOf wanted s waits b → HasItem (nodes wanted s) i → Contains (items b) (ref_to (lineages wanted s) i)
-all-listed wanted s waits b i is h = item-in wanted s waits b is i h
+all-listed wanted s waits b i is h = item-in wanted s b (lists-of wanted s waits b is) i h
 
 pub all-wide : (wanted : Option (List ℕ)) (s : Source) (waits : ℕ) (b : Block) (i : Item) → IsBlockOf wanted s waits b → HasItem (nodes wanted s) i → item_width b (ref_to (lineages wanted s) i) ≡ rules.item_width i
-all-wide wanted s waits b i is h = item-wide wanted s waits b is i h
+all-wide wanted s waits b i is h = item-wide wanted s b (lists-of wanted s waits b is) i h

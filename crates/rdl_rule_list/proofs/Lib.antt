@@ -1,3 +1,2 @@
-mod Free
 mod Put
 mod Whole

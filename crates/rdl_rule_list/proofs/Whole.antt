@@ -31,7 +31,7 @@ use Rattle.rdl_rules.specs.RegisterRules.{of_register}
 use Rattle.rdl_lineages.proofs.Members.{In, flat-in, in-either, in-flat, in-from, in-left, in-right, in-to}
 use Rattle.rdl_aliases.proofs.Lists.{filter-in, in-filter}
 use Rattle.rdl_rule_list.specs.Collected.{collected, of_containers, of_count, of_fields, of_registers, of_resets, of_roots}
-use Rattle.rdl_rule_list.proofs.Free.{all-free}
+use Rattle.rdl_faultless.proofs.Free.{all-free}
 
 abbrev OnFields : Elab → Type 0
 OnFields e = AllByRecursion (λ n. (p : Prop) (q : Path) (item : Option Name) (scope : Scope) (place : Place) → setting n p ≡ reference q item scope place → kind_of n ≡ kind.Field) (nodes_of e)

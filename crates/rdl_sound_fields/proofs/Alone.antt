@@ -61,7 +61,7 @@ judged f e =
 
 -- The width.
 
-wide : (f : Instance) → bad_width f ≡ false → (0 < width_of f) × (width_of f ≤ 64)
+pub wide : (f : Instance) → bad_width f ≡ false → (0 < width_of f) × (width_of f ≤ 64)
 wide f e =
     let a = or-none _ _ e in
     let b = or-none _ _ a.0 in

@@ -1,2 +1,2 @@
 mod Numbering
-mod Sound
+pub mod Sound

@@ -35,12 +35,12 @@ use Rattle.rdl_sound_fields.specs.Faultless.{Leads}
 use Rattle.rdl_sound_fields.proofs.Alone.{latch-is}
 use Rattle.rdl_sound_registers.proofs.Numbering.{fields-at}
 
-abbrev Formed : Type 0
+abbrev pub Formed : Type 0
 Formed = (n : Instance) (p : Prop) → IsOfForm (takes_of p) (setting n p)
 
 -- Interrupts.
 
-latches : Formed → (f : Instance) → is_interrupt (latch_of f) ≡ layers.is_interrupt f
+pub latches : Formed → (f : Instance) → is_interrupt (latch_of f) ≡ layers.is_interrupt f
 latches formed f = latch-is (has prop.Sticky f) (setting f prop.Intr) (formed f prop.Intr)
 
 -- Enabled or masked for halt.
@@ -75,7 +75,7 @@ or-nothing true b = refl
 or-nothing false true = refl
 or-nothing false false = refl
 
-halts-on : (all : List Lineage) (f : Instance) → Formed → Leads all f → is_on (mask_at all f prop.Haltenable prop.Haltmask) ≡ has_one_of (prop.Haltenable ∷ prop.Haltmask ∷ []) f
+pub halts-on : (all : List Lineage) (f : Instance) → Formed → Leads all f → is_on (mask_at all f prop.Haltenable prop.Haltmask) ≡ has_one_of (prop.Haltenable ∷ prop.Haltmask ∷ []) f
 halts-on all f formed leads = on-some (item_at all f prop.Haltenable) (item_at all f prop.Haltmask)
     ∙ ap (λ a. a || is_some (item_at all f prop.Haltmask)) (item-given all f prop.Haltenable leads (formed f prop.Haltenable))
     ∙ ap (λ b. has prop.Haltenable f || b) (item-given all f prop.Haltmask leads (formed f prop.Haltmask))

@@ -27,7 +27,6 @@ use Rattle.rdl_layers.specs.Fields.{fields_of, has_one_of, is_a, is_alias, is_co
 use Rattle.rdl_layers.specs.Forms.{reference}
 use Rattle.rdl_layers.proofs.Formed.{each-filter}
 use Rattle.rdl_collected.proofs.Descending.{at-top, listed-down, top-placed}
-use Rattle.rdl_legal.proofs.Closed.{all-closed}
 use Rattle.rdl_addr.specs.Layout.{has_address}
 use Rattle.rdl_refs.specs.Follows.{is_in_alias, is_missing}
 use Rattle.rdl_refs.specs.Items.{Item, field_what, item_named, item_of, target, what_named}
@@ -126,16 +125,6 @@ both {a} {b} x y = rw x rw y refl
 no-signal : is_signal kind.Field ≡ true → ⊥
 no-signal e = cc
 
--- the fields of a node stand in it
-of-children : (f : Instance) (cs : List Instance) → In (filter (is_a kind.Field) cs) f → In cs f
-of-children f [] h = absurd h
-of-children f (c ∷ cs) h = go (is_a kind.Field c) h (of-children f cs)
-  where
-    go : (b : Bool) → In (cond b (c ∷ filter (is_a kind.Field) cs) (filter (is_a kind.Field) cs)) f → (In (filter (is_a kind.Field) cs) f → In cs f) → In (c ∷ cs) f
-    go true (inl q) rest = inl q
-    go true (inr q) rest = inr (rest q)
-    go false q rest = inr (rest q)
-
 first : (a b c : Bool) → a ≡ true → b ≡ true → ((a && b) || c) ≡ true
 first true true c x y = refl
 first true false c x y = cc
@@ -151,12 +140,12 @@ or-none false b e = (refl, e)
 
 -- Nodes of a source that have what is asked.
 
-module _ (wanted : Option (List ℕ)) (s : Source) (halting : (f : Instance) → Contains (nodes wanted s) f → has_one_of (prop.Haltenable ∷ prop.Haltmask ∷ []) f ≡ true → is_interrupt f ≡ true) where
-  in-nodes : (l : Lineage) → In (lineages wanted s) l → In (nodes wanted s) l.node
+module _ (wanted : Option (List ℕ)) (s : Source) (halting : (f : Instance) → Contains (all_fields (nodes wanted s)) f → has_one_of (prop.Haltenable ∷ prop.Haltmask ∷ []) f ≡ true → is_interrupt f ≡ true) where
+  pub in-nodes : (l : Lineage) → In (lineages wanted s) l → In (nodes wanted s) l.node
   in-nodes l i = subst (λ ns. In ns l.node) (all_nodes wanted s) (in-map (λ x. x.node) (lineages wanted s) l i)
 
   -- a field stands in a register
-  register-of : (l : Lineage) → In (lineages wanted s) l → kind_of l.node ≡ kind.Field → (r : Instance) × (up : List Instance) × (l.ancestors ≡ r ∷ up) × In (nodes wanted s) r × In (children r) l.node × (kind_of r ≡ kind.Reg)
+  pub register-of : (l : Lineage) → In (lineages wanted s) l → kind_of l.node ≡ kind.Field → (r : Instance) × (up : List Instance) × (l.ancestors ≡ r ∷ up) × In (nodes wanted s) r × In (children r) l.node × (kind_of r ≡ kind.Reg)
   register-of l i e = go l.ancestors refl
     where
       top-no : In (top_of wanted s) l.node → ⊥
@@ -189,7 +178,7 @@ module _ (wanted : Option (List ℕ)) (s : Source) (halting : (f : Instance) →
           let may : holds (kind_of r) (kind_of l.node) ≡ true = subst (λ p. may_hold p (kind_of l.node) ≡ true) child.in_body (held child.by l.node child.given_) in
           (r, up, q, in-nodes (record { node = r; ancestors = up }) here, b.3, holds-field (kind_of r) (subst (λ k. holds (kind_of r) k ≡ true) e may))
 
-  field-listed : (l : Lineage) → In (lineages wanted s) l → kind_of l.node ≡ kind.Field → (is_alias l.node || (is_a kind.Field l.node && list_any is_alias (take 1 l.ancestors))) ≡ false → In (all_fields (nodes wanted s)) l.node
+  pub field-listed : (l : Lineage) → In (lineages wanted s) l → kind_of l.node ≡ kind.Field → (is_alias l.node || (is_a kind.Field l.node && list_any is_alias (take 1 l.ancestors))) ≡ false → In (all_fields (nodes wanted s)) l.node
   field-listed l i e own =
       let r = register-of l i e in
       let parts = or-none (is_alias l.node) (is_a kind.Field l.node && list_any is_alias (take 1 l.ancestors)) own in
@@ -202,17 +191,19 @@ module _ (wanted : Option (List ℕ)) (s : Source) (halting : (f : Instance) →
       in-and true b x y = y
       in-and false b x y = cc
 
-  own-register : (l : Lineage) → In (lineages wanted s) l → kind_of l.node ≡ kind.Reg → In (registers (nodes wanted s)) l.node
+  pub own-register : (l : Lineage) → In (lineages wanted s) l → kind_of l.node ≡ kind.Reg → In (registers (nodes wanted s)) l.node
   own-register l i e = in-back (is_a kind.Reg) (nodes wanted s) l.node (in-nodes l i) (is-kind kind.Reg l.node e)
 
-  field-in : (l : Lineage) → In (lineages wanted s) l → (f : Instance) → In (fields_of l.node) f → Contains (nodes wanted s) f
-  field-in l i f h = in-to (nodes wanted s) f (each-in (In (nodes wanted s)) (children l.node) f (each-in (λ m. AllByRecursion (In (nodes wanted s)) (children m)) (nodes wanted s) l.node (all-closed wanted s) (in-nodes l i)) (of-children f (children l.node) h))
+  field-own : (l : Lineage) → In (lineages wanted s) l → kind_of l.node ≡ kind.Reg → is_alias l.node ≡ false → (f : Instance) → In (fields_of l.node) f → Contains (all_fields (nodes wanted s)) f
+  field-own l i e own f h =
+      let primary : In (primaries (nodes wanted s)) l.node = in-back (λ x. not (is_alias x)) (registers (nodes wanted s)) l.node (own-register l i e) (ap not own) in
+      in-to (all_fields (nodes wanted s)) f (in-flat fields_of (primaries (nodes wanted s)) l.node f primary h)
 
   -- where one of the fields is enabled or masked for halt, it halts
-  halting-too : (l : Lineage) → In (lineages wanted s) l → list_any (has_one_of (prop.Haltenable ∷ prop.Haltmask ∷ [])) (fields_of l.node) ≡ true → list_any halts (fields_of l.node) ≡ true
-  halting-too l i = go (fields_of l.node) (field-in l i)
+  halting-too : (l : Lineage) → In (lineages wanted s) l → kind_of l.node ≡ kind.Reg → is_alias l.node ≡ false → list_any (has_one_of (prop.Haltenable ∷ prop.Haltmask ∷ [])) (fields_of l.node) ≡ true → list_any halts (fields_of l.node) ≡ true
+  halting-too l i e own = go (fields_of l.node) (field-own l i e own)
     where
-      go : (fs : List Instance) → ((f : Instance) → In fs f → Contains (nodes wanted s) f) → list_any (has_one_of (prop.Haltenable ∷ prop.Haltmask ∷ [])) fs ≡ true → list_any halts fs ≡ true
+      go : (fs : List Instance) → ((f : Instance) → In fs f → Contains (all_fields (nodes wanted s)) f) → list_any (has_one_of (prop.Haltenable ∷ prop.Haltmask ∷ [])) fs ≡ true → list_any halts fs ≡ true
       go [] h e = e
       go (f ∷ fs) h e = by (has_one_of (prop.Haltenable ∷ prop.Haltmask ∷ []) f) refl e (go fs (λ g k. h g (inr k)))
         where
@@ -242,7 +233,7 @@ module _ (wanted : Option (List ℕ)) (s : Source) (halting : (f : Instance) →
   reg-has : (l : Lineage) → In (lineages wanted s) l → kind_of l.node ≡ kind.Reg → (b c : Bool) (w : What) → In (cond b (what.Intr ∷ []) (cond c (what.Halt ∷ []) [])) w → is_missing (item_of l w) ≡ false → is_alias l.node ≡ false → NodeHas (nodes wanted s) l.node kind.Reg w
   reg-has l i e true c w (inl q) m own = subst (NodeHas (nodes wanted s) l.node kind.Reg) q (in-to (registers (nodes wanted s)) l.node (own-register l i e), both own (not-false (list_any is_interrupt (fields_of l.node)) (subst (λ x. is_missing (item_of l x) ≡ false) (sym q) m)))
   reg-has l i e true c w (inr q) m own = absurd q
-  reg-has l i e false true w (inl q) m own = subst (NodeHas (nodes wanted s) l.node kind.Reg) q (in-to (registers (nodes wanted s)) l.node (own-register l i e), both own (halting-too l i (not-false (list_any (has_one_of (prop.Haltenable ∷ prop.Haltmask ∷ [])) (fields_of l.node)) (subst (λ x. is_missing (item_of l x) ≡ false) (sym q) m))))
+  reg-has l i e false true w (inl q) m own = subst (NodeHas (nodes wanted s) l.node kind.Reg) q (in-to (registers (nodes wanted s)) l.node (own-register l i e), both own (halting-too l i e own (not-false (list_any (has_one_of (prop.Haltenable ∷ prop.Haltmask ∷ [])) (fields_of l.node)) (subst (λ x. is_missing (item_of l x) ≡ false) (sym q) m))))
   reg-has l i e false true w (inr q) m own = absurd q
   reg-has l i e false false w q m own = absurd q
 

@@ -1,0 +1,4 @@
+pub mod Faultless
+pub mod Free
+mod Listed
+mod Nothing

@@ -1,0 +1,6 @@
+mod After
+mod Fields
+mod Made
+mod Numbers
+mod Places
+mod Within

@@ -1,0 +1,3 @@
+mod Cut
+mod Spelled
+pub mod Texts
