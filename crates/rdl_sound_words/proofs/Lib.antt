@@ -1,4 +1,6 @@
 mod Counted
 mod Numbers
+mod Sharing
 mod Shown
 mod Spans
+mod Together

@@ -69,7 +69,7 @@ pub record SlotIn (first base w : ℕ) (bs : List Bits) (s : Slot) : Type 0 wher
   pub ends : base ≤ bits.high
   pub is : record { view = first + at; low = max base bits.low - base; from = max base bits.low - bits.low; bits = min (base + w - 1) bits.high + 1 - max base bits.low } ≡ s
 
-when-in : {X : Type 0} (t : Bool) (x y : X) → In (when t x) y → (t ≡ true) × (x ≡ y)
+pub when-in : {X : Type 0} (t : Bool) (x y : X) → In (when t x) y → (t ≡ true) × (x ≡ y)
 when-in true x y (inl e) = (refl, e)
 when-in true x y (inr h) = absurd h
 when-in false x y h = absurd h
@@ -107,7 +107,7 @@ some-width a (inl e) = omega (arith, e)
 some-width a (inr (inl e)) = omega (arith, e)
 some-width a (inr (inr e)) = omega (arith, e)
 
-bits-node : (r : Instance) (j : ℕ) (b : Bits) → slice_get (bits_of r) j ≡ Some b → slice_get (fields_of r) j ≡ Some b.node
+pub bits-node : (r : Instance) (j : ℕ) (b : Bits) → slice_get (bits_of r) j ≡ Some b → slice_get (fields_of r) j ≡ Some b.node
 bits-node r j b at = ap (λ ns. slice_get ns j) (sym (nodes-are r)) ∙ get-map (bits_of r) j at
   where
     get-map : (bs : List Bits) (j : ℕ) → slice_get bs j ≡ Some b → slice_get (map (λ x. x.node) bs) j ≡ Some b.node
@@ -132,7 +132,7 @@ module _ (e : Elab) (settled : IsSettled e) (placed : IsPlaced e) (waits : ℕ) 
       length-map f (x ∷ xs) = ap suc (length-map f xs)
 
   -- the fields of a register are nodes
-  fields-among : (p : Placed) → In (registers (Some (top_name e)) e.source.now) p → (n : Instance) → In (fields_of p.node) n → In (nodes_of e) n × (is_a kind.Field n ≡ true)
+  pub fields-among : (p : Placed) → In (registers (Some (top_name e)) e.source.now) p → (n : Instance) → In (fields_of p.node) n → In (nodes_of e) n × (is_a kind.Field n ≡ true)
   fields-among p i n h =
       let all = layout (Some (top_name e)) e.source.now in
       let own = in-nodes e p (filter-in (λ (x : Placed). is_a kind.Reg x.node) all p i) in (

@@ -1,6 +1,6 @@
 //! The words of a source's block.
 
-ghost use Rattle.std.specs.Prelude.{◌≡◌, ◌+◌, ◌≤◌, ℕ, Contains, List, Option, Some, length, slice_get};
+ghost use Rattle.std.specs.Prelude.{AllPairs, ◌≡◌, ◌+◌, ◌≤◌, ℕ, Contains, List, Option, Some, length, slice_get};
 ghost use Rattle.rdl_tree.specs.declared.item.Source.{Source};
 ghost use Rattle.rdl_tree.specs.declared.node.Elab.{Elab};
 ghost use Rattle.rdl_values.specs.Elaborated.{top_name};
@@ -16,7 +16,7 @@ ghost use Rattle.rb_model.specs.References.{Each};
 ghost use Rattle.rdl_rules.specs.Block.{IsBlockOf};
 ghost use Rattle.rdl_rules.specs.Fields.{view_of};
 ghost use Rattle.rdl_rules.specs.Numbers.{Numbered, numbered};
-ghost use Rattle.rdl_sound_words.specs.Shown.{IsOfRegister, IsShown};
+ghost use Rattle.rdl_sound_words.specs.Shown.{IsOfRegister, IsShown, StandApart};
 
 /// Each field of a register is a view of the block, at its place behind the register's first one.
 pub fn views_are_listed()
@@ -40,4 +40,10 @@ pub fn words_are_few()
 pub fn slots_show_views()
     ensures reads { (e : Elab) (waits : ℕ) (b : Block) → IsSettled e → IsPlaced e → IsBlockOf (Some (top_name e)) e.source.now waits b → Each (λ w. Each (IsShown b w) w.slots) b.reads }
     ensures writes { (e : Elab) (waits : ℕ) (b : Block) → IsSettled e → IsPlaced e → IsBlockOf (Some (top_name e)) e.source.now waits b → Each (λ w. Each (IsShown b w) w.slots) b.writes }
+{}
+
+/// Of the slots of one word, no two that software reads share a bit, and no two that it writes.
+pub fn slots_stand_apart()
+    ensures reads { (e : Elab) (waits : ℕ) (b : Block) → IsSettled e → IsPlaced e → IsBlockOf (Some (top_name e)) e.source.now waits b → Each (λ w. AllPairs (StandApart b) w.slots) b.reads }
+    ensures writes { (e : Elab) (waits : ℕ) (b : Block) → IsSettled e → IsPlaced e → IsBlockOf (Some (top_name e)) e.source.now waits b → Each (λ w. AllPairs (StandApart b) w.slots) b.writes }
 {}

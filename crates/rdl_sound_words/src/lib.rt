@@ -3,4 +3,6 @@
 
 mod laws;
 
-pub use laws::{slots_show_views, views_are_listed, words_are_few, words_have_widths};
+pub use laws::{
+    slots_show_views, slots_stand_apart, views_are_listed, words_are_few, words_have_widths,
+};

@@ -26,7 +26,7 @@ use Rattle.rdl_word_order.proofs.Placed.{Stands, access, nil-left, nil-right, wh
 abbrev pub Clear : Placed → Placed → Type 0
 Clear p q = clashes_with (footprint q) (footprint p) ≡ false
 
-none-any : {X : Type 0} (p : X → Bool) (xs : List X) → list_any p xs ≡ false → (x : X) → In xs x → p x ≡ false
+pub none-any : {X : Type 0} (p : X → Bool) (xs : List X) → list_any p xs ≡ false → (x : X) → In xs x → p x ≡ false
 none-any p [] e x h = absurd h
 none-any p (y ∷ ys) e x h = go (p y) refl e h (λ f g. none-any p ys f x g)
   where
