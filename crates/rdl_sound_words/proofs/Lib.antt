@@ -1,6 +1,6 @@
-mod Counted
-mod Numbers
-mod Sharing
-mod Shown
-mod Spans
-mod Together
+pub mod Counted
+pub mod Numbers
+pub mod Sharing
+pub mod Shown
+pub mod Spans
+pub mod Together

@@ -96,13 +96,13 @@ slot-from first base w (b ∷ bs) s h = by (in-either (slot first base w b) (slo
         later : (k : ℕ) → first + suc k ≡ first + 1 + k
         later k = omega arith
 
-some-bit : (base w h l : ℕ) → 0 < w → l < base + w → base ≤ h → l ≤ h → 0 < min (base + w - 1) h + 1 - max base l
+pub some-bit : (base w h l : ℕ) → 0 < w → l < base + w → base ≤ h → l ≤ h → 0 < min (base + w - 1) h + 1 - max base l
 some-bit base w h l z a b c = grind (arith, z, a, b, c)
 
-in-word : (base w h l : ℕ) → l < base + w → base ≤ h → l ≤ h → (max base l - base) + (min (base + w - 1) h + 1 - max base l) ≤ w
+pub in-word : (base w h l : ℕ) → l < base + w → base ≤ h → l ≤ h → (max base l - base) + (min (base + w - 1) h + 1 - max base l) ≤ w
 in-word base w h l a b c = grind (arith, a, b, c)
 
-some-width : (a : ℕ) → (a ≡ 8) ⊎ (a ≡ 16) ⊎ (a ≡ 32) → 0 < a
+pub some-width : (a : ℕ) → (a ≡ 8) ⊎ (a ≡ 16) ⊎ (a ≡ 32) → 0 < a
 some-width a (inl e) = omega (arith, e)
 some-width a (inr (inl e)) = omega (arith, e)
 some-width a (inr (inr e)) = omega (arith, e)
