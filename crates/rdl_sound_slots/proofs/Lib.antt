@@ -1,0 +1,4 @@
+mod Failing
+mod Fields
+mod Slots
+mod Widths

@@ -1,0 +1,4 @@
+pub mod Meeting
+mod Ordered
+pub mod Placed
+mod Same

@@ -1,0 +1,4 @@
+mod Entered
+mod Masked
+mod Risen
+mod Standing
