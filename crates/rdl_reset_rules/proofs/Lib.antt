@@ -1,2 +1,2 @@
-mod Bound
-mod Said
+pub mod Bound
+pub mod Said

@@ -6,4 +6,5 @@ mod signal;
 mod wide;
 
 pub use second::judge_second_resets;
+pub use signal::is_field_reset;
 pub use wide::judge_wide_resets;

@@ -12,7 +12,7 @@ use rdl_props::Prop;
 use rdl_tree::{Kind, Node};
 
 /// Whether a node is a signal with field_reset (SystemRDL 2.0, 8.2.1).
-pub(crate) fn is_field_reset(props: &Props<'_>, node: &Node<'_>) -> bool
+pub fn is_field_reset(props: &Props<'_>, node: &Node<'_>) -> bool
     requires { (out-Node node.now).id < props.now.count }
     ensures { (n : Instance) → IsSaid props.now node.now n → result ≡ fields.is_field_reset n }
 {

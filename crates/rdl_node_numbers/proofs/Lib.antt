@@ -1,0 +1,7 @@
+pub mod InOrder
+mod Keyed
+mod Naming
+mod Owning
+mod Parents
+mod Ranking
+mod Viewing
