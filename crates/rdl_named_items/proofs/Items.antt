@@ -131,12 +131,13 @@ is-what _ _ e = cc
 abbrev pub lineage_of : Item → Lineage
 lineage_of i = record { node = i.node; ancestors = i.ancestors }
 
-record IsMeant (w : Option (List ℕ)) (s : Source) (i : Item) : Type 0 where
-  among : In (items (lineages w s)) i
-  stands : In (lineages w s) (lineage_of i)
-  value : i.what ≡ what.Value → is_unit (kind_of i.node) ≡ true
+pub record IsMeant (w : Option (List ℕ)) (s : Source) (i : Item) : Type 0 where
+  pub among : In (items (lineages w s)) i
+  pub stands : In (lineages w s) (lineage_of i)
+  pub value : i.what ≡ what.Value → is_unit (kind_of i.node) ≡ true
 
-meant : (w : Option (List ℕ)) (s : Source) (m : Meaning) (i : Item) → In (target (lineages w s) m) i → IsMeant w s i
+-- what a setting names is one of all items
+pub meant : (w : Option (List ℕ)) (s : Source) (m : Meaning) (i : Item) → In (target (lineages w s) m) i → IsMeant w s i
 unfolding items
 meant w s (reference p item scope place) i h =
     let q = flat-in (item_named item) (led_to (lineages w s) p scope) i h in

@@ -1,2 +1,2 @@
 mod Closed
-mod Items
+pub mod Items
