@@ -1,7 +1,6 @@
 //! The rules on what references mean: R3 to R5.
 #![tactic(auto)]
 
-mod aliased;
 mod fitting;
 mod listed;
 mod references;

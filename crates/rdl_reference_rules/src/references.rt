@@ -14,8 +14,7 @@ ghost use Rattle.rdl_rules.specs.ReferenceRules.{bad_target};
 ghost use Rattle.rdl_reference_rules.specs.Judged.{TellsPlace, of_item};
 ghost use Rattle.rdl_reference_rules.specs.Known.{AreKnown};
 
-use crate::aliased::is_in_alias;
-use crate::fitting::{fits, is_missing, item_width};
+use crate::fitting::{fits, item_width};
 use crate::listed::reference_props;
 use rb_base::{NoMemory, Place, Rule};
 use rdl_facts::Fact;
@@ -23,6 +22,7 @@ use rdl_index::Row;
 use rdl_judging::Failures;
 use rdl_layers::{Props, Setting};
 use rdl_marks::Mark;
+use rdl_missing::{is_in_alias, is_missing};
 use rdl_named_items::named_item;
 use rdl_props::Prop;
 use rdl_refs::{ItemOf, Refs};

@@ -1,5 +1,6 @@
 use Rattle.std.proofs.Common.{◌∙◌, sym}
-use Rattle.rdl_reference_rules.proofs.Items.{item-node, width-value}
+use Rattle.rdl_missing.proofs.Items.{item-node}
+use Rattle.rdl_reference_rules.proofs.Items.{width-value}
 use Rattle.rdl_reference_rules.proofs.fitting.item_width.Goals as goal
 
 pub returns-in-Value : goal.returns-in-Value

@@ -4,7 +4,7 @@ use Rattle.rdl_values.specs.Faults.{at_, when}
 use Rattle.rdl_judging.specs.Noted.{with_all}
 use Rattle.rdl_refs.specs.Follows.{is_in_alias, is_missing}
 use Rattle.rdl_rules.specs.ReferenceRules as rules
-use Rattle.rdl_reference_rules.proofs.Items.{item-counted}
+use Rattle.rdl_missing.proofs.Items.{item-counted}
 use Rattle.rdl_reference_rules.proofs.Turns.{three-put}
 use Rattle.rdl_reference_rules.proofs.references.judge_item.Goals as goal
 

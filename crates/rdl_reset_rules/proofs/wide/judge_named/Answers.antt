@@ -13,7 +13,8 @@ use Rattle.rdl_refs.specs.Items.{Item, target}
 use Rattle.rdl_rules.specs.FieldRules.{at_node}
 use Rattle.rdl_sizes.proofs.Facts.{rows-many}
 use Rattle.rdl_named_items.specs.Named.{Names}
-use Rattle.rdl_reference_rules.proofs.Items.{item-below, item-counted, item-node, known-row, names-none, names-one, number-below}
+use Rattle.rdl_missing.proofs.Items.{item-below, item-counted, item-node, known-row}
+use Rattle.rdl_reference_rules.proofs.Items.{names-none, names-one, number-below}
 use Rattle.rdl_reset_rules.proofs.Bound.{names-signal}
 use Rattle.rdl_reset_rules.proofs.Said.{signal-unit}
 use Rattle.rdl_reset_rules.proofs.wide.judge_named.Goals as goal

@@ -1,8 +1,8 @@
 use Rattle.std.proofs.Common.{◌∙◌, not, sym, ap, arith}
 use Rattle.rdl_lineages.proofs.Members.{get-within}
 use Rattle.rdl_values.specs.Elaborated.{nodes_of}
-use Rattle.rdl_reference_rules.proofs.Items.{item-counted, item-node, missing-decr, missing-halt, missing-incr, missing-intr, missing-over, missing-under}
-use Rattle.rdl_reference_rules.proofs.fitting.is_missing.Goals as goal
+use Rattle.rdl_missing.proofs.Items.{item-counted, item-node, missing-decr, missing-halt, missing-incr, missing-intr, missing-over, missing-under}
+use Rattle.rdl_missing.proofs.missing.is_missing.Goals as goal
 
 pub has-counts-requires : goal.has-counts-requires
 has-counts-requires c = item-counted c.args.props.now c.requires.clean c.requires.item.0 c.args.item c.requires.item.1

@@ -31,7 +31,7 @@ fn is_alias(row: &Row<'_>) -> bool
 }
 
 /// Whether an item is one of an alias, or of a field in one.
-pub(crate) fn is_in_alias(rows: &[Row<'_>], item: ItemOf) -> bool
+pub fn is_in_alias(rows: &[Row<'_>], item: ItemOf) -> bool
     requires { (e : Elab) × IsClean e × AreRows e rows.now × ((i : Item) × IsItemAt e i item) }
     ensures { (e : Elab) (i : Item) → IsClean e → AreRows e rows.now → IsItemAt e i item → result ≡ follows.is_in_alias i }
 {

@@ -1,4 +1,4 @@
-use Rattle.std.proofs.Common.{◌≡◌, ◌∙◌, ◌<◌, true, false, length, Some, sym, ap, subst, arith}
+use Rattle.std.proofs.Common.{◌≡◌, ◌∙◌, ◌<◌, true, false, length, sym, ap, subst, arith}
 use Rattle.rdl_tree.specs.declared.item.Kind.TheVariants as kinds
 use Rattle.rdl_props.specs.Same.{same_kind}
 use Rattle.rdl_values.specs.Lineages.{Lineage, lineages_of}
@@ -7,8 +7,8 @@ use Rattle.rdl_index.specs.Rows.{IsParent}
 use Rattle.rdl_lineages.proofs.Members.{get-within}
 use Rattle.rdl_sizes.proofs.Facts.{row-at, rows-many}
 use Rattle.rdl_sizes.proofs.Turns.{read-at}
-use Rattle.rdl_reference_rules.proofs.Items.{alias-itself, alias-no-field, alias-no-parent, alias-parent, item-below, known-row, no-parent, same-lineage}
-use Rattle.rdl_reference_rules.proofs.aliased.is_in_alias.Goals as goal
+use Rattle.rdl_missing.proofs.Items.{alias-itself, alias-no-field, alias-no-parent, alias-parent, item-below, known-row, no-parent, same-lineage}
+use Rattle.rdl_missing.proofs.aliased.is_in_alias.Goals as goal
 
 pub bounds-rows-item : goal.bounds-rows-item
 bounds-rows-item c =

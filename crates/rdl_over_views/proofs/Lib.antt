@@ -1,0 +1,3 @@
+mod Covering
+mod Marking
+pub mod Sharing
