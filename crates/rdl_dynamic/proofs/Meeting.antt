@@ -1,6 +1,5 @@
 -- Assignments that lead to a common node.
-use Rattle.std.proofs.Common.{◌≡◌, ◌∙◌, ℕ, Bool, true, false, ◌&&◌, ◌||◌, cond, bytes_eq, List, [], ◌∷◌, ◌++◌, map, filter, flat_map, append-nil, Option, None, Some, option_to_list, refl, sym, ap}
-use Rattle.std.specs.Cmp.Lexicographic.{bytes_decides}
+use Rattle.std.proofs.Common.{◌≡◌, ◌∙◌, Bool, true, false, ◌&&◌, ◌||◌, cond, List, [], ◌∷◌, map, filter, option_to_list, refl, sym, ap}
 use Rattle.std.specs.List.{list_any}
 use Rattle.std.proofs.lemmas.List.Folds.{list_any-append}
 use Rattle.rdl_props.specs.declared.prop.Prop.{Prop}
@@ -10,6 +9,7 @@ use Rattle.rdl_values.specs.Instances.{Instance}
 use Rattle.rdl_layers.specs.Assignments.{Dynamic, Nested, is_among, meet, same_path, same_step, same_steps, targets}
 use Rattle.rdl_layers.specs.Judged.{props_of}
 use Rattle.rdl_layers.specs.Meanings.{prop_of}
+use Rattle.rdl_targets.proofs.Contained.{bytes-turn}
 use Rattle.rdl_dynamic.specs.Marked.{assigned_at}
 
 -- Tests of lists.
@@ -56,17 +56,6 @@ swap r [] ys = sym (any-false ys)
 swap r (x ∷ xs) ys = ap (λ b. list_any (r x) ys || b) (swap r xs ys) ∙ sym (any-or (r x) (λ y. list_any (λ z. r z y) xs) ys)
 
 -- Two paths are the same either way.
-
-bytes-turn : (xs ys : List ℕ) → bytes_eq xs ys ≡ bytes_eq ys xs
-bytes-turn xs ys = go (bytes_eq xs ys) (bytes_eq ys xs) refl refl
-  where
-    back : (as' bs : List ℕ) → bytes_eq as' bs ≡ true → bytes_eq bs as' ≡ true
-    back as' bs e = (bytes_decides bs as').1 (sym ((bytes_decides as' bs).0 e))
-
-    go : (a b : Bool) → bytes_eq xs ys ≡ a → bytes_eq ys xs ≡ b → bytes_eq xs ys ≡ bytes_eq ys xs
-    go true b e f = e ∙ sym (back xs ys e)
-    go false true e f = let h = back ys xs f in h ∙ sym f
-    go false false e f = e ∙ sym f
 
 both : (a b c d : Bool) → a ≡ b → c ≡ d → (a && c) ≡ (b && d)
 both a b c d e f = ap (λ x. x && c) e ∙ ap (λ x. b && x) f

@@ -1,2 +1,3 @@
 pub mod Indices
 pub mod Marked
+pub mod Written

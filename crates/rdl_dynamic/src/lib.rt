@@ -4,7 +4,9 @@
 mod indices;
 mod laws;
 mod targets;
+mod written;
 
 pub use indices::judge_indices;
 pub use laws::met_at_targets;
 pub use targets::{judge_kinds, judge_target};
+pub use written::{Written, written_among};

@@ -18,6 +18,7 @@ use Rattle.rdl_layers.specs.Judged.{all_failures, anywhere, failures_of, sound}
 use Rattle.rdl_assigned.specs.Defaults.{AreDefaults}
 use Rattle.rdl_assigned.specs.Layers.{AreGiven}
 use Rattle.rdl_assigned.specs.declared.set.Given.{Given}
+use Rattle.rdl_dynamic.specs.Written.{AreWritten}
 use Rattle.rdl_bodies.specs.Kept.{AreDistinct}
 use Rattle.rdl_bodies.specs.Sited.{IsOpenAs}
 use Rattle.rdl_bodies.specs.declared.bodies.Bodies.{Bodies}
@@ -55,10 +56,11 @@ abbrev pub AreLocals : Option Kind → List Given → values.Body → Type 0
 AreLocals None gs b = Unit {0}
 AreLocals (Some k) gs b = AreGiven 0 gs (sound (failures_of (λ p. is_legal p k)) (locals b))
 
--- What the assignments of a body give, those to its nodes and its defaults.
+-- What the assignments of a body give, those to its nodes and its defaults, and its dynamic ones.
 pub record IsLayersOf (l : Layers) (b : values.Body) : Type 0 where
   pub locals_are : AreLocals b.kind l.locals.items b
   pub defaults_are : AreDefaults l.defaults 0 b
+  pub dynamics_are : AreWritten l.dynamics.items b.items
 
 -- what is found under the number of a body
 abbrev pub layers_at : LayerTable → ℕ → Option Layers

@@ -12,6 +12,7 @@ use bumpalo::Bump;
 use rb_base::NoMemory;
 use rdl_assigned::{Defaults, Given, judge_defaults, judge_locals};
 use rdl_bodies::{Bodies, Body, table_of};
+use rdl_dynamic::{Written, written_among};
 use rdl_enums::judge_enums;
 use rdl_judging::Failures;
 use rdl_names::Outer;
@@ -19,11 +20,13 @@ use rdl_tree::{Item, Kind};
 use rdl_values::Chain;
 use std::alloc::Global;
 
-/// What the assignments of a body give that fail no rule: those to its nodes, in text order, and its defaults.
+/// What the assignments of a body give that fail no rule: those to its nodes, in text order, and its defaults. Beside them the dynamic
+/// assignments among its items, as they are written.
 #[derive(Drop)]
 pub struct Layers<'a> {
     pub locals: Vec<Given<'a>>,
     pub defaults: Defaults<'a>,
+    pub dynamics: Vec<Written<'a>>,
 }
 
 // The assignments of a body to its nodes, of which the root has none.
@@ -88,7 +91,7 @@ fn enums_of<'a>(
 }
 
 /// Puts in all failures of the assignments of a body to its nodes, of its defaults and of its enumerations' entries, and gives those to
-/// nodes and by default that fail none.
+/// nodes and by default that fail none, and its dynamic ones.
 pub(crate) fn layers_of<'a>(
     alloc: Global,
     arena: &'a Bump,
@@ -108,5 +111,10 @@ pub(crate) fn layers_of<'a>(
     let locals = locals_of(alloc, body.items, body.kind, &visible, failures)?;
     let defaults = judge_defaults(alloc, body.items, 0, &visible, failures)?;
     enums_of(alloc, arena, bodies, body, failures)?;
-    Ok(Layers { locals, defaults })
+    let dynamics = written_among(alloc, body.items)?;
+    Ok(Layers {
+        locals,
+        defaults,
+        dynamics,
+    })
 }

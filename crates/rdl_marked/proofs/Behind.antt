@@ -6,6 +6,7 @@ use Rattle.std.specs.Option.{option_or}
 use Rattle.std.proofs.lemmas.Bool.Decides.{nat_tests}
 use Rattle.std.proofs.lemmas.List.Folds.{find-append, list_any-append}
 use Rattle.std.proofs.lemmas.List.{map-set, get_or-set_same, get_or-set_other, get_or-map, take_more}
+use Rattle.rdl_props.specs.Same.{same_prop}
 use Rattle.rdl_values.specs.Instances.{Instance}
 use Rattle.rdl_assigned.specs.Layers.{IsGiven}
 use Rattle.rdl_assigned.specs.declared.set.Given.{Given}
@@ -49,8 +50,19 @@ or-twice None None = refl
 find-twice : (f : Applied → Bool) (xs ys : List Applied) → find f ((xs ++ ys) ++ ys) ≡ find f (xs ++ ys)
 find-twice f xs ys = find-append f (xs ++ ys) ys ∙ ap (λ o. option_or o (find f ys)) (find-append f xs ys) ∙ or-twice (find f xs) (find f ys) ∙ sym (find-append f xs ys)
 
+any-twice : (f : Applied → Bool) (xs ys : List Applied) → list_any f ((xs ++ ys) ++ ys) ≡ list_any f (xs ++ ys)
+any-twice f xs ys = list_any-append f (xs ++ ys) ys ∙ ap (λ b. b || list_any f ys) (list_any-append f xs ys) ∙ twice (list_any f xs) (list_any f ys) ∙ sym (list_any-append f xs ys)
+  where
+    twice : (a b : Bool) → ((a || b) || b) ≡ (a || b)
+    twice true b = refl
+    twice false true = refl
+    twice false false = refl
+
 once : (all : List Instance) (es : List Entry) (xs ys : List Applied) → AreEntries all es ((xs ++ ys) ++ ys) → AreEntries all es (xs ++ ys)
-once all es xs ys h = record { first = λ p. subst (Tells all (find (λ e. is_related p e.prop) es)) (find-twice (λ a. is_related p a.candidate.prop) xs ys) (h.first p) }
+once all es xs ys h = record {
+  assigned = λ p. h.assigned p ∙ any-twice (λ a. same_prop p a.candidate.prop) xs ys;
+  first = λ p. subst (Tells all (find (λ e. is_related p e.prop) es)) (find-twice (λ a. is_related p a.candidate.prop) xs ys) (h.first p);
+}
 
 -- Nodes one by one.
 

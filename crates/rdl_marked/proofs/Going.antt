@@ -1,21 +1,25 @@
 -- The dynamic assignments of a body, one by one.
-use Rattle.std.proofs.Common.{◌≡◌, ◌∙◌, ℕ, ◌+◌, ◌<◌, ◌≤◌, Bool, true, false, cond, List, [], ◌∷◌, ◌++◌, length, get_or, take, map, filter, flat_map, append-nil, append_assoc, Some, is_some, Vec, refl, sym, ap, subst}
+use Rattle.std.proofs.Common.{◌≡◌, ◌∙◌, ℕ, zero, suc, ◌+◌, ◌<◌, ◌≤◌, Bool, true, false, cond, List, [], ◌∷◌, ◌++◌, length, get_or, take, map, filter, flat_map, append-nil, append_assoc, add-one, Some, is_some, Vec, refl, sym, ap, subst, arith}
 use Rattle.std.specs.Global.{Global}
 use Rattle.std.proofs.lemmas.Grind.{flat_map-append}
-use Rattle.std.proofs.lemmas.List.{map-append, take_all, take_more}
+use Rattle.std.proofs.lemmas.List.{map-append, take_all}
 use Rattle.std.proofs.lemmas.List.Elements.{filter-append}
 use Rattle.rb_base.specs.declared.fault.Fault.{Fault}
+use Rattle.rdl_tree.specs.declared.expr.Path.{Path}
 use Rattle.rdl_tree.specs.declared.item.Item.{Item}
+use Rattle.rdl_tree.specs.declared.item.Set.{Set}
 use Rattle.rdl_tree.specs.declared.node.Elab.{Elab}
-use Rattle.rdl_values.specs.Bodies.{scope_at, standing}
+use Rattle.rdl_values.specs.Bodies.{scope_at, standing, standing_from}
 use Rattle.rdl_values.specs.Elaborated.{nodes_of, top_name}
 use Rattle.rdl_values.specs.Instances.{Instance, body}
 use Rattle.rdl_values.specs.Lineages.{lineages_of}
 use Rattle.rdl_values.specs.Parts.{is_empty}
+use Rattle.rdl_values.specs.Views as view
+use Rattle.rdl_values.specs.Views.{ItemIs, item_is}
 use Rattle.rdl_judging.specs.Noted.{with_all}
 use Rattle.rdl_judging.proofs.Noting.{standing-push}
 use Rattle.rdl_judging.proofs.Sets.{with_all-append}
-use Rattle.rdl_layers.specs.Assignments.{Dynamic, Nested, is_among, targets}
+use Rattle.rdl_layers.specs.Assignments.{Dynamic, Nested, dynamic_in, dynamics, is_among, targets}
 use Rattle.rdl_layers.specs.Judged.{all_failures, failures_of_dynamic, sound}
 use Rattle.rdl_layers.specs.Says.{IsScopeNumber}
 use Rattle.rdl_layers.specs.Settings.{Applied, gives}
@@ -25,9 +29,11 @@ use Rattle.rdl_layers.specs.declared.rank.Rank.TheVariants as rank
 use Rattle.rdl_assigned.specs.Layers.{IsGiven}
 use Rattle.rdl_assigned.specs.declared.set.Given.{Given}
 use Rattle.rdl_above.specs.Nested.{nested}
+use Rattle.rdl_dynamic.specs.Written.{AreWritten, parts_of, written_in}
+use Rattle.rdl_dynamic.specs.declared.written.Written.{Written}
 use Rattle.rdl_merged.specs.Merged.{AreEntries}
 use Rattle.rdl_targets.specs.At.{AreAt, IsAt}
-use Rattle.rdl_marked.specs.Given.{IsGoing, given_to}
+use Rattle.rdl_marked.specs.Given.{IsGoing, dynamic_of, given_to}
 use Rattle.rdl_marked.specs.Judged.{IsLed}
 use Rattle.rdl_marked.specs.Marks.{AreMarks}
 use Rattle.rdl_marked.specs.Pushed.{PushesAll}
@@ -118,14 +124,59 @@ pub puts-none : (e : Elab) (n : Instance) (before : List (Vec Entry Global)) (d 
 puts-none e n before d j m xs old = subst (AreEntries (nodes_of e) (entries_at before j)) (sym (append-nil xs)) old
 
 -- Item by item.
-pub items-more : (g : List Item × Item → List Dynamic) (xs : List Item) (i : ℕ) (d : Item) → i < length xs → flat_map g (standing (take i xs)) ++ g (take i xs, get_or xs i d) ≡ flat_map g (standing (take (i + 1) xs))
-items-more g xs i d l =
-    sym (ap (λ ys. flat_map g (standing ys)) (take_more xs i d l) ∙ ap (flat_map g) (standing-push (take i xs) (get_or xs i d)) ∙ flat_map-append g (standing (take i xs)) ((take i xs, get_or xs i d) ∷ []) ∙ ap (λ ys. flat_map g (standing (take i xs)) ++ ys) (append-nil (g (take i xs, get_or xs i d))))
 
-pub go-step : (e : Elab) (n : Instance) (m : Marks) (first now : List (Vec Entry Global)) (s t : List Fault) (g : List Item × Item → List Dynamic) (xs : List Item) (i : ℕ) (x : Item) → i < length xs → x ≡ get_or xs i x
-    → IsGoing e n m first now s t (flat_map g (standing (take i xs)) ++ g (take i xs, x)) → IsGoing e n m first now s t (flat_map g (standing (take (i + 1) xs)))
-go-step e n m first now s t g xs i x l at h = subst (IsGoing e n m first now s t) (ap (λ z. flat_map g (standing (take i xs)) ++ g (take i xs, z)) at ∙ items-more g xs i x l) h
+-- In the body of a node these assignments are so written.
+abbrev pub AreOf : Instance → List (Path × Set) → List Dynamic → Type 0
+AreOf n [] [] = Unit {0}
+AreOf n (p ∷ ps) (d ∷ ds) = ((before : List Item) × (d ≡ dynamic_of n before p.0 p.1)) × AreOf n ps ds
+AreOf n _ _ = ⊥
 
-pub go-all : (e : Elab) (n : Instance) (m : Marks) (first now : List (Vec Entry Global)) (s t : List Fault) (g : List Item × Item → List Dynamic) (xs ys : List Item) (i : ℕ) → length xs ≤ i → ys ≡ xs
-    → IsGoing e n m first now s t (flat_map g (standing (take i xs))) → IsGoing e n m first now s t (flat_map g (standing ys))
-go-all e n m first now s t g xs ys i l e' h = subst (λ zs. IsGoing e n m first now s t (flat_map g (standing zs))) (take_all i xs l ∙ sym e') h
+of-append : (n : Instance) (ps qs : List (Path × Set)) (ds es : List Dynamic) → AreOf n ps ds → AreOf n qs es → AreOf n (ps ++ qs) (ds ++ es)
+of-append n [] qs [] es h k = k
+of-append n (p ∷ ps) qs (d ∷ ds) es h k = (h.0, of-append n ps qs ds es h.1 k)
+of-append n [] qs (d ∷ ds) es h k = absurd h
+of-append n (p ∷ ps) qs [] es h k = absurd h
+
+of-item : (n : Instance) (before : List Item) (i : Item) → AreOf n (written_in (item_is i)) (dynamic_in (body n) (before, i))
+of-item n before i = go (item_is i) refl
+  where
+    go : (v : ItemIs) → item_is i ≡ v → AreOf n (written_in (item_is i)) (dynamic_in (body n) (before, i))
+    go (view.dynamic p s) e = rw e ((before, refl), tt)
+    go v e = rw e tt
+
+of-items : (n : Instance) (before items : List Item) → AreOf n (flat_map (λ i. written_in (item_is i)) items) (flat_map (dynamic_in (body n)) (standing_from before items))
+of-items n before [] = tt
+of-items n before (i ∷ is) = of-append n (written_in (item_is i)) (flat_map (λ j. written_in (item_is j)) is) (dynamic_in (body n) (before, i)) (flat_map (dynamic_in (body n)) (standing_from (before ++ (i ∷ [])) is)) (of-item n before i) (of-items n (before ++ (i ∷ [])) is)
+
+pub of-body : (n : Instance) (ws : List Written) → AreWritten ws (body n).items → AreOf n (map parts_of ws) (dynamics (body n))
+of-body n ws h = subst (λ ps. AreOf n ps (dynamics (body n))) (sym h) (of-items n [] (body n).items)
+
+-- the one of a place
+record IsNth (n : Instance) (w : Written) (ds : List Dynamic) (i : ℕ) : Type 0 where
+  before : List Item
+  more : take (suc i) ds ≡ take i ds ++ (dynamic_of n before w.target.now w.assigned.now ∷ [])
+
+nth-of : (n : Instance) (ws : List Written) (ds : List Dynamic) (i : ℕ) (d : Written) → i < length ws → AreOf n (map parts_of ws) ds → IsNth n (get_or ws i d) ds i
+nth-of n [] ds i d l h = absurd (omega (arith, l))
+nth-of n (w ∷ ws) [] i d l h = absurd h
+nth-of n (w ∷ ws) (x ∷ ds) zero d l h = record { before = h.0.0; more = ap (λ y. y ∷ []) h.0.1 }
+nth-of n (w ∷ ws) (x ∷ ds) (suc i) d l h =
+    let next = nth-of n ws ds i d (omega (arith, l)) h.1 in
+    record { before = next.before; more = ap (λ xs. x ∷ xs) next.more }
+
+pub all-of : (n : Instance) (ws : List Written) (ds : List Dynamic) (i : ℕ) → length ws ≤ i → AreOf n (map parts_of ws) ds → take i ds ≡ ds
+all-of n [] [] i l h = take_all i [] l
+all-of n [] (x ∷ ds) i l h = absurd h
+all-of n (w ∷ ws) [] i l h = absurd h
+all-of n (w ∷ ws) (x ∷ ds) zero l h = absurd (omega (arith, l))
+all-of n (w ∷ ws) (x ∷ ds) (suc i) l h = ap (λ xs. x ∷ xs) (all-of n ws ds i (omega (arith, l)) h.1)
+
+pub none-yet : (e : Elab) (n : Instance) (m : Marks) (es : List (Vec Entry Global)) (fs : List Fault) (ds : List Dynamic) → AreMarks (lineages_of e) (nested n) m [] → IsGoing e n m es es fs fs (take 0 ds)
+none-yet e n m es fs [] h = go-none e n m es fs h
+none-yet e n m es fs (d ∷ ds) h = go-none e n m es fs h
+
+pub go-next : (e : Elab) (n : Instance) (m : Marks) (first now : List (Vec Entry Global)) (s t : List Fault) (ws : List Written) (ds : List Dynamic) (i : ℕ) (d : Written) → i < length ws → AreOf n (map parts_of ws) ds
+    → ((before : List Item) → IsGoing e n m first now s t (take i ds ++ (dynamic_of n before (get_or ws i d).target.now (get_or ws i d).assigned.now ∷ []))) → IsGoing e n m first now s t (take (i + 1) ds)
+go-next e n m first now s t ws ds i d l of step =
+    let one = nth-of n ws ds i d l of in
+    subst (IsGoing e n m first now s t) (sym (ap (λ k. take k ds) (add-one i) ∙ one.more)) (step one.before)

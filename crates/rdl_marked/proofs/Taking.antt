@@ -8,21 +8,24 @@ use Rattle.std.proofs.lemmas.List.Folds.{list_any-append}
 use Rattle.rb_base.specs.declared.fault.Fault.{Fault}
 use Rattle.rb_base.specs.declared.place.Place.{Place}
 use Rattle.rb_base.specs.declared.rule.Rule.TheVariants as rules
+use Rattle.rdl_tree.specs.declared.expr.Path.{Path as Code}
 use Rattle.rdl_tree.specs.declared.item.Source.{Source}
 use Rattle.rdl_tree.specs.declared.node.Elab.{Elab}
 use Rattle.rdl_props.specs.declared.prop.Prop.{Prop}
 use Rattle.rdl_props.specs.Same.{same_prop}
+use Rattle.rdl_values.specs.Bodies.{around}
 use Rattle.rdl_values.specs.Elaborated.{top_name}
 use Rattle.rdl_values.specs.Faults.{at_, failures, when}
-use Rattle.rdl_values.specs.Instances.{Instance, nodes}
+use Rattle.rdl_values.specs.Instances.{Instance, children, nodes}
 use Rattle.rdl_values.specs.Lineages.{Lineage, lineages, lineages_of}
 use Rattle.rdl_values.specs.Parts.{is_empty}
+use Rattle.rdl_values.specs.Views.{steps_of}
 use Rattle.rdl_nodes.proofs.Lineages.{all_nodes}
 use Rattle.rdl_nodes.proofs.Paths.{paths_differ}
 use Rattle.rdl_lineages.proofs.Members.{get-read, get-within}
 use Rattle.rdl_judging.specs.Noted.{IsNoted, with_all}
 use Rattle.rdl_judging.proofs.Noting.{both_noted, noted_as}
-use Rattle.rdl_layers.specs.Assignments.{Dynamic, Nested, is_among, meet, same_path, targets}
+use Rattle.rdl_layers.specs.Assignments.{Dynamic, Nested, is_among, is_step, led_down, meet, members, same_path, targets}
 use Rattle.rdl_layers.specs.Judged.{against, bad_indices, bad_value, failures_of_dynamic, illegal, legal_on, no_target, props_of, taken, unknown}
 use Rattle.rdl_layers.specs.Meanings.{Assignment, meaning, prop_of}
 use Rattle.rdl_layers.specs.Ranks.{is_related}
@@ -35,6 +38,10 @@ use Rattle.rdl_above.proofs.Spared.{other-path, same-self}
 use Rattle.rdl_marked.specs.Judged.{known_fails}
 use Rattle.rdl_marked.specs.Marks.{AreMarks, is_marked}
 use Rattle.rdl_marked.specs.declared.marks.Marks.{Marks}
+
+-- the targets of an assignment in the body of a node
+pub led-at : (e : Elab) (b : Nested) (d : Dynamic) (path : Code) (n : Instance) (ks : List ℕ) → members b ≡ children n → d.steps ≡ steps_of path → AreAt (lineages_of e) ks (led_down children (is_step (around d.assigns.scope)) (children n) (steps_of path)) → AreAt (lineages_of e) ks (targets b d)
+led-at e b d path n ks inside steps h = subst (AreAt (lineages_of e) ks) (λ i. led_down children (is_step (around d.assigns.scope)) (sym inside i) (sym steps i)) h
 
 -- P4 and P5.
 

@@ -5,6 +5,7 @@ use Rattle.rdl_tree.specs.declared.expr.Path.{Path}
 use Rattle.rdl_tree.specs.declared.item.Set.{Set}
 use Rattle.rdl_tree.specs.declared.node.Elab.{Elab}
 use Rattle.rdl_values.specs.Bodies.{around}
+use Rattle.rdl_values.specs.Instances.{Instance, children}
 use Rattle.rdl_values.specs.Lineages.{lineages_of}
 use Rattle.rdl_values.specs.Views.{steps_of}
 use Rattle.rdl_values.specs.declared.chain.Chain.{Chain}
@@ -15,7 +16,9 @@ use Rattle.rdl_judging.specs.Shown.{IsShown}
 use Rattle.rdl_layers.specs.Assignments.{Dynamic, Nested, meet, members, targets}
 use Rattle.rdl_layers.specs.Judged.{bad_value, failures_of_dynamic, illegal, legal_on, taken}
 use Rattle.rdl_assigned.specs.Layers.{IsGiven}
-use Rattle.rdl_targets.specs.At.{AreAt}
+use Rattle.rdl_targets.specs.At.{AreAt, IsAt}
+use Rattle.rdl_targets.specs.Contents.{AreContents}
+use Rattle.rdl_targets.specs.declared.contents.Contents.{Contents}
 use Rattle.rdl_marked.specs.Marks.{AreMarks}
 use Rattle.rdl_marked.specs.declared.dynamic.Led.{Led}
 use Rattle.rdl_marked.specs.declared.marks.Marks.{Marks}
@@ -24,11 +27,14 @@ use Rattle.rdl_marked.specs.declared.marks.Marks.{Marks}
 abbrev pub known_fails : Nested → List Dynamic → Dynamic → List Fault
 known_fails b earlier d = flat_map (λ n. illegal (legal_on n) d.assigns) (targets b d) ++ bad_value d.assigns ++ taken (map (λ x. x.assigns) (filter (meet b d) earlier)) d.assigns
 
--- The assignment has this text, in a body of which these are the nodes, and stands behind the marked ones.
-pub record CanLead (e : Elab) (rows : List Row) (inside : List ℕ) (path : Path) (set_ : Set) (visible : Chain) (marks : Marks) (b : Nested) (earlier : List Dynamic) (d : Dynamic) : Type 0 where
+-- The assignment has this text, in the body of the node of this number, and stands behind the marked ones.
+pub record CanLead (e : Elab) (rows : List Row) (contents : Contents) (body : ℕ) (path : Path) (set_ : Set) (visible : Chain) (marks : Marks) (b : Nested) (earlier : List Dynamic) (d : Dynamic) : Type 0 where
   pub are_rows : AreRows e rows
+  pub are_contents : AreContents e contents
   pub are_marks : AreMarks (lineages_of e) b marks earlier
-  pub are_inside : AreAt (lineages_of e) inside (members b)
+  pub of : Instance
+  pub here : IsAt (lineages_of e) body of
+  pub inside : members b ≡ children of
   pub steps : d.steps ≡ steps_of path
   pub sets : d.assigns.set_ ≡ set_
   pub shown : IsShown visible (around d.assigns.scope)

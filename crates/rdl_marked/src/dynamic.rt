@@ -25,7 +25,7 @@ use rdl_judging::Failures;
 use rdl_layers::Setting;
 use rdl_meanings::meaning_of;
 use rdl_props::{Prop, find, left_out};
-use rdl_targets::targets;
+use rdl_targets::{Contents, targets};
 use rdl_tree::{Path, Set};
 use rdl_values::Chain;
 use std::alloc::Global;
@@ -126,11 +126,11 @@ fn given_by<'a>(clean: bool, prop: Prop, setting: Option<Setting<'a>>) -> Option
     }
 }
 
-/// Judges a dynamic assignment behind those of its body that are marked, and marks its targets. The nodes of the body are `inside`.
+/// Judges a dynamic assignment behind those of its body that are marked, and marks its targets.
 pub(crate) fn judge_dynamic<'a>(
     alloc: Global,
     rows: &[Row<'a>],
-    inside: &[u32],
+    contents: &Contents<'a>,
     path: &Path<'a>,
     set: &Set<'a>,
     body: u32,
@@ -138,9 +138,9 @@ pub(crate) fn judge_dynamic<'a>(
     marks: &mut Marks,
     failures: &mut Failures,
 ) -> Result<Led<'a>, NoMemory>
-    ensures { IfOk result (λ r. (e : Elab) (b : Nested) (earlier : List Dynamic) (d : Dynamic) → CanLead e rows.now inside.now path.now set.now visible.now marks.old b earlier d → IsLed e body b earlier d r marks.new failures.old failures.new) }
+    ensures { IfOk result (λ r. (e : Elab) (b : Nested) (earlier : List Dynamic) (d : Dynamic) → CanLead e rows.now contents.now body path.now set.now visible.now marks.old b earlier d → IsLed e body b earlier d r marks.new failures.old failures.new) }
 {
-    let nodes = targets(alloc, rows, inside, path, visible)?;
+    let nodes = targets(alloc, contents, body, path, visible)?;
     let found = find(set.prop.text);
     let clean = judge_path(path, set, found.is_some(), &nodes, visible, failures)?;
     let Some(prop) = found else {

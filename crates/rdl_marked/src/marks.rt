@@ -119,6 +119,9 @@ impl Marks {
     fn add(&mut self, alloc: Global, node: u32, prop: Prop) -> Result<(), NoMemory>
         ensures { OnOk result ((other : ℕ) (f : AnyProp → Bool) → is_marked self.new other f ≡ (is_marked self.old other f || ((node == other) && f prop))) }
     {
+        if self.has(node, prop) {
+            return Ok(());
+        }
         let props = with_prop(self.take(alloc, node)?, prop)?;
         self.put(node, props)
     }

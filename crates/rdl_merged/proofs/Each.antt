@@ -1,13 +1,12 @@
 -- What the assignments of a layer give, one by one.
-use Rattle.std.proofs.Common.{◌≡◌, ◌∙◌, ℕ, zero, suc, ◌+◌, ◌<◌, ◌≤◌, Bool, true, false, cond, List, [], ◌∷◌, ◌++◌, length, get_or, take, map, filter, flat_map, append-nil, append_assoc, add-one, Result, Ok, Err, OnOk, option_to_list, refl, sym, ap, subst, arith}
-use Rattle.std.specs.List.{AllByRecursion}
+use Rattle.std.proofs.Common.{◌≡◌, ◌∙◌, ℕ, zero, suc, ◌+◌, ◌<◌, ◌≤◌, Bool, cond, List, [], ◌∷◌, ◌++◌, length, get_or, take, map, filter, flat_map, append-nil, append_assoc, add-one, Result, Ok, Err, OnOk, option_to_list, refl, sym, ap, subst, arith}
 use Rattle.std.proofs.lemmas.Grind.{flat_map-append}
 use Rattle.std.proofs.lemmas.List.{take_all}
 use Rattle.std.proofs.lemmas.List.Elements.{filter-append}
 use Rattle.rdl_props.specs.Table.{is_legal}
 use Rattle.rdl_tree.specs.declared.item.Kind.{Kind}
 use Rattle.rdl_values.specs.Instances.{Instance}
-use Rattle.rdl_layers.specs.Meanings.{Assignment, meaning, prop_of}
+use Rattle.rdl_layers.specs.Meanings.{Assignment, meaning}
 use Rattle.rdl_layers.specs.Says.{IsScopeNumber}
 use Rattle.rdl_layers.specs.Settings.{Applied, applied, given, gives}
 use Rattle.rdl_layers.specs.declared.props.Entry.{Entry}

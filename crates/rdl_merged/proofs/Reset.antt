@@ -1,5 +1,5 @@
 -- The instance's own value.
-use Rattle.std.proofs.Common.{◌≡◌, ◌∙◌, [], map, flat_map, append-nil, Option, None, Some, option_to_list, ap}
+use Rattle.std.proofs.Common.{◌≡◌, ◌∙◌, [], map, flat_map, append-nil, None, Some, option_to_list, ap}
 use Rattle.rdl_props.specs.declared.prop.Prop.TheVariants as prop
 use Rattle.rdl_tree.specs.declared.expr.Expr.{Expr}
 use Rattle.rdl_values.specs.Bodies.{around}

@@ -7,7 +7,7 @@ use Rattle.rdl_props.specs.Table as table
 use Rattle.rdl_props.specs.declared.prop.Prop.{Prop}
 use Rattle.rdl_props.specs.declared.prop.Prop.TheVariants as prop
 use Rattle.rdl_values.specs.Instances.{Instance}
-use Rattle.rdl_layers.specs.Forms.{Meaning, unset, flag, number, text, named, intr, hard, enum_of, reference}
+use Rattle.rdl_layers.specs.Forms.{Meaning, unset, flag}
 use Rattle.rdl_layers.specs.Ranks.{is_related}
 use Rattle.rdl_layers.specs.Says.{Says}
 use Rattle.rdl_layers.specs.Settings.{Applied, applied, applied_to, deciding_of, is_false, meaning_of_default, setting, setting_or, settled, settled_if}

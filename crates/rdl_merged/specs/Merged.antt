@@ -1,6 +1,7 @@
 -- What decides the properties of a node, in the code and in the definitions.
 use Rattle.std.specs.Prelude.{◌≡◌, ℕ, List, [], ◌∷◌, find, Option, None, Some}
-use Rattle.std.specs.List.{AllByRecursion}
+use Rattle.std.specs.List.{AllByRecursion, list_any}
+use Rattle.rdl_props.specs.Same.{same_prop}
 use Rattle.rdl_props.specs.declared.prop.Prop.{Prop}
 use Rattle.rdl_values.specs.Instances.{Instance}
 use Rattle.rdl_layers.specs.Ranks.{is_related}
@@ -21,8 +22,9 @@ Tells all None None = Unit {0}
 Tells all (Some e) (Some a) = IsEntry all e a
 Tells all _ _ = ⊥
 
--- For each property the first related entry tells of the first related assignment.
+-- For each property the first related entry tells of the first related assignment, and there is an entry of it where it is assigned.
 pub record AreEntries (all : List Instance) (es : List Entry) (xs : List Applied) : Type 0 where
+  pub assigned : (p : Prop) → list_any (λ e. same_prop p e.prop) es ≡ list_any (λ a. same_prop p a.candidate.prop) xs
   pub first : (p : Prop) → Tells all (find (λ e. is_related p e.prop) es) (find (λ a. is_related p a.candidate.prop) xs)
 
 -- The entry is the one that an assignment gives at this rank.

@@ -6,7 +6,7 @@ mod instance;
 mod laws;
 mod layers;
 
-pub use adding::add_entry;
+pub use adding::{add_entry, has_entry};
 pub use instance::add_reset;
 pub use laws::entries_say;
 pub use layers::{add_defaults, add_given};

@@ -1,6 +1,7 @@
 -- What the bodies of nodes assign, one after the other.
 use Rattle.std.proofs.Common.{◌≡◌, ◌∙◌, ℕ, zero, suc, ◌+◌, ◌<◌, ◌≤◌, List, [], ◌∷◌, ◌++◌, flat_map, get_or, length, map, take, None, Some, Vec, option_map, slice_get, add-one, refl, sym, ap, subst, arith, append-nil}
 use Rattle.std.specs.Global.{Global}
+use Rattle.std.specs.List.{AllByRecursion}
 use Rattle.std.proofs.lemmas.Grind.{flat_map-append}
 use Rattle.std.proofs.lemmas.List.{length-map, map-append, take_all}
 use Rattle.std.proofs.lemmas.Option.{slice_get-map}
@@ -30,6 +31,10 @@ use Rattle.rdl_bodies.specs.declared.bodies.Body.{Body}
 use Rattle.rdl_opened.specs.Spots.{AreSpots, IsOpenAt, IsOpenTree, IsSpot}
 use Rattle.rdl_opened.specs.declared.spots.OpenTree.{OpenTree}
 use Rattle.rdl_opened.specs.declared.spots.Spot.{Spot}
+use Rattle.rdl_layered.specs.Layered.{AreLayers, AreLayersOf, HasLayers, layers_at}
+use Rattle.rdl_layered.specs.declared.layers.Layers.{Layers}
+use Rattle.rdl_layered.specs.declared.table.LayerTable.{LayerTable}
+use Rattle.rdl_dynamic.specs.Written.{AreWritten}
 use Rattle.rdl_targets.specs.At.{IsAt}
 use Rattle.rdl_settle.specs.Gathered.{AreAssigned, IsAssigned, of_dynamics}
 
@@ -144,29 +149,37 @@ pub none_push : (vs : List (Vec Entry Global)) (v : Vec Entry Global) → v.item
 none_push vs v e h j = items-push vs v j e (h j)
 
 pub no_entries_tell : (e : Elab) → AreEntries (nodes_of e) [] []
-no_entries_tell e = record { first = λ p. tt }
+no_entries_tell e = record { assigned = λ p. refl; first = λ p. tt }
 
 -- What the loop over the rows keeps.
 
-abbrev pub AssignedTo : List Row → OpenTree → List Fault → ℕ → List (Vec Entry Global) → List Fault → Type 0
-AssignedTo xs tree start i es now = (e : Elab) → IsClean e → AreRows e xs → IsOpenTree e tree → AreAssigned e (take i (nodes_of e)) es start now
+abbrev pub AssignedTo : List Row → OpenTree → LayerTable → List Fault → ℕ → List (Vec Entry Global) → List Fault → Type 0
+AssignedTo xs tree layers start i es now = (e : Elab) (first held : List Fault) → IsClean e → AreRows e xs → IsOpenTree e tree → AreLayersOf e tree layers first held → AreAssigned e (take i (nodes_of e)) es start now
 
-pub to_none : (xs : List Row) (tree : OpenTree) (start : List Fault) (es : List (Vec Entry Global)) → length es ≡ length xs → ((j : ℕ) → entries_at es j ≡ []) → AssignedTo xs tree start 0 es start
-to_none xs tree start es size none = λ e clean rows open_. of e (nodes_of e) (assigned_none e es start (size ∙ rows_count e xs clean rows) none (no_entries_tell e))
+pub to_none : (xs : List Row) (tree : OpenTree) (layers : LayerTable) (start : List Fault) (es : List (Vec Entry Global)) → length es ≡ length xs → ((j : ℕ) → entries_at es j ≡ []) → AssignedTo xs tree layers start 0 es start
+to_none xs tree layers start es size none = λ e first held clean rows open_ layered. of e (nodes_of e) (assigned_none e es start (size ∙ rows_count e xs clean rows) none (no_entries_tell e))
   where
     of : (e : Elab) (ns : List Instance) → AreAssigned e [] es start start → AreAssigned e (take 0 ns) es start start
     of e [] h = h
     of e (n ∷ ns) h = h
 
-pub to_more : (xs : List Row) (tree : OpenTree) (start : List Fault) (i : ℕ) (d : Row) (o : Spot) (es fs : List (Vec Entry Global)) (before after : List Fault) → i < length xs → slice_get tree.spots.items i ≡ Some o → AssignedTo xs tree start i es before
-    → ((e : Elab) (n : Instance) → AreRows e xs → IsAt (lineages_of e) (out-Node (get_or xs i d).node.now).id n → IsSpot e tree.walk.bodies o n → IsAssigned e n es fs before after) → AssignedTo xs tree start (i + 1) fs after
-to_more xs tree start i d o es fs before after l listed h one = λ e clean rows open_.
+has-layers : (x : LayerTable) (os : List Spot) (i : ℕ) (o : Spot) → AllByRecursion (λ p. HasLayers x p.body) os → slice_get os i ≡ Some o → HasLayers x o.body
+has-layers x [] i o h at = cc
+has-layers x (p ∷ os) zero o h at = let same : p ≡ o = cc in subst (λ q. HasLayers x q.body) same h.0
+has-layers x (p ∷ os) (suc i) o h at = has-layers x os i o h.1 at
+
+pub to_more : (xs : List Row) (tree : OpenTree) (layers : LayerTable) (start : List Fault) (i : ℕ) (d : Row) (o : Spot) (es fs : List (Vec Entry Global)) (before after : List Fault) → i < length xs → slice_get tree.spots.items i ≡ Some o → AssignedTo xs tree layers start i es before
+    → ((e : Elab) (n : Instance) (held : List Fault) → AreRows e xs → AreLayers tree.walk.bodies held layers → HasLayers layers o.body → IsAt (lineages_of e) (out-Node (get_or xs i d).node.now).id n → IsSpot e tree.walk.bodies o n → IsAssigned e n es fs before after)
+    → AssignedTo xs tree layers start (i + 1) fs after
+to_more xs tree layers start i d o es fs before after l listed h one = λ e first held clean rows open_ layered.
     let r = row_found e tree.walk.bodies tree.spots.items xs i d l rows open_.nodes_ in
     let both : Some r.o ≡ Some o = sym r.listed ∙ listed in
     let same : r.o ≡ o = cc in
     let at = subst (λ k. IsAt (lineages_of e) k r.n) (sym r.number) r.there in
     let all : take (i + 1) (nodes_of e) ≡ take i (nodes_of e) ++ (r.n ∷ []) = ap (λ k. take k (nodes_of e)) (add-one i) ∙ r.more in
-    subst (λ ns. AreAssigned e ns fs start after) (sym all) (assigned_more e (take i (nodes_of e)) r.n es fs start before after (h e clean rows open_) (one e r.n rows at (subst (λ p. IsSpot e tree.walk.bodies p r.n) same r.spot)))
+    subst (λ ns. AreAssigned e ns fs start after) (sym all)
+    (assigned_more e (take i (nodes_of e)) r.n es fs start before after (h e first held clean rows open_ layered)
+    (one e r.n held rows layered.all (has-layers layers tree.spots.items i o layered.nodes_ listed) at (subst (λ p. IsSpot e tree.walk.bodies p r.n) same r.spot)))
 
 pub no_spot : (e : Elab) (xs : List Row) (tree : OpenTree) (i : ℕ) (d : Row) → i < length xs → AreRows e xs → IsOpenTree e tree → slice_get tree.spots.items i ≡ None → ⊥
 no_spot e xs tree i d l rows open_ none =
@@ -174,12 +187,20 @@ no_spot e xs tree i d l rows open_ none =
     let both : Some r.o ≡ None = sym r.listed ∙ none in
     cc
 
-pub to_all : (xs : List Row) (tree : OpenTree) (start : List Fault) (i : ℕ) (es : List (Vec Entry Global)) (now : List Fault) → length xs ≤ i → AssignedTo xs tree start i es now → (e : Elab) → IsClean e → AreRows e xs → IsOpenTree e tree → AreAssigned e (nodes_of e) es start now
-to_all xs tree start i es now l h = λ e clean rows open_.
+pub to_all : (xs : List Row) (tree : OpenTree) (layers : LayerTable) (start : List Fault) (i : ℕ) (es : List (Vec Entry Global)) (now : List Fault) → length xs ≤ i → AssignedTo xs tree layers start i es now
+    → (e : Elab) (first held : List Fault) → IsClean e → AreRows e xs → IsOpenTree e tree → AreLayersOf e tree layers first held → AreAssigned e (nodes_of e) es start now
+to_all xs tree layers start i es now l h = λ e first held clean rows open_ layered.
     let a = rows_count e xs clean rows in
     let b = counted (Some (top_name e)) e.source.now e clean.elaborated.tree in
-    subst (λ ns. AreAssigned e ns es start now) (take_all i (nodes_of e) (omega (arith, a, b, l))) (h e clean rows open_)
+    subst (λ ns. AreAssigned e ns es start now) (take_all i (nodes_of e) (omega (arith, a, b, l))) (h e first held clean rows open_ layered)
 
 -- The body that is open at a number.
 pub own_is : (t : Bodies) (k : ℕ) (x : Body) (b : values.Body) → IsOpenAt t k b → slice_get t.list.items k ≡ Some x → IsOpenAs t x b
 own_is t k x b h at = let both : Some h.open_ ≡ Some x = sym h.here ∙ at in let same : h.open_ ≡ x = cc in subst (λ y. IsOpenAs t y b) same h.is
+
+-- The dynamic assignments of a body are found with its layers.
+pub written_found : (t : Bodies) (held : List Fault) (x : LayerTable) (k : ℕ) (l : Layers) (b : values.Body) → AreLayers t held x → layers_at x k ≡ Some l → IsOpenAt t k b → AreWritten l.dynamics.items b.items
+written_found t held x k l b known here open_ = (known.known k l here b open_).1.dynamics_are
+
+pub no_layers : (x : LayerTable) (k : ℕ) → HasLayers x k → layers_at x k ≡ None → ⊥
+no_layers x k has none = let both : Some has.0 ≡ None = sym has.1 ∙ none in cc

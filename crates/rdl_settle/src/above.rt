@@ -1,6 +1,7 @@
 //! What the bodies of all nodes assign to nodes below them.
 
-ghost use Rattle.std.specs.Prelude.{◌≡◌, [], ℕ, IfOk, OnOk, length, slice_get};
+ghost use Rattle.std.specs.Prelude.{◌≡◌, [], ℕ, IfOk, List, OnOk, length, slice_get};
+ghost use Rattle.rb_base.specs.declared.fault.Fault.{Fault};
 ghost use Rattle.rdl_tree.specs.declared.node.Elab.{Elab};
 ghost use Rattle.rdl_tree.specs.declared.node.Node.{out-Node};
 ghost use Rattle.rdl_values.specs.Elaborated.{nodes_of};
@@ -10,15 +11,19 @@ ghost use Rattle.rdl_values.specs.Lineages.{lineages_of};
 ghost use Rattle.rdl_index.specs.Rows.{AreRows};
 ghost use Rattle.rdl_layers.specs.Tables.{entries_at};
 ghost use Rattle.rdl_opened.specs.Spots.{IsOpenTree, IsSpot};
+ghost use Rattle.rdl_layered.specs.Layered.{AreLayers, AreLayersOf, HasLayers};
 ghost use Rattle.rdl_targets.specs.At.{IsAt};
+ghost use Rattle.rdl_targets.specs.Contents.{AreContents};
 ghost use Rattle.rdl_settle.specs.Gathered.{AreAssigned, IsAssigned};
 
 use rb_base::NoMemory;
 use rdl_index::Row;
 use rdl_judging::Failures;
+use rdl_layered::LayerTable;
 use rdl_layers::Entry;
 use rdl_marked::judge_dynamics;
 use rdl_opened::{OpenTree, Spot};
+use rdl_targets::{Contents, contents_of};
 use rdl_values::Chain;
 use std::alloc::Global;
 
@@ -39,16 +44,22 @@ fn no_entries<'a>(alloc: Global, count: usize) -> Result<Vec<Vec<Entry<'a>>>, No
 fn assign<'a>(
     alloc: Global,
     rows: &[Row<'a>],
+    contents: &Contents<'a>,
     row: &Row<'a>,
     tree: &OpenTree<'a>,
+    layers: &LayerTable<'a>,
     spot: &Spot,
     entries: &mut Vec<Vec<Entry<'a>>>,
     failures: &mut Failures,
 ) -> Result<(), NoMemory>
-    ensures { OnOk result ((e : Elab) (n : Instance) → AreRows e rows.now → IsAt (lineages_of e) (out-Node row.now.node.now).id n → IsSpot e tree.now.walk.bodies spot.now n → IsAssigned e n entries.old.items entries.new.items failures.old failures.new) }
+    ensures { OnOk result ((e : Elab) (n : Instance) (held : List Fault) → AreRows e rows.now → AreContents e contents.now → AreLayers tree.now.walk.bodies held layers.now → HasLayers layers.now spot.now.body → IsAt (lineages_of e) (out-Node row.now.node.now).id n → IsSpot e tree.now.walk.bodies spot.now n
+        → IsAssigned e n entries.old.items entries.new.items failures.old failures.new) }
 {
     let bodies = &tree.walk.bodies;
     let Some(body) = bodies.body(spot.body) else {
+        return Ok(());
+    };
+    let Some(found) = layers.find(spot.body) else {
         return Ok(());
     };
     let visible = Chain {
@@ -56,8 +67,16 @@ fn assign<'a>(
         tables: bodies.tables(),
         numbers: body.numbers,
     };
-    let node = row.node.id;
-    judge_dynamics(alloc, rows, node, body.items, &visible, entries, failures)?;
+    judge_dynamics(
+        alloc,
+        rows,
+        contents,
+        row.node.id,
+        &found.dynamics,
+        &visible,
+        entries,
+        failures,
+    )?;
     Ok(())
 }
 
@@ -74,16 +93,28 @@ pub(crate) fn assign_all<'a>(
     alloc: Global,
     rows: &[Row<'a>],
     tree: &OpenTree<'a>,
+    layers: &LayerTable<'a>,
     failures: &mut Failures,
 ) -> Result<Vec<Vec<Entry<'a>>>, NoMemory>
-    ensures { IfOk result (λ r. (e : Elab) → IsClean e → AreRows e rows.now → IsOpenTree e tree.now → AreAssigned e (nodes_of e) r.items failures.old failures.new) }
+    ensures { IfOk result (λ r. (e : Elab) (before : List Fault) (held : List Fault) → IsClean e → AreRows e rows.now → IsOpenTree e tree.now → AreLayersOf e tree.now layers.now before held → AreAssigned e (nodes_of e) r.items failures.old failures.new) }
 {
+    let contents = contents_of(alloc, rows)?;
     let mut entries = no_entries(alloc, rows.len())?;
     for (at, row) in rows.iter().enumerate() {
         let Some(spot) = spot_at(&tree.spots, at) else {
             return Ok(entries);
         };
-        assign(alloc, rows, row, tree, &spot, &mut entries, failures)?;
+        assign(
+            alloc,
+            rows,
+            &contents,
+            row,
+            tree,
+            layers,
+            &spot,
+            &mut entries,
+            failures,
+        )?;
     }
     Ok(entries)
 }

@@ -31,7 +31,7 @@ fn gather<'a>(
     let rows = rows(alloc, elab)?;
     let tree = open_tree(alloc, arena, elab, &rows)?;
     let layers = judge_layers(alloc, arena, &tree, failures)?;
-    let mut entries = assign_all(alloc, &rows, &tree, failures)?;
+    let mut entries = assign_all(alloc, &rows, &tree, &layers, failures)?;
     complete_all(
         alloc,
         &rows,

@@ -1,3 +1,5 @@
+pub mod Contained
+mod Leading
 pub mod Numbered
 mod Stepping
 mod Wants

@@ -1,7 +1,8 @@
 -- Nodes by their numbers, and the rows that say what they are.
-use Rattle.std.proofs.Common.{◌≡◌, ◌∙◌, ℕ, zero, suc, ◌+◌, ◌<◌, ◌≤◌, Bool, true, false, cond, List, [], ◌∷◌, ◌++◌, length, get_or, take, map, filter, flat_map, add-one, append-nil, Option, None, Some, option_map, Result, Ok, Err, OnOk, slice_get, refl, sym, ap, subst, arith}
+use Rattle.std.proofs.Common.{◌≡◌, ◌∙◌, ℕ, zero, suc, ◌+◌, ◌<◌, ◌≤◌, Bool, List, [], ◌∷◌, ◌++◌, length, get_or, take, map, filter, flat_map, add-one, append-nil, None, Some, option_map, Result, Ok, Err, OnOk, slice_get, refl, sym, ap, subst, arith}
 use Rattle.std.proofs.lemmas.Grind.{flat_map-append}
 use Rattle.std.proofs.lemmas.List.{take_all}
+use Rattle.std.proofs.lemmas.List.Elements.{filter-append}
 use Rattle.rdl_tree.specs.declared.node.Elab.{Elab}
 use Rattle.rdl_tree.specs.declared.node.Node.{Node, out-Node}
 use Rattle.rdl_values.specs.Elaborated.{Says}
@@ -16,22 +17,26 @@ on_ok (Ok x) P Q f h = f h
 on_ok (Err e) P Q f h = tt
 
 -- the row of a number, and what it is of
-pub record IsRowOf (e : Elab) (all : List Lineage) (x : Row) (n : Instance) : Type 0 where
+pub record IsRowOf (e : Elab) (all : List Lineage) (k : ℕ) (x : Row) (n : Instance) : Type 0 where
   pub l : Lineage
   pub is : l.node ≡ n
-  pub number : ℕ
-  pub row : IsRow e all number x l
+  pub row : IsRow e all k x l
 
-find-row : (e : Elab) (all : List Lineage) (at : ℕ) (xs : List Row) (ls : List Lineage) (k : ℕ) (x : Row) (n : Instance) → AreRowsFrom e all at xs ls → slice_get xs k ≡ Some x → option_map (λ l. l.node) (slice_get ls k) ≡ Some n → IsRowOf e all x n
+find-row : (e : Elab) (all : List Lineage) (at : ℕ) (xs : List Row) (ls : List Lineage) (k : ℕ) (x : Row) (n : Instance) → AreRowsFrom e all at xs ls → slice_get xs k ≡ Some x → option_map (λ l. l.node) (slice_get ls k) ≡ Some n → IsRowOf e all (at + k) x n
 find-row e all at [] ls k x n h is there = cc
 find-row e all at (y ∷ xs) [] k x n h is there = absurd h
 find-row e all at (y ∷ xs) (l ∷ ls) zero x n h is there =
     let same : y ≡ x = cc in
-    record { l = l; is = (let P : l.node ≡ n = cc in P); number = at; row = subst (λ z. IsRow e all at z l) same h.0 }
-find-row e all at (y ∷ xs) (l ∷ ls) (suc k) x n h is there = find-row e all (suc at) xs ls k x n h.1 is there
+    let here : at ≡ at + 0 = omega arith in
+    record { l = l; is = (let P : l.node ≡ n = cc in P); row = subst (λ z. IsRow e all (at + 0) z l) same (subst (λ m. IsRow e all m y l) here h.0) }
+find-row e all at (y ∷ xs) (l ∷ ls) (suc k) x n h is there =
+    let next : suc at + k ≡ at + suc k = omega arith in
+    subst (λ m. IsRowOf e all m x n) next (find-row e all (suc at) xs ls k x n h.1 is there)
 
-pub row_at : (e : Elab) (rows : List Row) (k : ℕ) (x : Row) (n : Instance) → AreRows e rows → slice_get rows k ≡ Some x → IsAt (lineages_of e) k n → IsRowOf e (lineages_of e) x n
-row_at e rows k x n h is there = find-row e (lineages_of e) 0 rows (lineages_of e) k x n h is there
+pub row_at : (e : Elab) (rows : List Row) (k : ℕ) (x : Row) (n : Instance) → AreRows e rows → slice_get rows k ≡ Some x → IsAt (lineages_of e) k n → IsRowOf e (lineages_of e) k x n
+row_at e rows k x n h is there =
+    let here : 0 + k ≡ k = omega arith in
+    subst (λ m. IsRowOf e (lineages_of e) m x n) here (find-row e (lineages_of e) 0 rows (lineages_of e) k x n h is there)
 
 -- a number without a row is none of a node
 no-row : (e : Elab) (all : List Lineage) (at : ℕ) (xs : List Row) (ls : List Lineage) (k : ℕ) (n : Instance) → AreRowsFrom e all at xs ls → slice_get xs k ≡ None → option_map (λ l. l.node) (slice_get ls k) ≡ Some n → ⊥
@@ -101,20 +106,7 @@ each_step all f ks ns i d old more new l h e adds so_far =
 pub each_all : (all : List Lineage) (f : Instance → List Instance) (ks : List ℕ) (ns : List Instance) (i : ℕ) (list : List ℕ) → length ks ≤ i → AreAt all ks ns → AreAt all list (flat_map f (take i ns)) → AreAt all list (flat_map f ns)
 each_all all f ks ns i list l h so_far = subst (λ ys. AreAt all list (flat_map f ys)) (all-at all ks ns i l h) so_far
 
--- the same of those that pass a test
-abbrev pub one_if : (Instance → Bool) → Instance → List Instance
-one_if f n = cond (f n) (n ∷ []) []
-
-pub filter-each : (f : Instance → Bool) (ns : List Instance) → flat_map (one_if f) ns ≡ filter f ns
-filter-each f [] = refl
-filter-each f (n ∷ ns) = go (f n) (filter-each f ns)
-  where
-    go : (b : Bool) → flat_map (one_if f) ns ≡ filter f ns → cond b (n ∷ []) [] ++ flat_map (one_if f) ns ≡ cond b (n ∷ filter f ns) (filter f ns)
-    go true h = ap (λ xs. n ∷ xs) h
-    go false h = h
-
-pub one_at : (all : List Lineage) (k : ℕ) (n : Instance) (b c : Bool) → IsAt all k n → b ≡ c → AreAt all (cond b (k ∷ []) []) (cond c (n ∷ []) [])
-one_at all k n true true is e = (is, tt)
-one_at all k n false false is e = tt
-one_at all k n true false is e = cc
-one_at all k n false true is e = cc
+-- of each those that pass a test
+pub filter-each : (p : Instance → Bool) (f : Instance → List Instance) (ns : List Instance) → flat_map (λ n. filter p (f n)) ns ≡ filter p (flat_map f ns)
+filter-each p f [] = refl
+filter-each p f (n ∷ ns) = ap (λ xs. filter p (f n) ++ xs) (filter-each p f ns) ∙ sym (filter-append p (f n) (flat_map f ns))

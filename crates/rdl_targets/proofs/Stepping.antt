@@ -1,5 +1,6 @@
 -- A target, step by step.
-use Rattle.std.proofs.Common.{◌≡◌, ◌∙◌, ℕ, zero, suc, ◌+◌, ◌-◌, ◌<◌, ◌≤◌, Bool, List, [], ◌∷◌, length, get_or, take, drop, filter, flat_map, drop-cons, length-drop, take_all, add-one, Result, Ok, Err, IfOk, refl, sym, ap, arith}
+use Rattle.std.proofs.Common.{◌≡◌, ◌∙◌, ℕ, suc, ◌+◌, ◌<◌, ◌==◌, Bool, true, false, List, [], ◌∷◌, length, get_or, drop, filter, flat_map, append-nil, drop-cons, add-one, Result, Ok, Err, IfOk, refl, sym, ap, arith}
+use Rattle.std.proofs.lemmas.Bool.Decides.{nat_tests}
 use Rattle.rdl_tree.specs.declared.expr.Step.{Step}
 use Rattle.rdl_values.specs.Instances.{Instance, children}
 use Rattle.rdl_layers.specs.Assignments.{led_down}
@@ -12,19 +13,16 @@ led_first is ns t (u ∷ ts) = led_first is (flat_map children (filter (is t) ns
 pub further_more : (is : Step → Instance → Bool) (ns : List Instance) (ts : List Step) (i : ℕ) (d : Step) → i < length ts → further is ns (drop i ts) ≡ further is (filter (is (get_or ts i d)) (flat_map children ns)) (drop (i + 1) ts)
 further_more is ns ts i d l = ap (further is ns) (drop-cons ts i d l) ∙ ap (λ n. further is (filter (is (get_or ts i d)) (flat_map children ns)) (drop n ts)) (sym (add-one i))
 
-pub none_led : (is : Step → Instance → Bool) (ns : List Instance) (ts : List Step) → length ts < 1 → [] ≡ led_down children is ns ts
+pub none_led : (is : Step → Instance → Bool) (ns : List Instance) (ts : List Step) → (length ts == 0) ≡ true → [] ≡ led_down children is ns ts
 none_led is ns [] l = refl
-none_led is ns (t ∷ ts) l = absurd (omega (arith, l))
+none_led is ns (t ∷ ts) l = absurd (some (length ts) l)
+  where
+    some : (n : ℕ) → (suc n == 0) ≡ true → ⊥
+    some n e = grind (arith, nat_tests)
 
-rest_all : (ts : List Step) → take (length ts - 1) (drop 1 ts) ≡ drop 1 ts
-rest_all ts = let n = length-drop 1 ts in take_all (length ts - 1) (drop 1 ts) (omega (arith, n))
-
-first-led : (is : Step → Instance → Bool) (ns : List Instance) (ts : List Step) (d : Step) → 1 ≤ length ts → further is (filter (is (get_or ts 0 d)) ns) (drop 1 ts) ≡ led_down children is ns ts
-first-led is ns [] d l = absurd (omega (arith, l))
-first-led is ns (t ∷ ts) d l = led_first is ns t ts
-
-pub first_led : (is : Step → Instance → Bool) (ns : List Instance) (ts : List Step) (d : Step) → 1 ≤ length ts → further is (filter (is (get_or ts 0 d)) ns) (take (length ts - 1) (drop 1 ts)) ≡ led_down children is ns ts
-first_led is ns ts d l = ap (further is (filter (is (get_or ts 0 d)) ns)) (rest_all ts) ∙ first-led is ns ts d l
+pub all_led : (is : Step → Instance → Bool) (n : Instance) (ts : List Step) → (length ts == 0) ≡ false → further is (n ∷ []) ts ≡ led_down children is (children n) ts
+all_led is n [] some = (let two : true ≡ false = some in cc two)
+all_led is n (t ∷ ts) some = ap (λ ns. further is (filter (is t) ns) ts) (append-nil (children n)) ∙ led_first is (children n) t ts
 
 pub if_ok : {T E : Type 0} (r : Result T E) (P Q : T → Type 0) → ((x : T) → P x → Q x) → IfOk r P → IfOk r Q
 if_ok (Ok x) P Q f h = f x h

@@ -1,9 +1,9 @@
 //! The nodes that a dynamic assignment leads to (SystemRDL 2.0, 5.1.3), by their numbers.
 #![tactic(auto)]
 
-mod inside;
+mod contents;
 mod matching;
 mod paths;
 
-pub use inside::{inside_of, row_at};
+pub use contents::{Contents, contents_of, row_at};
 pub use paths::targets;

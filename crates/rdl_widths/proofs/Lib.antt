@@ -1,4 +1,3 @@
 mod Numbers
-mod Assigned
 mod Noted
 mod Ranges

@@ -1,17 +1,16 @@
 -- Failures of widths.
-use Rattle.std.proofs.Common.{◌≡◌, ◌∙◌, ◌⊎◌, inl, inr, ℕ, Bool, not, ◌||◌, nat_lt, List, [], ◌∷◌, ◌++◌, None, refl, sym, ap}
+use Rattle.std.proofs.Common.{◌≡◌, ◌∙◌, ◌⊎◌, inl, inr, ℕ, Bool, not, ◌||◌, nat_lt, List, [], ◌∷◌, ◌++◌, refl, sym, ap}
 use Rattle.rb_base.specs.declared.fault.Fault.{Fault}
 use Rattle.rb_base.specs.declared.place.Place.{Place}
 use Rattle.rb_base.specs.declared.rule.Rule.TheVariants as rules
 use Rattle.rdl_tree.specs.declared.item.Kind.{Kind}
 use Rattle.rdl_tree.specs.declared.item.Kind.TheVariants as kind
-use Rattle.rdl_props.specs.Table.{group_of}
 use Rattle.rdl_props.specs.declared.prop.Prop.TheVariants as prop
 use Rattle.rdl_values.specs.Faults.{at_, when}
 use Rattle.rdl_values.specs.Instances.{Instance, kind_of}
 use Rattle.rdl_judging.specs.Noted.{IsNoted, with_all}
 use Rattle.rdl_judging.proofs.Noting.{both_noted}
-use Rattle.rdl_layers.specs.Phase4.{assigned_widths, bad_accesswidth, bad_regwidth, bad_width, form_widths, is_one_of, number_at, of_node, range_of, width_prop}
+use Rattle.rdl_layers.specs.Phase4.{assigned_widths, bad_accesswidth, bad_regwidth, bad_width, form_widths, is_one_of, number_at, of_node, range_of}
 use Rattle.rdl_widths.specs.Widths.{is_bad}
 
 of-register : (n : Instance) → kind_of n ≡ kind.Reg → when (bad_regwidth n) (at_ rules.P9 n.use_.name.place) ++ when (bad_accesswidth n) (at_ rules.P10 n.use_.name.place) ≡ of_node n
@@ -39,8 +38,3 @@ unit_noted n k at widths ranges assigned b d s t e unit p ew er ea eb noted =
     kinds : (k ≡ kind.Field) ⊎ (k ≡ kind.Signal) → (kind_of n ≡ kind.Field) ⊎ (kind_of n ≡ kind.Signal)
     kinds (inl f) = inl (e ∙ f)
     kinds (inr f) = inr (e ∙ f)
-
--- the property of a width excludes no other
-pub width_alone : (k : Kind) → group_of (width_prop k) ≡ None
-width_alone kind.Signal = refl
-width_alone k = refl

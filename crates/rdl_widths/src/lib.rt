@@ -7,4 +7,4 @@ mod texts;
 mod units;
 
 pub use registers::judge_register;
-pub use units::judge_unit;
+pub use units::{judge_unit, unit_width};

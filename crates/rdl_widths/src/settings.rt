@@ -1,17 +1,14 @@
 //! Numbers that entries set properties to.
 
-ghost use Rattle.std.specs.Prelude.{◌≡◌, List, None, option_to_list};
-ghost use Rattle.std.specs.List.{list_any};
+ghost use Rattle.std.specs.Prelude.{◌≡◌, List, option_to_list};
 ghost use Rattle.rdl_values.specs.Faults.{when};
 ghost use Rattle.rdl_values.specs.Instances.{Instance};
 ghost use Rattle.rdl_layers.specs.Phase4.{number_at};
 ghost use Rattle.rdl_layers.specs.Settings.{applied_to, is_assigned};
 ghost use Rattle.rdl_merged.specs.Merged.{AreEntries};
-ghost use Rattle.rdl_props.specs.Same.{same_prop};
-ghost use Rattle.rdl_props.specs.Table.{group_of};
 
 use rdl_layers::{Entry, Setting, setting_of};
-use rdl_merged::entries_say;
+use rdl_merged::{entries_say, has_entry};
 use rdl_props::Prop;
 
 /// The number that a property is set to, 0 where there is none.
@@ -25,16 +22,9 @@ pub(crate) fn number_in(entries: &[Entry], prop: Prop) -> u64
     }
 }
 
-// Whether an entry is one of the property.
-fn has_entry(entries: &[Entry], prop: Prop) -> bool
-    ensures { result ≡ list_any (λ e. same_prop prop e.prop) entries.now }
-{
-    entries.iter().any(|entry| prop == entry.prop)
-}
-
-/// The number that an assignment gives, whichever; the table's default is no assignment. The property excludes no other.
+/// The number that an assignment gives, whichever; the table's default is no assignment.
 pub(crate) fn assigned_number(entries: &[Entry], prop: Prop) -> Option<u64>
-    ensures { (all : List Instance) (n : Instance) → group_of prop ≡ None → AreEntries all entries.now (applied_to n) → option_to_list result ≡ when (is_assigned n prop) (number_at n prop) }
+    ensures { (all : List Instance) (n : Instance) → AreEntries all entries.now (applied_to n) → option_to_list result ≡ when (is_assigned n prop) (number_at n prop) }
 {
     if has_entry(entries, prop) {
         Some(number_in(entries, prop))

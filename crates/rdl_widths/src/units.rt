@@ -1,6 +1,6 @@
 //! The widths of fields and signals.
 
-ghost use Rattle.std.specs.Prelude.{◌≡◌, ◌⊎◌, ◌==◌, ◌||◌, ◌++◌, [], ◌∷◌, not, List, OnOk, nat_lt, option_to_list};
+ghost use Rattle.std.specs.Prelude.{◌≡◌, ◌≤◌, ◌⊎◌, ◌==◌, ◌||◌, ◌++◌, [], ◌∷◌, not, List, IfOk, OnOk, nat_lt, option_to_list};
 ghost use Rattle.std.specs.List.{list_any};
 ghost use Rattle.rdl_tree.specs.declared.item.Kind.TheVariants as kinds;
 ghost use Rattle.rdl_values.specs.Bodies.{around};
@@ -90,4 +90,30 @@ pub fn judge_unit<'a>(
     let assigned = assigned_number(entries, width_prop(kind));
     failures.note(is_bad_width(&widths, range, assigned), Rule::P11, place)?;
     Ok(())
+}
+
+// The width, if a field or a signal may have it, else 0.
+fn narrow(width: u128) -> u64
+    ensures narrow { result ≤ 64 }
+    ensures same { width ≤ 64 → result ≡ width }
+{
+    if width <= 64 { width as u64 } else { 0 }
+}
+
+/// The width of a field or a signal, from what decides its properties and from its text, which sees the names that are visible. Where it
+/// is above 64, which P11 forbids, the answer is 0.
+pub fn unit_width<'a>(
+    alloc: Global,
+    inst: &Inst<'a>,
+    kind: Kind,
+    entries: &[Entry],
+    visible: &Chain<'_, '_, '_, 'a>,
+) -> Result<u64, NoMemory>
+    ensures narrow { IfOk result (λ width. width ≤ 64) }
+    ensures width { IfOk result (λ width. (all : List Instance) (n : Instance) → AreEntries all entries.now (applied_to n) → kind_of n ≡ kind → IsOfText inst.now n → IsShown visible.now (around n.use_.scope) → phase.width_of n ≤ 64 → width ≡ phase.width_of n) }
+{
+    let range = range_seen(&inst.range, visible);
+    let widths = form_widths(alloc, inst.dims, range, visible)?;
+    let assigned = assigned_number(entries, width_prop(kind));
+    Ok(narrow(first_width(&widths, assigned)))
 }

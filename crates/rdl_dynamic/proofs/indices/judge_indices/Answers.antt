@@ -1,4 +1,4 @@
-use Rattle.std.proofs.Common.{◌∙◌, sym, ap, subst, flat_map}
+use Rattle.std.proofs.Common.{◌∙◌, sym, subst, flat_map}
 use Rattle.std.proofs.lemmas.List.{take_all}
 use Rattle.rdl_tree.specs.declared.expr.Path.{out-Path}
 use Rattle.rdl_tree.specs.declared.expr.Step.{Step}

@@ -1,4 +1,4 @@
-use Rattle.std.proofs.Common.{◌∙◌, ap, subst, flat_map}
+use Rattle.std.proofs.Common.{subst}
 use Rattle.std.proofs.lemmas.List.{take_all}
 use Rattle.rdl_values.specs.Faults.{failures}
 use Rattle.rdl_values.specs.Values.{number_of}

@@ -7,6 +7,7 @@ use Rattle.rdl_judging.proofs.Sets.{with_all-append}
 use Rattle.rdl_layers.specs.Assignments.{defaults}
 use Rattle.rdl_layers.specs.Phase4.{of_enums}
 use Rattle.rdl_layers.specs.Judged.{all_failures, anywhere, failures_of}
+use Rattle.rdl_dynamic.specs.Written.{AreWritten}
 use Rattle.rdl_opened.proofs.Staying.{open_alike}
 use Rattle.rdl_layered.specs.Layered.{AreLocals, of_kind}
 use Rattle.rdl_layered.proofs.layers.layers_of.Goals as goal
@@ -27,4 +28,5 @@ returns-clause-given c = λ b h.
     record {
       locals_are = subst (λ k. AreLocals k c.in_ok-locals.locals.items b) (sym h.kind_is) (c.in_ok-locals.ensures.given b h.items_are h.kind_is shown);
       defaults_are = c.in_ok-defaults.ensures.given b h.items_are shown;
+      dynamics_are = subst (AreWritten c.in_ok-dynamics.dynamics.items) (sym h.items_are) c.in_ok-dynamics.ensures;
     }

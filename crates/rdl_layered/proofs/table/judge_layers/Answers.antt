@@ -1,6 +1,6 @@
 use Rattle.std.proofs.Common.{◌≤◌, length, subst}
 use Rattle.rdl_values.specs.Top.{root}
-use Rattle.rdl_layered.proofs.Knowing.{all_done, done_none, next_listed, node_judged, none_known, root_judged}
+use Rattle.rdl_layered.proofs.Knowing.{all_done, done_none, next_listed, node_judged, root_judged}
 use Rattle.rdl_layered.proofs.table.judge_layers.Goals as goal
 
 pub loop-spot-init : goal.loop-spot-init

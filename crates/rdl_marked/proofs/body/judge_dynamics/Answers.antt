@@ -1,23 +1,27 @@
-use Rattle.std.proofs.Common.{◌∷◌, [], append-nil, sym, subst, flat_map, take}
-use Rattle.rdl_values.specs.Bodies.{standing}
-use Rattle.rdl_values.specs.Instances.{body, children}
-use Rattle.rdl_values.specs.Lineages.{lineages_of}
-use Rattle.rdl_layers.specs.Assignments.{dynamic_in}
-use Rattle.rdl_targets.specs.At.{AreAt}
-use Rattle.rdl_marked.proofs.Going.{go-all, go-step}
+use Rattle.std.proofs.Common.{subst, take}
+use Rattle.rdl_values.specs.Instances.{body}
+use Rattle.rdl_layers.specs.Assignments.{dynamics}
+use Rattle.rdl_marked.specs.Given.{IsGoing}
+use Rattle.rdl_marked.proofs.Going.{all-of, go-next, none-yet, of-body}
 use Rattle.rdl_marked.proofs.body.judge_dynamics.Goals as goal
 
-pub loop-item-preserved : goal.loop-item-preserved
-loop-item-preserved c = λ e n rows at shown.
-    let inside = subst (AreAt (lineages_of e) c.in_ok-inside.inside.items) (append-nil (children n)) (c.in_ok-inside.ensures e (n ∷ []) rows (at, tt)) in
-    let read = flat_map (dynamic_in (body n)) (standing (take c.loop-item.item-index c.args.items.now)) in
-    go-step e n c.judge_item.new.marks c.args.entries.now.items c.judge_item.new.entries.items c.args.failures.now c.judge_item.new.failures (dynamic_in (body n)) c.args.items.now c.loop-item.item-index c.item-item.result c.loop-item-test.true c.item-item.is
-    (c.in_ok-judge_item.ensures e n c.args.entries.now.items c.args.failures.now read (take c.loop-item.item-index c.args.items.now) rows at (subst (λ ks. AreAt (lineages_of e) ks (children n)) (sym c.deref.ensures.value) inside) shown (c.loop-item.invariant e n rows at shown))
+pub loop-written-init : goal.loop-written-init
+loop-written-init c = λ e n ds rows contents at shown of. none-yet e n c.new-marks.result c.args.entries.now.items c.args.failures.now ds (record { at = λ k m is f. c.new-marks.ensures k f })
+
+pub loop-written-preserved : goal.loop-written-preserved
+loop-written-preserved c = λ e n ds rows contents at shown of.
+    go-next e n c.judge_written.new.marks c.args.entries.now.items c.judge_written.new.entries.items c.args.failures.now c.judge_written.new.failures c.args.assignments.now ds c.loop-written.written-index _ c.loop-written-test.true of
+    (λ before. c.in_ok-judge_written.ensures e n c.args.entries.now.items c.args.failures.now (take c.loop-written.written-index ds) before rows contents at shown (c.loop-written.invariant e n ds rows contents at shown of))
 
 pub returns-clause-noted : goal.returns-clause-noted
-returns-clause-noted c = λ e n rows at items shown. (go-all e n c.loop-item.marks c.args.entries.now.items c.loop-item.entries.items c.args.failures.now c.loop-item.failures (dynamic_in (body n)) c.args.items.now n.closure.def.items.now c.loop-item.item-index c.loop-item-test.false items (c.loop-item.invariant e n rows at shown)).noted
+returns-clause-noted c = λ e n rows contents at written shown.
+    let of = of-body n c.args.assignments.now written in
+    (subst (IsGoing e n c.loop-written.marks c.args.entries.now.items c.loop-written.entries.items c.args.failures.now c.loop-written.failures) (all-of n c.args.assignments.now (dynamics (body n)) c.loop-written.written-index c.loop-written-test.false of)
+    (c.loop-written.invariant e n (dynamics (body n)) rows contents at shown of)).noted
 
 pub returns-clause-pushed : goal.returns-clause-pushed
-returns-clause-pushed c = λ e n rows at items shown.
-    let all = go-all e n c.loop-item.marks c.args.entries.now.items c.loop-item.entries.items c.args.failures.now c.loop-item.failures (dynamic_in (body n)) c.args.items.now n.closure.def.items.now c.loop-item.item-index c.loop-item-test.false items (c.loop-item.invariant e n rows at shown) in
+returns-clause-pushed c = λ e n rows contents at written shown.
+    let of = of-body n c.args.assignments.now written in
+    let all = subst (IsGoing e n c.loop-written.marks c.args.entries.now.items c.loop-written.entries.items c.args.failures.now c.loop-written.failures) (all-of n c.args.assignments.now (dynamics (body n)) c.loop-written.written-index c.loop-written-test.false of)
+    (c.loop-written.invariant e n (dynamics (body n)) rows contents at shown of) in
     record { same_length = all.same_length; pushed = all.pushed }

@@ -1,21 +1,20 @@
 use Rattle.std.proofs.Common.{◌≡◌, ◌∙◌, is_some, Some, None, ap, sym, subst}
 use Rattle.rdl_values.specs.Bodies.{around}
-use Rattle.rdl_values.specs.Instances.{children}
 use Rattle.rdl_values.specs.Lineages.{lineages_of}
 use Rattle.rdl_judging.specs.Noted.{IsNoted}
-use Rattle.rdl_layers.specs.Assignments.{is_step, led_down, members, targets}
+use Rattle.rdl_layers.specs.Assignments.{targets}
 use Rattle.rdl_layers.specs.Judged.{failures_of_dynamic}
 use Rattle.rdl_layers.specs.Meanings.{prop_of}
 use Rattle.rdl_assigned.specs.Layers.{IsGiven}
 use Rattle.rdl_targets.specs.At.{AreAt}
-use Rattle.rdl_marked.proofs.Taking.{both-parts, given-known, if-some, marks-push, marks-stay, unknown-part}
+use Rattle.rdl_marked.proofs.Taking.{both-parts, given-known, if-some, led-at, marks-push, marks-stay, unknown-part}
 use Rattle.rdl_marked.proofs.dynamic.judge_dynamic.Goals as goal
 
 pub returns-in_default : goal.returns-in_default
 returns-in_default c = λ e b earlier d can.
     let named : prop_of d.assigns ≡ c.find-found.result = ap (λ x. prop_of (record { set_ = x; scope = d.assigns.scope })) can.sets ∙ sym c.find-found.ensures in
     let none : prop_of d.assigns ≡ None = named ∙ c.in_default.is in
-    let at : AreAt (lineages_of e) c.in_ok-nodes.nodes.items (targets b d) = subst (λ ts. AreAt (lineages_of e) c.in_ok-nodes.nodes.items (led_down children (is_step (around d.assigns.scope)) (members b) ts)) (sym can.steps) (c.in_ok-nodes.ensures e (around d.assigns.scope) (members b) can.are_rows can.shown can.are_inside) in
+    let at : AreAt (lineages_of e) c.in_ok-nodes.nodes.items (targets b d) = led-at e b d c.args.path.now can.of c.in_ok-nodes.nodes.items can.inside can.steps (c.in_ok-nodes.ensures e (around d.assigns.scope) can.of can.are_contents can.shown can.here) in
     let path = c.in_ok-clean.ensures e b d can.steps can.sets (c.is_some.ensures ∙ ap is_some (sym named)) can.shown (subst (λ ks. AreAt (lineages_of e) ks (targets b d)) (sym c.deref.ensures.value) at) in
     record {
       noted = unknown-part b earlier d c.in_ok-clean.clean c.args.failures.now c.judge_path.new.failures none path;
@@ -27,7 +26,7 @@ returns-in_default c = λ e b earlier d can.
 pub returns : goal.returns
 returns c = λ e b earlier d can.
     let named : prop_of d.assigns ≡ c.find-found.result = ap (λ x. prop_of (record { set_ = x; scope = d.assigns.scope })) can.sets ∙ sym c.find-found.ensures in
-    let at : AreAt (lineages_of e) c.in_ok-nodes.nodes.items (targets b d) = subst (λ ts. AreAt (lineages_of e) c.in_ok-nodes.nodes.items (led_down children (is_step (around d.assigns.scope)) (members b) ts)) (sym can.steps) (c.in_ok-nodes.ensures e (around d.assigns.scope) (members b) can.are_rows can.shown can.are_inside) in
+    let at : AreAt (lineages_of e) c.in_ok-nodes.nodes.items (targets b d) = led-at e b d c.args.path.now can.of c.in_ok-nodes.nodes.items can.inside can.steps (c.in_ok-nodes.ensures e (around d.assigns.scope) can.of can.are_contents can.shown can.here) in
     let is : prop_of d.assigns ≡ Some c.in-Some.prop = named ∙ c.in-Some.is in
     let path = c.in_ok-clean.ensures e b d can.steps can.sets (c.is_some.ensures ∙ ap is_some (sym named)) can.shown (subst (λ ks. AreAt (lineages_of e) ks (targets b d)) (sym c.deref.ensures.value) at) in
     let known = c.in_ok-setting.ensures.noted e b d earlier can.are_rows can.are_marks (subst (λ ks. AreAt (lineages_of e) ks (targets b d)) (sym c.deref-2.ensures.value) at) can.sets is can.shown in

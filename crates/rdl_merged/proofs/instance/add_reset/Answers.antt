@@ -1,11 +1,5 @@
-use Rattle.std.proofs.Common.{◌≡◌, ◌∙◌, ◌++◌, List, [], map, flat_map, append-nil, option_to_list, sym, ap, subst}
-use Rattle.rdl_props.specs.declared.prop.Prop.TheVariants as props
+use Rattle.std.proofs.Common.{◌∙◌, ◌++◌, sym, subst}
 use Rattle.rdl_values.specs.Bodies.{around}
-use Rattle.rdl_values.specs.Uses.{Use}
-use Rattle.rdl_values.specs.Values.{number_of}
-use Rattle.rdl_layers.specs.Forms as forms
-use Rattle.rdl_layers.specs.Settings.{applied, from_instance, given}
-use Rattle.rdl_layers.specs.declared.rank.Rank.TheVariants as rank
 use Rattle.rdl_merged.specs.Merged.{AreEntries}
 use Rattle.rdl_merged.proofs.Each.{given_none, on_ok}
 use Rattle.rdl_merged.proofs.Reset.{reset-given, reset-none}

@@ -1,9 +1,8 @@
-use Rattle.std.proofs.Common.{◌≡◌, ◌++◌, List, [], map, Ok, Err, refl, sym, ap, subst}
+use Rattle.std.proofs.Common.{◌++◌, map, refl, subst}
 use Rattle.rdl_props.specs.declared.prop.Prop.TheVariants as props
 use Rattle.rdl_layers.specs.Forms as forms
 use Rattle.rdl_layers.specs.Settings.{applied, given}
 use Rattle.rdl_layers.specs.declared.rank.Rank.TheVariants as rank
-use Rattle.rdl_values.specs.Values.{Outcome}
 use Rattle.rdl_merged.specs.Merged.{AreEntries}
 use Rattle.rdl_merged.proofs.Each.{given_none, on_ok}
 use Rattle.rdl_merged.proofs.instance.add_value.Goals as goal
