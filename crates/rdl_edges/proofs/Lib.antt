@@ -1,0 +1,4 @@
+mod Among
+mod Fielded
+mod Items
+mod Listing
