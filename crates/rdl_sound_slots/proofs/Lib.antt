@@ -1,4 +1,6 @@
+mod Aliases
 mod Failing
 mod Fields
+mod Names
 mod Slots
 mod Widths

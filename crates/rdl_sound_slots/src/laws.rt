@@ -1,6 +1,6 @@
 //! The slots of a source's block.
 
-ghost use Rattle.std.specs.Prelude.{◌≡◌, [], ℕ, false, Contains, List, Option, Some, slice_get};
+ghost use Rattle.std.specs.Prelude.{◌≡◌, ◌∷◌, [], ℕ, true, false, Contains, List, Option, Some, filter, slice_get};
 ghost use Rattle.rdl_tree.specs.declared.item.Source.{Source};
 ghost use Rattle.rdl_tree.specs.declared.node.Elab.{Elab};
 ghost use Rattle.rdl_values.specs.Elaborated.{nodes_of, top_name};
@@ -8,7 +8,7 @@ ghost use Rattle.rdl_values.specs.Instances.{Instance, nodes};
 ghost use Rattle.rdl_values.specs.Lineages.{lineages, lineages_of};
 ghost use Rattle.rdl_values.specs.Verdict.{IsListOf};
 ghost use Rattle.rdl_layers.specs.Answers.{IsSettled};
-ghost use Rattle.rdl_layers.specs.Fields.{fields_of, is_alias};
+ghost use Rattle.rdl_layers.specs.Fields.{fields_of, is_alias, is_alias_of};
 ghost use Rattle.rdl_addr.specs.Answers.{IsPlaced};
 ghost use Rattle.rb_model.specs.declared.block.Block.{Block};
 ghost use Rattle.rb_model.specs.References.{Each};
@@ -22,6 +22,13 @@ ghost use Rattle.rdl_sound_slots.specs.Fielded.{HasField, HasOneForm, IsViewed};
 pub fn views_have_fields()
     ensures { (wanted : Option (List ℕ)) (s : Source) (waits : ℕ) (b : Block) (r f : Instance) → IsBlockOf wanted s waits b → Contains (registers (nodes wanted s)) r → is_alias r ≡ false
         → Contains (fields_of r) f → IsViewed (lineages wanted s) b r f }
+{}
+
+/// Where no rule fails, the view of a field of an alias has a field of the primary, which is as wide, if no instance has both a bracket and
+/// a range.
+pub fn aliases_have_fields()
+    ensures { (e : Elab) (waits : ℕ) (b : Block) → IsSettled e → IsListOf (meaning_fails e) [] → IsBlockOf (Some (top_name e)) e.source.now waits b → ((n : Instance) → Contains (nodes_of e) n → HasOneForm n)
+        → (a r f : Instance) → Contains (registers (nodes_of e)) a → is_alias a ≡ true → filter (λ p. is_alias_of p a) (registers (nodes_of e)) ≡ r ∷ [] → is_alias r ≡ false → Contains (fields_of a) f → HasField (lineages_of e) b a f }
 {}
 
 /// Where no rule fails, each slot of a word is sound: if each view has a field of the block, as wide as its own, and no instance has both
