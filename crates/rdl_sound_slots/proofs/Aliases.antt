@@ -131,6 +131,16 @@ module _ (e : Elab) (settled : IsSettled e) (clean : IsListOf (meaning_fails e) 
         let other = text-same mine.0.node.use_.name like.0.node.use_.name parts.0 in
         (i, one-name (Some (top_name e)) e.source.now r r_node g like.0.node i like-field (sym name ∙ (ap (λ (n : Instance). n.use_.name.text.now) (sym mine.2) ∙ other)))
 
+    -- the field of the primary whose number the view has
+    pub alias-number : (g : Instance) × In (fields_of r) g × (v.use_.name.text.now ≡ g.use_.name.text.now) × ((view_of (lineages_of e) a v).field ≡ number_of g (all_fields (nodes_of e)))
+    alias-number = by (filter (λ f. same_name v.use_.name f.use_.name) (flat_map fields_of (r ∷ []))) viewed-is like-found (λ g h. ((one-found g h).0, text-same v.use_.name g.use_.name (filter-true (λ f. same_name v.use_.name f.use_.name) (flat_map fields_of (r ∷ [])) g h)))
+      where
+        by : (xs : List Instance) → viewed (nodes_of e) a v ≡ xs → In xs like.0.node → ((g : Instance) → In xs g → In (fields_of r) g × (v.use_.name.text.now ≡ g.use_.name.text.now)) → (g : Instance) × In (fields_of r) g × (v.use_.name.text.now ≡ g.use_.name.text.now) × ((view_of (lineages_of e) a v).field ≡ number_of g (all_fields (nodes_of e)))
+        by [] q h u = absurd h
+        by (g ∷ gs) q h u =
+            let is = u g (inl refl) in
+            (g, is.0, is.1, (λ i. first_number (viewed (all_nodes (Some (top_name e)) e.source.now i) a v) (all_fields (all_nodes (Some (top_name e)) e.source.now i))) ∙ ap (λ xs. first_number xs (all_fields (nodes_of e))) q)
+
     pub alias-field : HasField (lineages_of e) b a v
     alias-field = by (filter (λ f. same_name v.use_.name f.use_.name) (flat_map fields_of (r ∷ []))) viewed-is like-found one-found
       where

@@ -12,11 +12,11 @@ ghost use Rattle.rdl_layers.specs.Fields.{fields_of, is_alias, is_alias_of};
 ghost use Rattle.rdl_addr.specs.Answers.{IsPlaced};
 ghost use Rattle.rb_model.specs.declared.block.Block.{Block};
 ghost use Rattle.rb_model.specs.References.{Each};
-ghost use Rattle.rb_model.specs.Sound.{SlotIsSound};
+ghost use Rattle.rb_model.specs.Sound.{SlotIsSound, WordIsSound};
 ghost use Rattle.rdl_rules.specs.Answers.{meaning_fails};
 ghost use Rattle.rdl_rules.specs.Block.{IsBlockOf};
 ghost use Rattle.rdl_rules.specs.Numbers.{registers};
-ghost use Rattle.rdl_sound_slots.specs.Fielded.{HasField, HasOneForm, IsViewed};
+ghost use Rattle.rdl_sound_slots.specs.Fielded.{HasField, HasOneForm, HavePrimaries, IsViewed};
 
 /// The view of a field of a register that is no alias is of that field, under its own path.
 pub fn views_have_fields()
@@ -38,4 +38,13 @@ pub fn slots_are_sound()
         → ((n : Instance) → Contains (nodes_of e) n → HasOneForm n) → ((r f : Instance) → Contains (registers (nodes_of e)) r → Contains (fields_of r) f → HasField (lineages_of e) b r f) → Each (λ w. Each (SlotIsSound b w) w.slots) b.reads }
     ensures writes { (e : Elab) (waits : ℕ) (b : Block) → IsSettled e → IsPlaced e → IsListOf (meaning_fails e) [] → IsBlockOf (Some (top_name e)) e.source.now waits b
         → ((n : Instance) → Contains (nodes_of e) n → HasOneForm n) → ((r f : Instance) → Contains (registers (nodes_of e)) r → Contains (fields_of r) f → HasField (lineages_of e) b r f) → Each (λ w. Each (SlotIsSound b w) w.slots) b.writes }
+{}
+
+/// Where no rule fails, each word of a source's block is sound, if each alias has one primary and no instance has both a bracket and a
+/// range.
+pub fn words_are_sound()
+    ensures reads { (e : Elab) (waits : ℕ) (b : Block) → IsSettled e → IsPlaced e → IsListOf (meaning_fails e) [] → IsBlockOf (Some (top_name e)) e.source.now waits b
+        → ((n : Instance) → Contains (nodes_of e) n → HasOneForm n) → HavePrimaries (nodes_of e) → Each (WordIsSound b) b.reads }
+    ensures writes { (e : Elab) (waits : ℕ) (b : Block) → IsSettled e → IsPlaced e → IsListOf (meaning_fails e) [] → IsBlockOf (Some (top_name e)) e.source.now waits b
+        → ((n : Instance) → Contains (nodes_of e) n → HasOneForm n) → HavePrimaries (nodes_of e) → Each (WordIsSound b) b.writes }
 {}

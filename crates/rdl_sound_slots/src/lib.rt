@@ -3,4 +3,4 @@
 
 mod laws;
 
-pub use laws::{aliases_have_fields, slots_are_sound, views_have_fields};
+pub use laws::{aliases_have_fields, slots_are_sound, views_have_fields, words_are_sound};
