@@ -4,5 +4,6 @@ mod Failing
 mod Fields
 mod Names
 mod Slots
+mod Views
 mod Widths
 mod Words

@@ -11,6 +11,7 @@ ghost use Rattle.rdl_layers.specs.Answers.{IsSettled};
 ghost use Rattle.rdl_layers.specs.Fields.{fields_of, is_alias, is_alias_of};
 ghost use Rattle.rdl_addr.specs.Answers.{IsPlaced};
 ghost use Rattle.rb_model.specs.declared.block.Block.{Block};
+ghost use Rattle.rb_model.specs.declared.block.Field.{Field};
 ghost use Rattle.rb_model.specs.References.{Each};
 ghost use Rattle.rb_model.specs.Sound.{SlotIsSound, WordIsSound};
 ghost use Rattle.rdl_rules.specs.Answers.{meaning_fails};
@@ -47,4 +48,11 @@ pub fn words_are_sound()
         → ((n : Instance) → Contains (nodes_of e) n → HasOneForm n) → HavePrimaries (nodes_of e) → Each (WordIsSound b) b.reads }
     ensures writes { (e : Elab) (waits : ℕ) (b : Block) → IsSettled e → IsPlaced e → IsListOf (meaning_fails e) [] → IsBlockOf (Some (top_name e)) e.source.now waits b
         → ((n : Instance) → Contains (nodes_of e) n → HasOneForm n) → HavePrimaries (nodes_of e) → Each (WordIsSound b) b.writes }
+{}
+
+/// Where no rule fails, each view of a source's block is of one of its fields, under the field's path unless it is an alias's, if each
+/// alias has one primary and no instance has both a bracket and a range.
+pub fn views_are_of_fields()
+    ensures { (e : Elab) (waits : ℕ) (b : Block) → IsSettled e → IsListOf (meaning_fails e) [] → IsBlockOf (Some (top_name e)) e.source.now waits b
+        → ((n : Instance) → Contains (nodes_of e) n → HasOneForm n) → HavePrimaries (nodes_of e) → Each (λ v. (f : Field) × (slice_get b.fields v.field ≡ Some f) × (v.alias ≡ false → v.path ≡ f.path)) b.views }
 {}
