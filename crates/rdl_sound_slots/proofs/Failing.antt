@@ -27,14 +27,14 @@ use Rattle.rdl_rules.specs.Phase6.{failures6}
 use Rattle.rdl_rules.specs.ReferenceRules.{of_references, second_reset}
 use Rattle.rdl_rules.specs.RegisterRules.{empty_container, of_alias, of_fields, of_register, too_many_fields}
 
-none-in : (f : Fault) → Contains [] f → ⊥
+pub none-in : (f : Fault) → Contains [] f → ⊥
 none-in f h = let l = h.1 in omega (arith, l)
 
 module _ (e : Elab) (clean : IsListOf (meaning_fails e) []) where
   never : (p : Place) → Contains (failures6 (Some (top_name e)) e.source.now) (at_ rules.F2 p) → ⊥
   never p c = none-in (at_ rules.F2 p) ((clean.exact (at_ rules.F2 p)).1 c)
 
-  among : (f : Fault) → In (flat_map (of_register (nodes_of e)) (registers (nodes_of e))) f → Contains (failures6 (Some (top_name e)) e.source.now) f
+  pub among : (f : Fault) → In (flat_map (of_register (nodes_of e)) (registers (nodes_of e))) f → Contains (failures6 (Some (top_name e)) e.source.now) f
   unfolding failures6
   among f h =
       let a = flat_map (of_register (nodes_of e)) (registers (nodes_of e)) in

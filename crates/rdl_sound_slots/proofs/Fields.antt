@@ -14,7 +14,7 @@ use Rattle.rdl_aliases.proofs.Lists.{in-filter}
 use Rattle.rdl_listed.proofs.Found.{field-at}
 use Rattle.rdl_sound_slots.specs.Fielded.{IsViewed}
 
-itself : (ns : List Instance) (r f : Instance) → is_alias r ≡ false → viewed ns r f ≡ f ∷ []
+pub itself : (ns : List Instance) (r f : Instance) → is_alias r ≡ false → viewed ns r f ≡ f ∷ []
 itself ns r f own = rw own refl
 
 pub own-field : (wanted : Option (List ℕ)) (s : Source) (waits : ℕ) (b : Block) (r f : Instance) → IsBlockOf wanted s waits b → Contains (registers (nodes wanted s)) r → is_alias r ≡ false → Contains (fields_of r) f → IsViewed (lineages wanted s) b r f

@@ -1,4 +1,9 @@
+mod Aliases
+mod Differing
 mod Failing
 mod Fields
+mod Names
 mod Slots
+mod Views
 mod Widths
+mod Words

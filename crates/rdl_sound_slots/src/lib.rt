@@ -3,4 +3,6 @@
 
 mod laws;
 
-pub use laws::{slots_are_sound, views_have_fields};
+pub use laws::{
+    aliases_have_fields, slots_are_sound, views_are_of_fields, views_have_fields, words_are_sound,
+};
