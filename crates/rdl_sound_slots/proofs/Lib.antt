@@ -3,6 +3,7 @@ mod Differing
 mod Failing
 mod Fields
 mod Names
+mod Primaries
 mod Slots
 mod Views
 mod Widths

@@ -7,7 +7,10 @@ ghost use Rattle.rdl_values.specs.Elaborated.{nodes_of, top_name};
 ghost use Rattle.rdl_values.specs.Instances.{Instance, nodes};
 ghost use Rattle.rdl_values.specs.Lineages.{lineages, lineages_of};
 ghost use Rattle.rdl_values.specs.Verdict.{IsListOf};
+ghost use Rattle.rdl_values.specs.Elaboration.{IsClean};
 ghost use Rattle.rdl_layers.specs.Answers.{IsSettled};
+ghost use Rattle.rdl_index.specs.declared.table.Row.{Row as AnyRow};
+ghost use Rattle.rdl_index.specs.Rows.{AreRows};
 ghost use Rattle.rdl_layers.specs.Fields.{fields_of, is_alias, is_alias_of};
 ghost use Rattle.rdl_addr.specs.Answers.{IsPlaced};
 ghost use Rattle.rb_model.specs.declared.block.Block.{Block};
@@ -18,6 +21,8 @@ ghost use Rattle.rdl_rules.specs.Answers.{meaning_fails};
 ghost use Rattle.rdl_rules.specs.Block.{IsBlockOf};
 ghost use Rattle.rdl_rules.specs.Numbers.{registers};
 ghost use Rattle.rdl_sound_slots.specs.Fielded.{HasField, HasOneForm, HavePrimaries, IsViewed};
+
+use rdl_values::primaries_stand;
 
 /// The view of a field of a register that is no alias is of that field, under its own path.
 pub fn views_have_fields()
@@ -56,3 +61,10 @@ pub fn views_are_of_fields()
     ensures { (e : Elab) (waits : ℕ) (b : Block) → IsSettled e → IsListOf (meaning_fails e) [] → IsBlockOf (Some (top_name e)) e.source.now waits b
         → ((n : Instance) → Contains (nodes_of e) n → HasOneForm n) → HavePrimaries (nodes_of e) → Each (λ v. (f : Field) × (slice_get b.fields v.field ≡ Some f) × (v.alias ≡ false → v.path ≡ f.path)) b.views }
 {}
+
+/// Each alias of a tree has one primary, where these are the rows of the tree.
+pub fn aliases_have_primaries()
+    ensures { (e : Elab) (rows : List AnyRow) → IsClean e → AreRows e rows → HavePrimaries (nodes_of e) }
+{
+    primaries_stand();
+}
