@@ -202,3 +202,40 @@ apart-sides false w z e f = cc e
 
 pub reads-exclude : Excludes is_write_only is_read_only
 reads-exclude n w r = apart-sides (list_any reads (fields_of n)) (list_any writes (fields_of n)) (list_any (λ f. reads f || has_on_read f) (fields_of n)) r w
+
+-- Where there is a register, there is a word.
+
+some-count : (a w : ℕ) → (a ≡ 8) ⊎ (a ≡ 16) ⊎ (a ≡ 32) → a ≤ w → 0 < w / a
+some-count a w (inl e) l = subst (λ x. 0 < w / x) (sym e) (omega (arith, e, l))
+some-count a w (inr (inl e)) l = subst (λ x. 0 < w / x) (sym e) (omega (arith, e, l))
+some-count a w (inr (inr e)) l = subst (λ x. 0 < w / x) (sym e) (omega (arith, e, l))
+
+in-some : {X : Type 0} (xs : List X) (x : X) → In xs x → 0 < length xs
+in-some [] x h = absurd h
+in-some (y ∷ ys) x h = omega arith
+
+module _ (test mate : Instance → Bool) (excludes : Excludes test mate) (ps : List Placed) (clear : Apart Clear ps) (stands : (p : Placed) → In ps p → Stands p) (p : Placed) (i : In ps p) where
+  own : (r : Numbered Placed) × In (numbered (λ x. x.node) ps) r × (r.register ≡ p)
+  own = number-of 0 0 ps p i
+
+  first-word : In (words_of own.0) (word_of own.0 0)
+  first-word =
+      let s = subst Stands (sym own.2) (stands p i) in
+      let n = width own.0.register.node / access own.0.register.node in
+      in-map (word_of own.0) (upto n) 0 (in-upto n 0 (some-count (access own.0.register.node) (width own.0.register.node) s.widths_.wide s.widths_.fits))
+
+  some-word : (w : Word) × In (words_but test mate ps) w
+  some-word = by (test own.0.register.node) refl
+    where
+      by : (b : Bool) → test own.0.register.node ≡ b → (w : Word) × In (words_but test mate ps) w
+      by false e = (word_of own.0 0, in-flat words_of (filter (λ r. not (test r.register.node && shares_with mate ps r.register)) (numbered (λ (x : Placed). x.node) ps)) own.0 (word_of own.0 0) (in-filter (λ r. not (test r.register.node && shares_with mate ps r.register)) (numbered (λ (x : Placed). x.node) ps) own.0 own.1 (ap (λ b. not (b && shares_with mate ps own.0.register)) e)) first-word)
+      by true e =
+          let other = in-flat words_of (filter (λ r. not (mate r.register.node && shares_with test ps r.register)) (numbered (λ (x : Placed). x.node) ps)) own.0 (word_of own.0 0) (in-filter (λ r. not (mate r.register.node && shares_with test ps r.register)) (numbered (λ (x : Placed). x.node) ps) own.0 own.1 (stays test mate excludes ps clear stands own.0 e)) first-word in
+          let w = moved mate test (λ n a b. excludes n b a) ps clear stands (word_of own.0 0) other in
+          (w.0, w.1)
+
+  pub some-ordered : (ws : List Word) → AreByAddress (words_but test mate ps) ws → 0 < length ws
+  some-ordered ws by = let w = some-word in in-some ws w.0 (in-from ws w.0 (Contains-permutation (words_but test mate ps) ws w.0 by.same (in-to (words_but test mate ps) w.0 w.1)))
+
+pub writes-exclude : Excludes is_read_only is_write_only
+writes-exclude n r w = reads-exclude n w r

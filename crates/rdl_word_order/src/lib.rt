@@ -3,4 +3,4 @@
 
 mod laws;
 
-pub use laws::{same_addresses, words_rise};
+pub use laws::{same_addresses, some_words, words_rise};
