@@ -1,0 +1,16 @@
+-- The tables of the references of a tree.
+use Rattle.std.specs.Prelude.{◌≡◌}
+use Rattle.topological_order.specs.Levels.{AreWithin, lists}
+use Rattle.rdl_tree.specs.declared.node.Elab.{Elab}
+use Rattle.rdl_values.specs.Lineages.{lineages_of}
+use Rattle.rdl_refs.specs.Follows.{edges_of}
+use Rattle.rdl_item_numbers.specs.Numbered.{AreNumbers}
+use Rattle.rdl_ref_targets.specs.Targeted.{AreTargets}
+use Rattle.rdl_bind.specs.declared.tables.Tables.{Tables}
+
+-- All items and their numbers, what each refers to, and what the settings of each node name.
+pub record AreMade (e : Elab) (x : Tables) : Type 0 where
+  pub numbers_ : AreNumbers e x.numbers
+  pub refer : lists x.edges.items ≡ edges_of (lineages_of e)
+  pub within : AreWithin (lists x.edges.items)
+  pub targets_ : AreTargets e x.targets.items
