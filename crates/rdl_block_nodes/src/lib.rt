@@ -1,0 +1,6 @@
+//! The signals of a block.
+#![tactic(auto)]
+
+mod signal_list;
+
+pub use signal_list::signals;

@@ -1,0 +1,6 @@
+//! The registers of a block.
+#![tactic(auto)]
+
+mod list;
+
+pub use list::regs;
