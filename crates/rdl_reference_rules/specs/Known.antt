@@ -1,5 +1,5 @@
 -- What the rules on references are given of a tree.
-use Rattle.std.specs.Prelude.{List}
+use Rattle.std.specs.Prelude.{◌≡◌, List}
 use Rattle.rdl_tree.specs.declared.node.Elab.{Elab}
 use Rattle.rdl_values.specs.Elaboration.{IsClean}
 use Rattle.rdl_index.specs.declared.table.Row.{Row}

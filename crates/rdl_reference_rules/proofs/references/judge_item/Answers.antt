@@ -1,4 +1,4 @@
-use Rattle.std.proofs.Common.{◌∙◌, not, ap, arith}
+use Rattle.std.proofs.Common.{◌≡◌, ◌∙◌, not, ap, arith}
 use Rattle.rb_base.specs.declared.rule.Rule.TheVariants as rule
 use Rattle.rdl_values.specs.Faults.{at_, when}
 use Rattle.rdl_judging.specs.Noted.{with_all}

@@ -7,10 +7,11 @@ use Rattle.rdl_values.specs.Lineages.{lineages_of}
 use Rattle.rdl_judging.specs.Noted.{with_all}
 use Rattle.rdl_layers.specs.Settings.{setting}
 use Rattle.rdl_refs.specs.Items.{target}
+use Rattle.rdl_rules.specs.ReferenceRules.{bad_item}
 use Rattle.rdl_named_items.specs.Named.{Names}
 use Rattle.rdl_reference_rules.specs.Judged.{TellsPlace}
-use Rattle.rdl_reference_rules.proofs.Items.{names-one, number-below}
-use Rattle.rdl_reference_rules.proofs.Turns.{named-fails}
+use Rattle.rdl_reference_rules.proofs.Items.{names-none, names-one, number-below}
+use Rattle.rdl_reference_rules.proofs.Turns.{named-fails, none-fails}
 use Rattle.rdl_reference_rules.proofs.references.judge_prop.Goals as goal
 
 pub named_item-requires : goal.named_item-requires
