@@ -84,10 +84,10 @@ module _ (e : Elab) (b : Block) (ks : List ℕ) (clean : IsClean e) (bound : IsB
   abbrev all : List Lineage
   all = lineages_of e
 
-  abbrev shown : ℕ → List RefItem
+  abbrev pub shown : ℕ → List RefItem
   shown k = flat_map (shown_as all) (option_to_list (slice_get (items all) k))
 
-  edges-many : length (edges_of all) ≡ length (items all)
+  pub edges-many : length (edges_of all) ≡ length (items all)
   unfolding edges_of
   edges-many = length-map (items all) (λ i. map (item_number all) (refers_to all i))
 
@@ -95,7 +95,7 @@ module _ (e : Elab) (b : Block) (ks : List ℕ) (clean : IsClean e) (bound : IsB
   unfolding edges_of
   edge k x y here h = (map (item_number all) (refers_to all x), get-map (λ i. map (item_number all) (refers_to all i)) (items all) k x here, in-to (map (item_number all) (refers_to all x)) (item_number all y) (in-map (item_number all) (refers_to all x) y h))
 
-  among-all : (q : ℕ) → q < length (items all) → In ks q
+  pub among-all : (q : ℕ) → q < length (items all) → In ks q
   among-all q l = in-from ks q (Contains-permutation (upto (length (edges_of all))) ks q (IsPermutation-sym ks (upto (length (edges_of all))) order.each_once) (in-to (upto (length (edges_of all))) q (below-upto (length (edges_of all)) q (let m = edges-many in omega (arith, l, m)))))
 
   -- what a thing refers to stands before it
@@ -107,7 +107,7 @@ module _ (e : Elab) (b : Block) (ks : List ℕ) (clean : IsClean e) (bound : IsB
       go (inr (inl i)) = absurd (each-in (λ a. ¬ (Refers (edges_of all) a a)) ks k (recursion_from_All (λ a. ¬ (Refers (edges_of all) a a)) ks order.not_to_itself) (subst (λ xs. In xs k) (sym split) (in-right pre (k ∷ rest) k (inl refl))) (subst (Refers (edges_of all) k) (sym i) r))
       go (inr (inr i)) = absurd (later (λ x y. ¬ (Refers (edges_of all) x y)) pre k rest q (subst (AllPairs (λ x y. ¬ (Refers (edges_of all) x y))) split order.after_its_own) i r)
 
-  shown-there : (y : Item) (q : ℕ) (j : RefItem) → slice_get (items all) q ≡ Some y → (is_missing y || is_in_alias y) ≡ false → j ≡ ref_to all y → In (shown q) j
+  pub shown-there : (y : Item) (q : ℕ) (j : RefItem) → slice_get (items all) q ≡ Some y → (is_missing y || is_in_alias y) ≡ false → j ≡ ref_to all y → In (shown q) j
   shown-there y q j here present same = subst (λ o. In (flat_map (shown_as all) (option_to_list o)) j) (sym here) (in-left (shown_as all y) [] j (subst (λ c. In (cond c [] (ref_to all y ∷ [])) j) (sym present) (inl (sym same))))
 
   reached : (pre : List ℕ) (k : ℕ) (rest : List ℕ) (x : Item) → ks ≡ pre ++ (k ∷ rest) → slice_get (items all) k ≡ Some x → (j : RefItem) → Reaches e b clean bound none is x j → In (flat_map shown pre) j

@@ -1,6 +1,10 @@
 mod After
+mod All
+mod Distinct
 mod Fields
 mod Made
-mod Numbers
+mod Members
+pub mod Numbers
+mod Permuted
 mod Places
 mod Within

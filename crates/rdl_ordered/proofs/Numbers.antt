@@ -58,7 +58,7 @@ apart-index f (x ∷ xs) h zero (suc j) a b p q e = let s : x ≡ a = cc p in ab
 apart-index f (x ∷ xs) h (suc i) zero a b p q e = let s : x ≡ b = cc q in absurd (each-in (λ y. f x ≢ f y) xs a h.0 (place-in xs i a p) (ap f s ∙ sym e))
 apart-index f (x ∷ xs) h (suc i) (suc j) a b p q e = ap suc (apart-index f xs h.1 i j a b p q e)
 
-node-lineages : (ls : List Lineage) → Apart (λ (a b : Instance). a.path ≢ b.path) (nodes_in ls) → Apart (λ (a b : Lineage). a.node.path ≢ b.node.path) ls
+pub node-lineages : (ls : List Lineage) → Apart (λ (a b : Instance). a.path ≢ b.path) (nodes_in ls) → Apart (λ (a b : Lineage). a.node.path ≢ b.node.path) ls
 node-lineages [] h = tt
 node-lineages (l ∷ ls) h = (go ls h.0, node-lineages ls h.1)
   where

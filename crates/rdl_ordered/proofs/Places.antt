@@ -62,7 +62,7 @@ module _ (wanted : Option (List ℕ)) (s : Source) where
   pub register-in : (r : Numbered Lineage) → In (own all) r → In (registers ns) r.register.node
   register-in r h = place-in (registers ns) r.number r.register.node (register-at r h)
 
-  own-register : (r : Numbered Lineage) → In (own all) r → is_alias r.register.node ≡ false
+  pub own-register : (r : Numbered Lineage) → In (own all) r → is_alias r.register.node ≡ false
   own-register r h = is-false (is_alias r.register.node) (passing (λ (x : Numbered Lineage). not (is_alias x.register.node)) (numbered_registers all) r h)
     where
       is-false : (b : Bool) → not b ≡ true → b ≡ false
@@ -88,8 +88,8 @@ module _ (wanted : Option (List ℕ)) (s : Source) where
   pairs-own : map (λ (p : Numbered Lineage × Instance). p.1) (pairs (own all)) ≡ all_fields ns
   pairs-own = own-fields all ∙ ap all_fields (all_nodes wanted s)
 
-  at-number : (f : Instance) → In (all_fields ns) f → slice_get (all_fields ns) (number_of f (all_fields ns)) ≡ Some f
-  at-number f i = found (all_fields ns) f (λ m j e. one-node wanted s m f (field-in wanted s m j) (field-in wanted s f i) e) i
+  pub field-number : (f : Instance) → In (all_fields ns) f → slice_get (all_fields ns) (number_of f (all_fields ns)) ≡ Some f
+  field-number f i = found (all_fields ns) f (λ m j e. one-node wanted s m f (field-in wanted s m j) (field-in wanted s f i) e) i
 
   at-pair : (b : Block) → HasLists wanted s b → (k : ℕ) (p : Numbered Lineage × Instance) → slice_get (pairs (own all)) k ≡ Some p → IsAt b k p.1
   at-pair b is k p e =
@@ -105,14 +105,14 @@ module _ (wanted : Option (List ℕ)) (s : Source) where
         of = subst (λ (r : Numbered Lineage). In (fields_of r.register.node) p.1) reg (subst (In (fields_of q.0.register.node)) fld f.1);
         here = ap (λ xs. slice_get xs k) (sym (pairs-fields b is)) ∙ get-map (λ (x : Numbered Lineage × Instance). field_of s all x.0 x.1) (pairs (own all)) k p e;
         listed = i;
-        number = apart-index (λ (n : Instance). n.path) (all_fields ns) own-apart (number_of p.1 (all_fields ns)) k p.1 p.1 (at-number p.1 i) at refl;
+        number = apart-index (λ (n : Instance). n.path) (all_fields ns) own-apart (number_of p.1 (all_fields ns)) k p.1 p.1 (field-number p.1 i) at refl;
       }
 
   -- a field at its number
   pub field-at : (b : Block) → HasLists wanted s b → (f : Instance) → In (all_fields ns) f → IsAt b (number_of f (all_fields ns)) f
   field-at b is f i =
       let k = number_of f (all_fields ns) in
-      let p = got (λ (x : Numbered Lineage × Instance). x.1) (pairs (own all)) k f (ap (λ xs. slice_get xs k) pairs-own ∙ at-number f i) in
+      let p = got (λ (x : Numbered Lineage × Instance). x.1) (pairs (own all)) k f (ap (λ xs. slice_get xs k) pairs-own ∙ field-number f i) in
       subst (IsAt b k) p.2 (at-pair b is k p.0 p.1)
 
   -- what stands at a number

@@ -71,7 +71,7 @@ in-if false xs x h = absurd h
 same-numbers : (m n : ℕ) → (m == n) ≡ true → m ≡ n
 same-numbers m n e = grind (arith, nat_tests, e)
 
-enumerated : {X : Type 0} (n : ℕ) (xs : List X) (p : ℕ × X) → In (enumerate_from n xs) p → (k : ℕ) × (p.0 ≡ n + k) × (slice_get xs k ≡ Some p.1)
+pub enumerated : {X : Type 0} (n : ℕ) (xs : List X) (p : ℕ × X) → In (enumerate_from n xs) p → (k : ℕ) × (p.0 ≡ n + k) × (slice_get xs k ≡ Some p.1)
 enumerated n [] p h = absurd h
 enumerated n (x ∷ xs) p (inl e) = (0, ap (λ (q : ℕ × _). q.0) (sym e) ∙ omega arith, ap (λ (q : ℕ × _). Some q.1) e)
 enumerated n (x ∷ xs) p (inr h) = let r = enumerated (n + 1) xs p h in (suc r.0, r.1 ∙ omega arith, r.2)

@@ -42,6 +42,8 @@ use Rattle.rdl_values.specs.Parts.{is_empty}
 use Rattle.rdl_values.specs.Top.{root}
 use Rattle.rdl_values.specs.Verdict.{IsListOf}
 use Rattle.rdl_values.proofs.Numbered.{counted}
+use Rattle.rdl_lineages.proofs.Members.{get-within}
+use Rattle.rdl_node_facts.specs.Told.{AreTold}
 
 items-length : (vs : List (Vec Entry Global)) → length (map (λ v. v.items) vs) ≡ length vs
 items-length [] = refl
@@ -161,6 +163,14 @@ tables e es start now clean h say = record {
       let size = counted (Some (top_name e)) e.source.now e clean.elaborated.tree in
       let n = within-some (nodes_of e) k (omega (arith, l, size)) in
       (n.0, n.1, say n.0 (entries_at es k) (h.told k n.0 l (at_node e k n.0 n.1)) p);
+}
+
+pub told_all : (e : Elab) (es : List (Vec Entry Global)) (start now : List Fault) → IsClean e → AreGathered e es start now → AreTold e es
+told_all e es start now clean h = record {
+  each = λ k n here.
+      let l = get-within (nodes_of e) k n here in
+      let size = counted (Some (top_name e)) e.source.now e clean.elaborated.tree in
+      h.told k n (omega (arith, l, size)) (at_node e k n here);
 }
 
 pub settled : (e : Elab) (es : List (Vec Entry Global)) (now : List Fault) → IsClean e → AreGathered e es [] now → now ≡ [] → IsSettled e

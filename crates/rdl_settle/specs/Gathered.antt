@@ -22,11 +22,14 @@ use Rattle.rdl_layered.specs.Layered.{of_layers, of_nodes}
 use Rattle.rdl_layered.specs.declared.table.LayerTable.{LayerTable}
 use Rattle.rdl_layers.specs.declared.error.LayerError.{LayerError}
 use Rattle.rdl_layers.specs.declared.error.LayerError.TheVariants as error
+use Rattle.rdl_index.specs.Rows.{AreRows}
+use Rattle.rdl_opened.specs.Spots.{IsOpenTree}
 use Rattle.rdl_opened.specs.declared.spots.OpenTree.{OpenTree}
 use Rattle.rdl_opened.specs.declared.spots.Spot.{Spot}
 use Rattle.rdl_tree.specs.declared.node.Node.{Node}
 use Rattle.rdl_values.specs.Bodies.{standing}
 use Rattle.rdl_values.specs.Top.{root}
+use Rattle.rdl_settle.specs.declared.settling.Gathered.{Gathered}
 
 -- the failures of the dynamic assignments in the body of a node
 abbrev pub of_dynamics : Instance → List Fault
@@ -65,6 +68,12 @@ pub record AreGathered (e : Elab) (es : List (Vec Entry Global)) (before after :
   pub all_nodes : length es ≡ e.count
   pub noted : after ≡ with_all (all_of e) before
   pub told : (j : ℕ) (m : Instance) → j < e.count → IsAt (lineages_of e) j m → AreEntries (nodes_of e) (entries_at es j) (applied_to m)
+
+-- So it is of the nodes of the tree, which are listed, with the bodies that are open for them.
+pub record IsGathered (e : Elab) (g : Gathered) (before after : List Fault) : Type 0 where
+  pub rows_ : AreRows e g.rows.items
+  pub open_ : IsOpenTree e g.tree
+  pub all : AreGathered e g.entries.items before after
 
 -- the error has these failures, or memory was refused
 abbrev pub IsRefused : List Fault → LayerError → Type 0

@@ -1,8 +1,8 @@
-//! What every property of every node of a tree is set to (SystemRDL 2.0, 5.1.3).
+//! What every property of every node of a tree is set to (SystemRDL 2.0, 5.1.3), and the facts of its fields and signals.
 #![tactic(auto)]
 
 mod above;
 mod completing;
 mod settling;
 
-pub use settling::settle;
+pub use settling::{Settled, settle};

@@ -2,21 +2,40 @@
 
 ghost use Rattle.std.specs.Prelude.{IfOk};
 ghost use Rattle.rdl_values.specs.Elaboration.{IsClean};
-ghost use Rattle.rdl_layers.specs.Answers.{Answers4};
-ghost use Rattle.rdl_settle.specs.Gathered.{AreGathered, IsRefused};
+ghost use Rattle.rdl_settle.specs.Gathered.{IsGathered, IsRefused};
+ghost use Rattle.rdl_settle.specs.Settled.{Settles};
 
 use crate::above::assign_all;
 use crate::completing::complete_all;
 use bumpalo::Bump;
 use rb_base::NoMemory;
-use rdl_index::rows;
+use rdl_facts::Fact;
+use rdl_index::{Row, rows};
 use rdl_judging::Failures;
 use rdl_layered::judge_layers;
 use rdl_layers::{Entry, LayerError, Props};
 use rdl_merged::entries_say;
-use rdl_opened::open_tree;
+use rdl_node_facts::facts_of;
+use rdl_opened::{OpenTree, open_tree};
 use rdl_tree::Elab;
 use std::alloc::Global;
+
+/// What is known of the nodes of a tree of which no rule on settings fails.
+#[derive(Drop)]
+pub struct Settled<'a> {
+    /// What their properties are set to.
+    pub props: Props<'a>,
+    /// What is known of the fields and signals beside that, each at its number.
+    pub facts: Vec<Fact>,
+}
+
+/// The nodes of a tree, the bodies that are open for them, and what decides their properties.
+#[derive(Drop)]
+struct Gathered<'a> {
+    rows: Vec<Row<'a>>,
+    tree: OpenTree<'a>,
+    entries: Vec<Vec<Entry<'a>>>,
+}
 
 // Puts in all failures of the phase, and gives the entries of each node.
 fn gather<'a>(
@@ -24,9 +43,9 @@ fn gather<'a>(
     arena: &'a Bump,
     elab: &Elab<'a>,
     failures: &mut Failures,
-) -> Result<Vec<Vec<Entry<'a>>>, NoMemory>
+) -> Result<Gathered<'a>, NoMemory>
     requires { IsClean elab.now }
-    ensures { IfOk result (λ r. AreGathered elab.now r.items failures.old failures.new) }
+    ensures { IfOk result (λ r. IsGathered elab.now r failures.old failures.new) }
 {
     let rows = rows(alloc, elab)?;
     let tree = open_tree(alloc, arena, elab, &rows)?;
@@ -41,7 +60,11 @@ fn gather<'a>(
         &mut entries,
         failures,
     )?;
-    Ok(entries)
+    Ok(Gathered {
+        rows,
+        tree,
+        entries,
+    })
 }
 
 // The failures as an error.
@@ -54,19 +77,32 @@ fn refused<'a>(alloc: Global, failures: Failures) -> LayerError
     }
 }
 
-/// What every property of every node of a tree is set to, or all failures of the phase: rules P1 to P11, and V rules in values and indices
-/// (SystemRDL 2.0, 5.1.3). What is opened stays in the arena.
-pub fn settle<'a>(alloc: Global, arena: &'a Bump, elab: &Elab<'a>) -> Result<Props<'a>, LayerError>
+/// What every property of every node of a tree is set to, and the facts of its fields and signals, or all failures of the phase: rules
+/// P1 to P11, and V rules in values and indices (SystemRDL 2.0, 5.1.3). What is opened stays in the arena.
+pub fn settle<'a>(
+    alloc: Global,
+    arena: &'a Bump,
+    elab: &Elab<'a>,
+) -> Result<Settled<'a>, LayerError>
     requires { IsClean elab.now }
-    ensures { Answers4 elab.now result }
+    ensures { Settles elab.now result }
 {
     entries_say();
     let mut failures = Failures::new(alloc);
-    let Ok(entries) = gather(alloc, arena, elab, &mut failures) else {
+    let Ok(gathered) = gather(alloc, arena, elab, &mut failures) else {
         return Err(LayerError::NoMemory);
     };
-    if failures.is_empty() {
-        return Ok(Props::of(*elab, entries));
+    if !failures.is_empty() {
+        return Err(refused(alloc, failures));
     }
-    Err(refused(alloc, failures))
+    let Gathered {
+        rows,
+        tree,
+        entries,
+    } = gathered;
+    let Ok(facts) = facts_of(alloc, &rows, &tree, &entries) else {
+        return Err(LayerError::NoMemory);
+    };
+    let props = Props::of(*elab, entries);
+    Ok(Settled { props, facts })
 }

@@ -64,12 +64,12 @@ fn grown<'a>(
 fn judge<'a>(alloc: Global, arena: &'a Bump, elab: &Elab<'a>) -> Result<Answer, NoMemory>
     requires { IsClean elab.now }
 {
-    let props = match settle(alloc, arena, elab) {
-        Ok(props) => props,
+    let settled = match settle(alloc, arena, elab) {
+        Ok(settled) => settled,
         Err(LayerError::Faults(_)) => return Ok(Answer::Earlier),
         Err(LayerError::NoMemory) => return Err(NoMemory),
     };
-    match place(alloc, elab, &props) {
+    match place(alloc, elab, &settled.props) {
         Ok(_) => Ok(Answer::Placed),
         Err(AddrError::Faults(faults)) => Ok(Answer::Refused(faults)),
         Err(AddrError::NoMemory) => Err(NoMemory),

@@ -4,7 +4,6 @@ ghost use Rattle.std.specs.Prelude.{◌≡◌, ◌<◌, ◌^◌, IfOk, IfSome, l
 ghost use Rattle.rdl_tree.specs.InOrder.{IsInOrder};
 ghost use Rattle.rdl_values.specs.Elaboration.{IsClean};
 
-use crate::cases::Case;
 use bumpalo::Bump;
 use rb_base::{Fault, NoMemory};
 use rdl_bind::bind;
@@ -133,12 +132,12 @@ fn found(alloc: Global, refs: &Refs<'_>, count: u32) -> Result<Bound, NoMemory>
 fn judge<'a>(alloc: Global, arena: &'a Bump, elab: &Elab<'a>) -> Result<Answer, NoMemory>
     requires { IsClean elab.now }
 {
-    let props = match settle(alloc, arena, elab) {
-        Ok(props) => props,
+    let settled = match settle(alloc, arena, elab) {
+        Ok(settled) => settled,
         Err(LayerError::Faults(_)) => return Ok(Answer::Earlier),
         Err(LayerError::NoMemory) => return Err(NoMemory),
     };
-    match bind(alloc, elab, &props) {
+    match bind(alloc, elab, &settled.props) {
         Ok(refs) => Ok(Answer::Bound(found(alloc, &refs, elab.count)?)),
         Err(RefError::Faults(faults)) => Ok(Answer::Refused(faults)),
         Err(RefError::NoMemory) => Err(NoMemory),
@@ -158,10 +157,10 @@ fn judge_source<'a>(
     judge(alloc, arena, &elab)
 }
 
-/// The answer to a case.
-pub(crate) fn judge_case(alloc: Global, case: Case) -> Answer {
+/// The answer to a source.
+pub(crate) fn judge_text(alloc: Global, text: &str) -> Answer {
     let arena = Bump::new(alloc);
-    let Some(source) = read(&arena, case.source.as_bytes()) else {
+    let Some(source) = read(&arena, text.as_bytes()) else {
         return Answer::Earlier;
     };
     match judge_source(alloc, &arena, source) {

@@ -110,7 +110,10 @@ fn judge<'a>(
         return Ok(Answer::BadInstances);
     };
     match settle(alloc, arena, &tree) {
-        Ok(props) => Ok(Answer::Settled(lines_of(alloc, tree.count, &props, case.shown)?)),
+        Ok(settled) => {
+            let lines = lines_of(alloc, tree.count, &settled.props, case.shown)?;
+            Ok(Answer::Settled(lines))
+        }
         Err(LayerError::Faults(faults)) => Ok(Answer::Refused(faults)),
         Err(LayerError::NoMemory) => Err(NoMemory),
     }

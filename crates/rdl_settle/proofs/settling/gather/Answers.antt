@@ -24,4 +24,8 @@ returns c =
     let layered = c.in_ok-layers.ensures e c.in_ok-tree.ensures in
     let assigned = c.in_ok-entries.ensures e c.args.failures.now c.judge_layers.new.failures c.requires (subst (AreRows c.args.elab.now) (sym c.deref-2.ensures.value) c.in_ok-rows.ensures) c.in_ok-tree.ensures layered in
     let scene : IsScene e c.in_ok-tree.tree c.in_ok-layers.layers e.count = record { clean = c.requires; open_ = c.in_ok-tree.ensures; before = _; after = _; layered = layered; count_is = refl } in
-    gathered e c.in_ok-entries.entries.items c.complete_all.new.entries.items c.args.failures.now c.judge_layers.new.failures c.assign_all.new.failures c.complete_all.new.failures layered.noted assigned (c.in_ok-complete_all.ensures e c.judge_layers.new.failures c.assign_all.new.failures (subst (AreRows c.args.elab.now) (sym c.deref-3.ensures.value) c.in_ok-rows.ensures) scene assigned)
+    record {
+      rows_ = c.in_ok-rows.ensures;
+      open_ = c.in_ok-tree.ensures;
+      all = gathered e c.in_ok-entries.entries.items c.complete_all.new.entries.items c.args.failures.now c.judge_layers.new.failures c.assign_all.new.failures c.complete_all.new.failures layered.noted assigned (c.in_ok-complete_all.ensures e c.judge_layers.new.failures c.assign_all.new.failures (subst (AreRows c.args.elab.now) (sym c.deref-3.ensures.value) c.in_ok-rows.ensures) scene assigned);
+    }

@@ -1,0 +1,59 @@
+-- What the words of a command line ask for.
+use Rattle.std.specs.Prelude.{◌≡◌, ◌≢◌, ℕ, ◌<◌, ◌≤◌, IsTrue, List, [], ◌∷◌, ◌++◌, All, Option, None, Some, length, map, slice_index, codes, String}
+use Rattle.std.specs.String.{string_bytes}
+use Rattle.std.specs.declared.alloc.Global.{Global}
+use Rattle.rdl_tree.specs.Words.{is_word}
+
+-- a command: the name of the top, where one is given, and the names of its files
+pub data Command : Type 0 where
+  compile : (top : Option (List ℕ)) (source : List ℕ) → Command
+  check : (top : Option (List ℕ)) (sources : List (List ℕ)) → Command
+  map_of : (top : Option (List ℕ)) (source : List ℕ) → Command
+  sim : (verilog stimulus : List ℕ) → Command
+
+-- a word that names a file: it isn't empty and doesn't begin with a dash
+pub record IsFileWord (word : List ℕ) : Type 0 where
+  pub some : 0 < length word
+  pub no_dash : slice_index word 0 ≢ 45
+
+-- the name of the top is a letter or _, then letters, digits and _
+abbrev pub IsTop : Option (List ℕ) → Type 0
+IsTop None = Unit {0}
+IsTop (Some name) = IsTrue (is_word name)
+
+-- 1 to 64 words that name files
+pub record AreFileWords (words : List (List ℕ)) : Type 0 where
+  pub some : 0 < length words
+  pub few : length words ≤ 64
+  pub each : All IsFileWord words
+
+-- the words that name the top
+abbrev pub top_words : Option (List ℕ) → List (List ℕ)
+top_words None = []
+top_words (Some name) = codes "--top" ∷ name ∷ []
+
+-- the words of a command
+abbrev pub words_of : Command → List (List ℕ)
+words_of (compile top source) = codes "compile" ∷ top_words top ++ source ∷ []
+words_of (check top sources) = codes "check" ∷ top_words top ++ sources
+words_of (map_of top source) = codes "map" ∷ top_words top ++ source ∷ []
+words_of (sim verilog stimulus) = codes "sim" ∷ verilog ∷ stimulus ∷ []
+
+-- the words that a command carries have their form
+abbrev pub IsCommand : Command → Type 0
+IsCommand (compile top source) = IsTop top × IsFileWord source
+IsCommand (check top sources) = IsTop top × AreFileWords sources
+IsCommand (map_of top source) = IsTop top × IsFileWord source
+IsCommand (sim verilog stimulus) = IsFileWord verilog × IsFileWord stimulus
+
+-- the words ask for the command
+pub record Asks (words : List (List ℕ)) (command : Command) : Type 0 where
+  pub spelled : words ≡ words_of command
+  pub formed : IsCommand command
+
+-- they ask for none
+abbrev pub AsksNothing : List (List ℕ) → Type 0
+AsksNothing words = (command : Command) → Asks words command → ⊥
+
+abbrev pub texts : List (String Global) → List (List ℕ)
+texts words = map (λ word. string_bytes word) words

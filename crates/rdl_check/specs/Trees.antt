@@ -1,0 +1,44 @@
+-- A tree in which no rule fails, and what its block is made of.
+use Rattle.std.specs.Prelude.{◌≡◌, ℕ, List, [], map}
+use Rattle.rb_model.specs.declared.kinds.RefItem.{RefItem}
+use Rattle.rdl_tree.specs.declared.node.Elab.{Elab}
+use Rattle.rdl_values.specs.Elaborated.{nodes_of}
+use Rattle.rdl_values.specs.Lineages.{lineages_of}
+use Rattle.rdl_values.specs.Verdict.{IsListOf}
+use Rattle.rdl_marks.specs.Marks.{AreMarks}
+use Rattle.rdl_node_numbers.specs.Numbers.{AreNodeNumbers}
+use Rattle.rdl_node_texts.specs.Texts.{AreTexts}
+use Rattle.rdl_ordered.specs.Ordered.{in_turn}
+use Rattle.rdl_refs.specs.Follows.{edges_of}
+use Rattle.rdl_refs.specs.Graph.{IsOrder}
+use Rattle.rdl_rules.specs.Answers.{IsReady, meaning_fails}
+use Rattle.rdl_rules.specs.Block as blocks
+use Rattle.rdl_rules.specs.Numbers.{all_signals, registers}
+pub use Rattle.rdl_sound_blocks.specs.Forms.{HaveOneForm}
+use Rattle.rdl_check.specs.declared.lists.Lists.{Lists}
+use Rattle.rdl_check.specs.declared.lists.Tables.{Tables}
+
+-- No rule fails of the tree.
+pub record IsClear (e : Elab) : Type 0 where
+  pub ready : IsReady e
+  pub forms : HaveOneForm e
+  pub none : IsListOf (meaning_fails e) []
+
+-- The path texts, the numbers and the marks of its nodes.
+pub record AreTables (e : Elab) (t : Tables) : Type 0 where
+  pub texts_ : AreTexts e t.texts.items
+  pub numbers_ : AreNodeNumbers e t.numbers
+  pub marks_ : AreMarks e t.marks.items
+
+-- The lists are those of its block.
+pub record AreLists (e : Elab) (l : Lists) : Type 0 where
+  pub signals_ : l.signals ≡ map blocks.signal_of (all_signals (nodes_of e))
+  pub fields_ : l.fields ≡ blocks.fields e.source.now (lineages_of e)
+  pub views_ : l.views ≡ blocks.views (lineages_of e)
+  pub regs_ : l.regs ≡ map blocks.reg_of (registers (nodes_of e))
+
+-- The items stand in an order of the tree's.
+pub record AreInTurn (e : Elab) (is : List RefItem) : Type 0 where
+  pub numbers : List ℕ
+  pub order : IsOrder (edges_of (lineages_of e)) numbers
+  pub turned : is ≡ in_turn (lineages_of e) numbers

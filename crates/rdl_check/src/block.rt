@@ -1,0 +1,73 @@
+//! The block of a tree in which no rule fails.
+
+ghost use Rattle.std.specs.Prelude.{◌≡◌, IfOk, Some};
+ghost use Rattle.rdl_facts.specs.Facts.{AreFacts};
+ghost use Rattle.rdl_index.specs.Rows.{AreRows};
+ghost use Rattle.rdl_values.specs.Elaborated.{top_name};
+ghost use Rattle.rdl_rules.specs.Block.{IsBlockOf};
+ghost use Rattle.rdl_check.specs.Trees.{IsClear};
+
+use crate::lists::{lists_of, order_of, tables_of};
+use rb_base::{NoMemory, Text};
+use rb_model::{Block, Words};
+use rdl_addr::Map;
+use rdl_block_fields::Known;
+use rdl_index::Row;
+use rdl_ordered::{order_has_all_items, order_is_the_blocks};
+use rdl_refs::Refs;
+use rdl_settle::Settled;
+use rdl_tree::Elab;
+use rdl_words::all_words;
+use std::alloc::Global;
+
+fn name_of(alloc: Global, elab: &Elab<'_>) -> Result<Text, NoMemory>
+    ensures { IfOk result (λ t. t ≡ top_name elab.now) }
+{
+    let bytes = Vec::from_slice(alloc, elab.top.name)?;
+    Ok(Text { bytes })
+}
+
+/// The register block of a tree, without wait states, where these are its settings, its places, its references and its rows.
+pub(crate) fn describe<'a>(
+    alloc: Global,
+    elab: &Elab<'a>,
+    settled: &Settled<'a>,
+    map: &Map<'a>,
+    refs: &Refs<'a>,
+    rows: &[Row<'a>],
+) -> Result<Block, NoMemory>
+    requires clear { IsClear elab.now }
+    requires props { settled.now.props ≡ elab.now }
+    requires facts { AreFacts elab.now settled.now.facts.items }
+    requires map { map.now ≡ elab.now }
+    requires refs { refs.now ≡ elab.now }
+    requires rows { AreRows elab.now rows.now }
+    ensures { IfOk result (IsBlockOf (Some (top_name elab.now)) elab.now.source.now 0) }
+{
+    order_is_the_blocks();
+    order_has_all_items();
+    let tables = tables_of(alloc, elab, &settled.props, rows)?;
+    let known = Known {
+        props: &settled.props,
+        refs,
+        rows,
+        own: &tables.numbers.own,
+    };
+    let lists = lists_of(alloc, elab, known, &settled.facts, &tables)?;
+    let words = all_words(alloc, elab, &settled.props, map, rows)?;
+    let order = order_of(alloc, known, &tables.marks)?;
+    let name = name_of(alloc, elab)?;
+    Ok(Block {
+        name,
+        signals: lists.signals,
+        fields: lists.fields,
+        views: lists.views,
+        reads: Words { items: words.reads },
+        writes: Words {
+            items: words.writes,
+        },
+        regs: lists.regs,
+        order,
+        waits: 0,
+    })
+}

@@ -1,0 +1,55 @@
+//! `check`.
+
+ghost use Rattle.std.specs.Prelude.{◌≡◌};
+ghost use Rattle.rdl_facts.specs.Facts.{AreFacts};
+ghost use Rattle.rdl_rules.specs.Answers.{Answers6, IsReady};
+ghost use Rattle.rdl_check.specs.Trees.{HaveOneForm};
+
+use crate::block::describe;
+use rb_base::NoMemory;
+use rb_model::Block;
+use rdl_addr::Map;
+use rdl_index::rows;
+use rdl_refs::Refs;
+use rdl_rule_list::meaning_failures;
+use rdl_rules::CheckError;
+use rdl_settle::Settled;
+use rdl_sound_blocks::blocks_are_sound;
+use rdl_sound_slots::aliases_have_primaries;
+use rdl_tree::Elab;
+use std::alloc::Global;
+
+/// The register block of a tree whose settings, places and references these are, sound and without wait states, or all failures of the
+/// rules on meaning: F1 to F15 and R3 to R8.
+pub fn check<'a>(
+    alloc: Global,
+    elab: &Elab<'a>,
+    settled: &Settled<'a>,
+    map: &Map<'a>,
+    refs: &Refs<'a>,
+) -> Result<Block, CheckError>
+    requires ready { IsReady elab.now }
+    requires forms { HaveOneForm elab.now }
+    requires props { settled.now.props ≡ elab.now }
+    requires facts { AreFacts elab.now settled.now.facts.items }
+    requires map { map.now ≡ elab.now }
+    requires refs { refs.now ≡ elab.now }
+    ensures { Answers6 elab.now result }
+{
+    blocks_are_sound();
+    aliases_have_primaries();
+    let Ok(failures) = meaning_failures(alloc, &settled.props, map, refs, &settled.facts, elab)
+    else {
+        return Err(CheckError::NoMemory);
+    };
+    if !failures.is_empty() {
+        return Err(CheckError::Faults(failures));
+    }
+    let Ok(rows) = rows(alloc, elab) else {
+        return Err(CheckError::NoMemory);
+    };
+    match describe(alloc, elab, settled, map, refs, &rows) {
+        Ok(block) => Ok(block),
+        Err(NoMemory) => Err(CheckError::NoMemory),
+    }
+}

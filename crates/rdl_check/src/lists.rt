@@ -1,0 +1,119 @@
+//! The lists of a block.
+
+ghost use Rattle.std.specs.Prelude.{◌≡◌, IfOk};
+ghost use Rattle.rdl_facts.specs.Facts.{AreFacts};
+ghost use Rattle.rdl_index.specs.Rows.{AreRows};
+ghost use Rattle.rdl_marks.specs.Marks.{AreMarks};
+ghost use Rattle.rdl_block_fields.specs.Known.{IsKnown};
+ghost use Rattle.rdl_check.specs.Trees.{AreInTurn, AreLists, AreTables, IsClear};
+
+use rb_base::{NoMemory, Text};
+use rb_model::{Fields, Order, Regs, Signals, Views};
+use rdl_block_fields::Known;
+use rdl_block_nodes::signals;
+use rdl_block_order::{Listed, block_order};
+use rdl_block_registers::regs;
+use rdl_facts::Fact;
+use rdl_faultless::clean_is_faultless;
+use rdl_field_list::fields;
+use rdl_index::Row;
+use rdl_layers::Props;
+use rdl_marks::{Mark, marks};
+use rdl_node_numbers::{NodeNumbers, node_numbers};
+use rdl_node_texts::path_texts;
+use rdl_refs::order;
+use rdl_tree::Elab;
+use rdl_view_list::views;
+use std::alloc::Global;
+
+/// The path texts of nodes, their numbers in the lists of their kinds, and what registers have for others to refer to.
+#[derive(Drop)]
+pub(crate) struct Tables {
+    pub texts: Vec<Text>,
+    pub numbers: NodeNumbers,
+    pub marks: Vec<Mark>,
+}
+
+/// The lists of a block.
+#[derive(Drop)]
+pub(crate) struct Lists {
+    pub signals: Signals,
+    pub fields: Fields,
+    pub views: Views,
+    pub regs: Regs,
+}
+
+/// What is known of the nodes of a tree.
+pub(crate) fn tables_of(
+    alloc: Global,
+    elab: &Elab<'_>,
+    props: &Props<'_>,
+    rows: &[Row<'_>],
+) -> Result<Tables, NoMemory>
+    requires clear { IsClear elab.now }
+    requires props { props.now ≡ elab.now }
+    requires rows { AreRows elab.now rows.now }
+    ensures { IfOk result (AreTables elab.now) }
+{
+    let texts = path_texts(alloc, elab, rows)?;
+    let numbers = node_numbers(alloc, elab, rows)?;
+    let marks = marks(alloc, props, rows)?;
+    Ok(Tables {
+        texts,
+        numbers,
+        marks,
+    })
+}
+
+/// The lists of the block of a tree.
+pub(crate) fn lists_of<'a>(
+    alloc: Global,
+    elab: &Elab<'a>,
+    known: Known<'_, 'a>,
+    facts: &[Fact],
+    tables: &Tables,
+) -> Result<Lists, NoMemory>
+    requires clear { IsClear elab.now }
+    requires props { known.props.now ≡ elab.now }
+    requires known { IsKnown known }
+    requires facts { AreFacts elab.now facts.now }
+    requires tables { AreTables elab.now tables.now }
+    ensures { IfOk result (AreLists elab.now) }
+{
+    clean_is_faultless();
+    let signals = signals(alloc, elab, known.rows, facts, &tables.texts)?;
+    let fields = fields(alloc, elab, known, facts, &tables.texts)?;
+    let views = views(alloc, known, &tables.numbers.viewed, &tables.texts)?;
+    let regs = regs(alloc, elab, known.rows, &tables.marks, &tables.texts)?;
+    Ok(Lists {
+        signals,
+        fields: Fields { items: fields },
+        views: Views { items: views },
+        regs,
+    })
+}
+
+/// The items of the block of a tree, each behind those that it refers to.
+pub(crate) fn order_of(
+    alloc: Global,
+    known: Known<'_, '_>,
+    marks: &[Mark],
+) -> Result<Order, NoMemory>
+    requires known { IsKnown known }
+    requires marks { AreMarks known.props.now marks.now }
+    ensures { IfOk result (AreInTurn known.entry.props.now) }
+{
+    // No circle is left where no rule fails.
+    let Ok(numbers) = order(alloc, known.refs) else {
+        return Err(NoMemory);
+    };
+    let listed = Listed {
+        props: known.props,
+        refs: known.refs,
+        rows: known.rows,
+        marks,
+        own: known.own,
+    };
+    let items = block_order(alloc, listed, &numbers)?;
+    Ok(Order { items })
+}

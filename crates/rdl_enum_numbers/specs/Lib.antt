@@ -1,0 +1,4 @@
+pub mod Greatest
+pub mod Places
+pub mod Body
+pub mod Table

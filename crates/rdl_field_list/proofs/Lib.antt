@@ -1,0 +1,4 @@
+mod Listing
+mod Narrow
+mod Tabled
+mod Telling

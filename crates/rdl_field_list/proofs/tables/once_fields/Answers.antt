@@ -1,0 +1,27 @@
+use Rattle.std.proofs.Common.{◌∙◌, length, sym, ap, subst}
+use Rattle.rdl_tree.specs.declared.node.Elab.{Elab}
+use Rattle.rdl_values.specs.Elaboration.{IsClean}
+use Rattle.rdl_layers.specs.Fields.{is_once}
+use Rattle.rdl_index.specs.Rows.{AreRows}
+use Rattle.rdl_over_views.specs.Covered.{AreTests}
+use Rattle.rdl_field_list.specs.Tables.{AreOnceTo}
+use Rattle.rdl_field_list.proofs.Tabled.{all-once}
+use Rattle.rdl_field_list.proofs.tables.once_fields.Goals as goal
+
+pub own_once-requires : goal.own_once-requires
+own_once-requires c = ap (λ (e : Elab). e.count) (sym c.requires.elab)
+
+pub any_view-requires-clause-clean : goal.any_view-requires-clause-clean
+any_view-requires-clause-clean c = subst IsClean c.requires.elab c.requires.known.clean
+
+pub any_view-requires-clause-rows : goal.any_view-requires-clause-rows
+any_view-requires-clause-rows c = subst (λ e. AreRows e c.args.known.rows.now) c.requires.elab c.requires.known.rows_
+
+pub any_view-requires-clause-sized : goal.any_view-requires-clause-sized
+any_view-requires-clause-sized c = ap length c.deref.ensures.value ∙ c.in_ok-own.ensures.many
+
+pub returns : goal.returns
+returns c =
+    let e = c.args.elab.now in
+    let own = subst (λ m. AreOnceTo m e.count c.in_ok-own.own.items) c.requires.elab c.in_ok-own.ensures in
+    c.in_ok-over.ensures is_once (subst (AreTests e is_once) (sym c.deref.ensures.value) (all-once e (subst IsClean c.requires.elab c.requires.known.clean) c.in_ok-own.own.items own))

@@ -1,0 +1,6 @@
+mod Above
+mod Listed
+mod Narrow
+mod Round
+mod Unit
+mod Wide

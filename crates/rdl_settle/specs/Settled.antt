@@ -1,0 +1,19 @@
+-- What `settle` answers.
+use Rattle.std.specs.Prelude.{◌≡◌, Result, Ok, Err}
+use Rattle.rdl_tree.specs.declared.node.Elab.{Elab}
+use Rattle.rdl_layers.specs.Answers.{Answers4, IsSettled}
+use Rattle.rdl_layers.specs.declared.error.LayerError.{LayerError}
+use Rattle.rdl_facts.specs.Facts.{AreFacts}
+use Rattle.rdl_settle.specs.declared.settling.Settled.{Settled}
+
+-- No rule on settings fails; the settings are seen as the tree that they are of, and the facts are those of its fields and signals.
+pub record IsSettledAs (e : Elab) (s : Settled) : Type 0 where
+  pub settled : IsSettled e
+  pub of_tree : s.props ≡ e
+  pub facts : AreFacts e s.facts.items
+
+-- `settle`: the settings and facts of the tree where no rule on settings fails, else the list of all failures. Want of memory may be
+-- answered anywhere.
+abbrev pub Settles : Elab → Result Settled LayerError → Type 0
+Settles e (Ok s) = IsSettledAs e s
+Settles e (Err error) = Answers4 e (Err error)

@@ -1,0 +1,5 @@
+mod Gates
+mod Items
+pub mod Places
+mod Resets
+mod Sound

@@ -1,0 +1,5 @@
+mod Classes
+mod Counted
+mod Fields
+mod Names
+mod Viewed

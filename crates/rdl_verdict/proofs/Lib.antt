@@ -1,0 +1,4 @@
+mod Later
+mod OneList
+mod Parts
+mod Same

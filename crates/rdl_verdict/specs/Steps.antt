@@ -1,0 +1,53 @@
+-- What the steps of `judge` answer.
+use Rattle.std.specs.Prelude.{◌≡◌, ◌≢◌, List, [], ◌∷◌, Some}
+use Rattle.rb_base.specs.declared.fault.Fault.{Fault}
+use Rattle.rdl_tree.specs.declared.node.Elab.{Elab}
+use Rattle.rdl_values.specs.Elaborated.{top_name}
+use Rattle.rdl_values.specs.Verdict.{Fails, FirstOf, IsRefusal}
+use Rattle.rb_model.specs.declared.block.Block.{Block}
+use Rattle.rdl_layers.specs.Answers.{IsSettled}
+use Rattle.rdl_addr.specs.Answers.{IsPlaced}
+use Rattle.rdl_refs.specs.Answers.{IsBound}
+use Rattle.rdl_rules.specs.Answers.{IsBlockFor}
+use Rattle.rdl_rules.specs.Phase5.{fails5}
+use Rattle.rdl_verdict.specs.Verdict.{meanings, places, settings}
+use Rattle.rdl_verdict.specs.declared.error.JudgeError.{JudgeError}
+use Rattle.rdl_verdict.specs.declared.error.JudgeError.TheVariants as error
+use Rattle.rdl_verdict.specs.declared.phases.Stood.{Stood}
+
+-- the error has this one failure
+abbrev pub HasOne : Fault → JudgeError → Type 0
+HasOne fault (error.Faults list) = list.items ≡ fault ∷ []
+HasOne fault error.NoMemory = Unit {0}
+
+-- the error has all failures of a phase, of which there are some
+abbrev pub HasAll : Fails → JudgeError → Type 0
+HasAll P (error.Faults list) = IsRefusal P list.items
+HasAll P error.NoMemory = Unit {0}
+
+-- the failures of layout and targets, of a tree of instances
+abbrev pub stands_fail : Elab → Fails
+stands_fail e = fails5 (Some (top_name e)) e.source.now
+
+-- The places and the references are those of a tree in which each stands and leads where it may.
+pub record IsStood (e : Elab) (x : Stood) : Type 0 where
+  pub map_ : x.map ≡ e
+  pub refs_ : x.refs ≡ e
+  pub placed : IsPlaced e
+  pub bound : IsBound e
+
+-- No later phase has a failure, and the block is the tree's.
+pub record IsClear (e : Elab) (b : Block) : Type 0 where
+  pub settled : IsSettled e
+  pub placed : IsPlaced e
+  pub bound : IsBound e
+  pub block : IsBlockFor e b
+
+-- the error is that of the first phase behind the instances that has a failure
+pub record IsLate (e : Elab) (list : List Fault) : Type 0 where
+  pub first : FirstOf (settings (Some (top_name e)) e.source.now ∷ places (Some (top_name e)) e.source.now ∷ meanings (Some (top_name e)) e.source.now ∷ []) list
+  pub some : list ≢ []
+
+abbrev pub FailsLate : Elab → JudgeError → Type 0
+FailsLate e (error.Faults list) = IsLate e list.items
+FailsLate e error.NoMemory = Unit {0}

@@ -1,0 +1,7 @@
+//! The views of a block.
+#![tactic(auto)]
+
+mod list;
+mod register;
+
+pub use list::views;

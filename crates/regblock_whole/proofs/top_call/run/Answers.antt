@@ -1,0 +1,49 @@
+use Rattle.regblock_whole.proofs.Rows.{Ends-written}
+use Rattle.regblock_whole.proofs.CompleteRuns.{complete}
+use Rattle.regblock_whole.proofs.Causes.{usage_cause, read_fault_cause, too_long_cause, write_fault_cause}
+use Rattle.regblock_whole.proofs.Headlines.{checked, done, mapped, refused, unmapped}
+use Rattle.v_reader.proofs.Verdicts.{no_module}
+use Rattle.regblock_whole.proofs.Simulations.{simulated, bad_verilog, bad_stimulus}
+use Rattle.regblock_whole.proofs.top_call.run.Goals as goal
+
+pub returns-in-Ok-clause-ends : goal.returns-in-Ok-clause-ends
+returns-in-Ok-clause-ends g c = Ends-written _ _ _ _ _ _ _ _ c.in-Ok.ensures.outcome c.write.ensures
+
+pub returns-in-Ok-clause-done : goal.returns-in-Ok-clause-done
+returns-in-Ok-clause-done g c = done _ _ _ _ _ _ (returns-in-Ok-clause-ends g c)
+
+pub returns-in-Ok-clause-refused : goal.returns-in-Ok-clause-refused
+returns-in-Ok-clause-refused g c = refused _ _ _ _ _ _ (returns-in-Ok-clause-ends g c)
+
+pub returns-in-Ok-clause-complete : goal.returns-in-Ok-clause-complete
+returns-in-Ok-clause-complete g c = complete no_module _ _ _ _ _ _ (returns-in-Ok-clause-ends g c)
+
+pub returns-in-Ok-clause-usage : goal.returns-in-Ok-clause-usage
+returns-in-Ok-clause-usage g c = usage_cause _ _ _ _ _ _ (returns-in-Ok-clause-ends g c)
+
+pub returns-in-Ok-clause-read_fault : goal.returns-in-Ok-clause-read_fault
+returns-in-Ok-clause-read_fault g c = read_fault_cause _ _ _ _ _ _ (returns-in-Ok-clause-ends g c)
+
+pub returns-in-Ok-clause-too_long : goal.returns-in-Ok-clause-too_long
+returns-in-Ok-clause-too_long g c = too_long_cause _ _ _ _ _ _ (returns-in-Ok-clause-ends g c)
+
+pub returns-in-Ok-clause-write_fault : goal.returns-in-Ok-clause-write_fault
+returns-in-Ok-clause-write_fault g c = write_fault_cause _ _ _ _ _ _ (returns-in-Ok-clause-ends g c)
+
+pub returns-in-Ok-clause-simulated : goal.returns-in-Ok-clause-simulated
+returns-in-Ok-clause-simulated g c = simulated _ _ _ _ _ _ (returns-in-Ok-clause-ends g c)
+
+pub returns-in-Ok-clause-bad_verilog : goal.returns-in-Ok-clause-bad_verilog
+returns-in-Ok-clause-bad_verilog g c = bad_verilog _ _ _ _ _ _ (returns-in-Ok-clause-ends g c)
+
+pub returns-in-Ok-clause-bad_stimulus : goal.returns-in-Ok-clause-bad_stimulus
+returns-in-Ok-clause-bad_stimulus g c = bad_stimulus _ _ _ _ _ _ (returns-in-Ok-clause-ends g c)
+
+pub returns-in-Ok-clause-mapped : goal.returns-in-Ok-clause-mapped
+returns-in-Ok-clause-mapped g c = mapped _ _ _ _ _ _ (returns-in-Ok-clause-ends g c)
+
+pub returns-in-Ok-clause-unmapped : goal.returns-in-Ok-clause-unmapped
+returns-in-Ok-clause-unmapped g c = unmapped _ _ _ _ _ _ (returns-in-Ok-clause-ends g c)
+
+pub returns-in-Ok-clause-checked : goal.returns-in-Ok-clause-checked
+returns-in-Ok-clause-checked g c = checked _ _ _ _ _ _ (returns-in-Ok-clause-ends g c)

@@ -1,0 +1,44 @@
+-- When a run does what its words ask for.
+use Rattle.std.specs.Prelude.{◌≡◌, ◌⊎◌, ℕ, ◌≤◌, List, [], ◌∷◌, length, All, Option, None, Some, ⊤}
+use Rattle.rb_edge.specs.Count.{Rose}
+use Rattle.rb_edge.specs.Shelf.{Files}
+use Rattle.sim_run.specs.Simulated.{IsFitTable}
+use Rattle.regblock_whole.specs.Verdict.{BreaksNone}
+use Rattle.regblock_whole.specs.declared.status.Status.{Status}
+use Rattle.regblock_whole.specs.declared.status.Status.TheVariants.{Done, NoMemory}
+use Rattle.command_line.specs.Words.{Command, check, compile, map_of, sim, Asks}
+use Rattle.regblock_whole.specs.Outcome.{files_of}
+use Rattle.regblock_whole.specs.Ends.{Passage}
+
+-- each file that the command names is held and within its limit, and no read of it failed
+abbrev pub AreAtHand : Files → (List ℕ → Type 0) → List (List ℕ × ℕ) → Type 0
+AreAtHand files failed [] = ⊤
+AreAtHand files failed (file ∷ more) = ((bytes : List ℕ) × (files file.0 ≡ Some bytes) × (length bytes ≤ file.1)) × ¬ failed file.0 × AreAtHand files failed more
+
+-- the file is a source that breaks no rule
+abbrev pub IsFit : Option (List ℕ) → Files → List ℕ → Type 0
+IsFit top files file = (source : List ℕ) → files file ≡ Some source → BreaksNone top source
+
+-- the command's files are what it asks for: sources that break no rule, or a module and a table for it
+abbrev pub AreFit : Command → Files → Type 0
+AreFit (compile top file) files = IsFit top files file
+AreFit (check top names) files = All (IsFit top files) names
+AreFit (map_of top file) files = IsFit top files file
+AreFit (sim file table) files = (verilog stimulus : List ℕ) → files file ≡ Some verilog → files table ≡ Some stimulus → IsFitTable verilog stimulus
+
+-- no write to the sink failed
+abbrev pub IsUnharmed : Passage → Type 0
+IsUnharmed sink = ¬ Rose sink.before sink.after
+
+-- what the words ask for can be done
+pub record CanBeDone (words : List (List ℕ)) (files : Files) (failed : List ℕ → Type 0) (err out : Passage) (command : Command) : Type 0 where
+  pub asked : Asks words command
+  pub at_hand : AreAtHand files failed (files_of command)
+  pub fit : AreFit command files
+  pub err_unharmed : IsUnharmed err
+  pub out_unharmed : IsUnharmed out
+
+-- where it can be done it is, unless memory runs out
+abbrev pub IsComplete : List (List ℕ) → Option Files → (List ℕ → Type 0) → Passage → Passage → Status → Type 0
+IsComplete words None failed err out status = ⊤
+IsComplete words (Some files) failed err out status = (command : Command) → CanBeDone words files failed err out command → (status ≡ Done) ⊎ (status ≡ NoMemory)

@@ -1,0 +1,11 @@
+pub mod Text
+pub mod Status
+pub mod Verdict
+pub mod Outcome
+pub mod Ends
+pub mod Complete
+pub mod Headline
+pub mod Simulations
+pub mod Answer
+pub mod Loaded
+pub mod Checked

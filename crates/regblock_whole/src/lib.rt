@@ -1,0 +1,16 @@
+//! The register compiler: a command line, files by name, and two texts.
+#![tactic(auto)]
+
+mod answer;
+mod checking;
+mod commands;
+mod compiling;
+mod loading;
+mod modules;
+mod places;
+mod simulating;
+mod status;
+mod top_call;
+
+pub use status::Status;
+pub use top_call::run;

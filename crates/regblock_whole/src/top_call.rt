@@ -1,0 +1,78 @@
+//! The top call.
+
+ghost use Rattle.std.specs.Prelude.{◌≡◌, ◌⊎◌, ◌≤◌, List, Option, ℕ};
+ghost use Rattle.rb_edge.specs.Count.{Rose};
+ghost use Rattle.rb_edge.specs.Shelf.{IsLonger};
+ghost use Rattle.command_line.specs.Words.{texts, Command, check, compile, map_of, sim, Asks, AsksNothing};
+ghost use Rattle.regblock_whole.specs.Outcome.{FailedRead, Outcome, StopsAt, files_of};
+ghost use Rattle.regblock_whole.specs.Ends.{Ends, passage};
+ghost use Rattle.regblock_whole.specs.Complete.{IsComplete};
+ghost use Rattle.regblock_whole.specs.Headline.{AreToldVerdicts, IsRight, IsTable, IsToldFailure};
+ghost use Rattle.regblock_whole.specs.Simulations.{IsRun, IsToldVerilog, IsToldStimulus};
+
+use crate::Status;
+use crate::commands::answer_words;
+use rb_edge::{Shelf, Sink};
+use std::alloc::Global;
+
+/// Does what the words ask for: the words after the program's name, files from the shelf, texts to the sinks.
+///
+/// All memory is taken before the first byte is written. The text for err is written before that for out.
+pub fn run<S: Shelf, O: Sink, E: Sink>(
+    alloc: Global,
+    words: &[String],
+    shelf: &mut S,
+    out: &mut O,
+    err: &mut E,
+) -> Status
+    // A module that was written is right, and a refusal names the first failure.
+    ensures done { (top : Option (List ℕ)) (file : List ℕ) → Asks (texts words.now) (compile top file) → result ≡ Status.Done
+        → IsRight (S.contents shelf.old) top file (passage E.told E.faults err.old err.new) (passage O.told O.faults out.old out.new) }
+    ensures refused { (top : Option (List ℕ)) (file : List ℕ) → Asks (texts words.now) (compile top file) → result ≡ Status.Refused
+        → IsToldFailure (S.contents shelf.old) top file (passage E.told E.faults err.old err.new) (passage O.told O.faults out.old out.new) }
+
+    // A table that was written is that of the block that the source describes; verdicts that were written are those of all files.
+    ensures mapped { (top : Option (List ℕ)) (file : List ℕ) → Asks (texts words.now) (map_of top file) → result ≡ Status.Done
+        → IsTable (S.contents shelf.old) top file (passage E.told E.faults err.old err.new) (passage O.told O.faults out.old out.new) }
+    ensures unmapped { (top : Option (List ℕ)) (file : List ℕ) → Asks (texts words.now) (map_of top file) → result ≡ Status.Refused
+        → IsToldFailure (S.contents shelf.old) top file (passage E.told E.faults err.old err.new) (passage O.told O.faults out.old out.new) }
+    ensures checked { (top : Option (List ℕ)) (files : List (List ℕ)) → Asks (texts words.now) (check top files) → (result ≡ Status.Done) ⊎ (result ≡ Status.Refused)
+        → AreToldVerdicts (S.contents shelf.old) top files (passage E.told E.faults err.old err.new) (passage O.told O.faults out.old out.new) }
+
+    // A run that was written is that of the module that the first file is, from zeros, over the table that the second is.
+    ensures simulated { (file table : List ℕ) → Asks (texts words.now) (sim file table) → result ≡ Status.Done
+        → IsRun (S.contents shelf.old) file table (passage E.told E.faults err.old err.new) (passage O.told O.faults out.old out.new) }
+    ensures bad_verilog { (file table : List ℕ) → Asks (texts words.now) (sim file table) → result ≡ Status.BadVerilog
+        → IsToldVerilog (S.contents shelf.old) file (passage E.told E.faults err.old err.new) (passage O.told O.faults out.old out.new) }
+    ensures bad_stimulus { (file table : List ℕ) → Asks (texts words.now) (sim file table) → result ≡ Status.BadStimulus
+        → IsToldStimulus (S.contents shelf.old) file table (passage E.told E.faults err.old err.new) (passage O.told O.faults out.old out.new) }
+
+    // What is written and how it ends belong to the words and the files.
+    ensures ends { Ends (Outcome (texts words.now) (S.contents shelf.old) (FailedRead S.faults shelf.old shelf.new))
+        (passage E.told E.faults err.old err.new) (passage O.told O.faults out.old out.new) result }
+
+    // Each of these ends has its cause.
+    ensures usage { result ≡ Status.Usage → AsksNothing (texts words.now) }
+    ensures read_fault { result ≡ Status.ReadFault → (command : Command) × Asks (texts words.now) command
+        × StopsAt (S.contents shelf.old) (λ file _. FailedRead S.faults shelf.old shelf.new file) (files_of command) }
+    ensures too_long { result ≡ Status.TooLong → (command : Command) × Asks (texts words.now) command
+        × StopsAt (S.contents shelf.old) (λ file limit. IsLonger (S.contents shelf.old) file limit) (files_of command) }
+    ensures write_fault { result ≡ Status.WriteFault → Rose (E.faults err.old) (E.faults err.new) ⊎ Rose (O.faults out.old) (O.faults out.new) }
+
+    // Where it can be done it is, unless memory runs out.
+    ensures complete { IsComplete (texts words.now) (S.contents shelf.old) (FailedRead S.faults shelf.old shelf.new)
+        (passage E.told E.faults err.old err.new) (passage O.told O.faults out.old out.new) result }
+
+    // Words that ask for nothing read no file. In any case the files stay as they were, and no count of faults falls.
+    ensures idle { AsksNothing (texts words.now) → shelf.new ≡ shelf.old }
+    ensures unchanged { S.contents shelf.new ≡ S.contents shelf.old }
+    ensures later { (any : List ℕ) → S.faults shelf.old any ≤ S.faults shelf.new any }
+
+    // Without memory nothing is written.
+    ensures no_memory { result ≡ Status.NoMemory → (out.new ≡ out.old) × (err.new ≡ err.old) }
+{
+    match answer_words(alloc, words, shelf) {
+        Ok(answer) => answer.write(out, err),
+        Err(_) => Status::NoMemory,
+    }
+}
