@@ -47,11 +47,7 @@ fn shown(known: Listed<'_, '_>, item: ItemOf) -> Option<RefItem>
 }
 
 // Adds what the item of a number is in the block.
-fn add_shown(
-    known: Listed<'_, '_>,
-    number: u32,
-    list: &mut Vec<RefItem>,
-) -> Result<(), NoMemory>
+fn add_shown(known: Listed<'_, '_>, number: u32, list: &mut Vec<RefItem>) -> Result<(), NoMemory>
     requires known { IsListed known }
     requires number { number < length (items (lineages_of known.props.now)) }
     ensures { OnOk result (list.new.items ≡ list.old.items ++ flat_map (shown_as (lineages_of known.entry.props.now)) (option_to_list (slice_get (items (lineages_of known.entry.props.now)) number))) }

@@ -8,12 +8,7 @@ use rb_base::{Fault, NoMemory, Rule};
 use std::alloc::Global;
 
 // Adds a line and a column.
-fn push_numbers(
-    alloc: Global,
-    text: &mut Vec<u8>,
-    line: u32,
-    column: u32,
-) -> Result<(), NoMemory>
+fn push_numbers(alloc: Global, text: &mut Vec<u8>, line: u32, column: u32) -> Result<(), NoMemory>
     ensures { OnOk result (text.new.items ≡ text.old.items ++ numbers line column) }
 {
     let numbers = format!(in alloc; ":{line}:{column}: ")?;
