@@ -26,9 +26,7 @@ use Rattle.rb_model.specs.declared.kinds.ResetBy.{ResetBy}
 use Rattle.rb_model.specs.declared.kinds.Shown.TheVariants as shown
 use Rattle.rb_model.specs.Ports.{ports}
 use Rattle.rb_model.specs.Sound.{IsSound}
-use Rattle.first_form.specs.Form.{Form}
-use Rattle.first_form.specs.Described.{block_of}
-use Rattle.first_form.proofs.FirstSound.{sound}
+use Rattle.rdl_worked.proofs.FirstBlock.{first, all_ordered}
 use Rattle.rdl_tree.specs.declared.expr.Path.{roll-Path}
 use Rattle.rdl_tree.specs.declared.item.Source.{Source}
 use Rattle.rdl_props.specs.Table.{reference_props, props}
@@ -61,11 +59,8 @@ clean_sources = refl
 
 -- The first source.
 
-abbrev first : Form
-first = record { top = codes "one"; register = codes "a"; field = codes "f"; reset = 5; address = 0 }
-
--- its block is the one that a source of the compiled form describes
-first_block : IsBlockOf None one_register 0 (block_of first)
+-- its block is the one that was written down
+first_block : IsBlockOf None one_register 0 first
 unfolding nodes lineages setting items led_to layout all_groups failures3 failures4 failures_ab failures_r failures6 digits props reference_props roll-Path denote.Hole.Carrier.roll Rattle.rdl_tree.specs.declared.expr.Expr.TheBlock.hidden-the_row-Step-1 denote.Hole.Carrier.hidden Rattle.rdl_tree.specs.declared.item.Item.TheBlock.hidden-the_row-Item-0
 first_block = record {
   name = refl;
@@ -76,12 +71,9 @@ first_block = record {
   reads = record { same = IsPermutation-refl _; rising = λ k below. absurd (omega arith) };
   writes = record { same = IsPermutation-refl _; rising = λ k below. absurd (omega arith) };
   waits_ = refl;
-  each_item = whole.all_items;
-  ordered = whole.ordered;
+  each_item = IsPermutation-refl _;
+  ordered = all_ordered;
 }
-  where
-    whole : IsSound (block_of first)
-    whole = sound first (record { top = record { first = refl; all = refl }; register = record { first = refl; all = refl }; field = record { first = refl; all = refl }; reset = omega arith; address = omega arith })
 
 -- Fields and words of further sources.
 

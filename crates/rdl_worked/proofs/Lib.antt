@@ -2,6 +2,7 @@ pub mod Addresses
 pub mod AddressesSources
 pub mod BlockSources
 pub mod Blocks
+pub mod FirstBlock
 pub mod Further
 pub mod FurtherSources
 pub mod Instances

@@ -4,8 +4,10 @@ use Rattle.rb_edge.specs.Count.{Rose}
 use Rattle.rb_edge.specs.Shelf.{Files, IsLonger}
 use Rattle.regblock.specs.declared.status.Status.{Status}
 use Rattle.regblock.specs.declared.status.Status.TheVariants.{Usage, ReadFault, WriteFault, TooLong}
-use Rattle.regblock.specs.Words.{Command, compile, sim, Asks, AsksNothing}
-use Rattle.regblock.specs.Outcome.{StopsAt, Texts, Judges, Outcome, files_of}
+use Rattle.command_line.specs.Words.{Command, check, compile, map_of, sim, Asks, AsksNothing}
+use Rattle.std.specs.List.{list_all}
+use Rattle.regblock.specs.Outcome.{StopsAt, Texts, Judges, Outcome, files_of, has_none}
+use Rattle.regblock.proofs.Rows.{checked_ends}
 use Rattle.regblock.specs.Ends.{Passage, Ends}
 
 stops_weaker : (contents : Option Files) (P Q : List ℕ → ℕ → Type 0) (named : List (List ℕ × ℕ)) → ((file : List ℕ) (limit : ℕ) → P file limit → Q file limit) → StopsAt contents P named → StopsAt contents Q named
@@ -13,9 +15,13 @@ stops_weaker contents P Q [] weaker stops = stops
 stops_weaker contents P Q (file ∷ more) weaker stops = ⊎_elim (λ here. inl (weaker file.0 file.1 here)) (λ there. inr (there.0, there.1, stops_weaker contents P Q more weaker there.2)) stops
 
 no_usage : (command : Command) (sources : List (List ℕ)) (texts : Texts) → Judges command sources Usage texts → ⊥
-no_usage (compile file) [] texts judged = judged
-no_usage (compile file) (a ∷ []) texts judged = judged
-no_usage (compile file) (a ∷ b ∷ more) texts judged = judged
+no_usage (compile top file) [] texts judged = judged
+no_usage (compile top file) (a ∷ []) texts judged = judged
+no_usage (compile top file) (a ∷ b ∷ more) texts judged = judged
+no_usage (map_of top file) [] texts judged = judged
+no_usage (map_of top file) (a ∷ []) texts judged = judged
+no_usage (map_of top file) (a ∷ b ∷ more) texts judged = judged
+no_usage (check top files) sources texts judged = checked_ends (list_all has_none judged.lists) Usage judged.ends (λ e. cc e) (λ e. cc e)
 no_usage (sim file table) [] texts judged = judged
 no_usage (sim file table) (a ∷ []) texts judged = judged
 no_usage (sim file table) (a ∷ b ∷ []) texts judged = judged

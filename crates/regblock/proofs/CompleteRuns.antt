@@ -1,14 +1,25 @@
 -- A run that can be done is done.
-use Rattle.std.proofs.Common.{◌≡◌, ◌⊎◌, ⊎_elim, inl, inr, ℕ, List, [], ◌∷◌, length, Option, None, Some, Ok, Err, refl, sym, ◌∙◌, ap, subst, arith}
+use Rattle.std.specs.Prelude.{⊤}
+use Rattle.std.specs.List.{AllByRecursion, list_all}
+use Rattle.std.proofs.lemmas.List.Elements.{recursion_from_All}
+use Rattle.std.proofs.Common.{◌≡◌, ◌⊎◌, ⊎_elim, inl, inr, ℕ, true, ◌&&◌, cond, List, [], ◌∷◌, Contains, length, map, Option, None, Some, Ok, Err, refl, sym, ◌∙◌, ap, subst, arith}
 use Rattle.rb_edge.specs.Count.{Rose}
 use Rattle.rb_edge.specs.Shelf.{Files, IsLonger}
 use Rattle.regblock.specs.declared.status.Status.{Status}
 use Rattle.regblock.specs.declared.status.Status.TheVariants.{Done, Refused, ReadFault, WriteFault, NoMemory, TooLong, BadVerilog, BadStimulus}
-use Rattle.regblock.specs.Words.{Command, compile, sim, Asks}
-use Rattle.regblock.specs.Outcome.{AreRead, StopsAt, Texts, Judges, Answers, Outcome, files_of}
+use Rattle.command_line.specs.Words.{Command, check, compile, map_of, sim, Asks}
+use Rattle.command_line.proofs.Asking.{one-command}
+use Rattle.regblock.specs.Outcome.{AreRead, AreVerdicts, StopsAt, Texts, Judges, Answers, Outcome, files_of, has_none, source_limit}
 use Rattle.regblock.specs.Ends.{Passage, IsCutShort, Ends}
-use Rattle.regblock.specs.Complete.{AreAtHand, AreFit, CanBeDone, IsComplete}
-use Rattle.regblock.specs.Verdict.{FailsFirst, IsClean, lexeme, grammar, depth, version}
+use Rattle.regblock.specs.Complete.{AreAtHand, AreFit, CanBeDone, IsComplete, IsFit}
+use Rattle.regblock.specs.Verdict.{BreaksNone, FailsFirst}
+use Rattle.rdl_verdict.specs.Verdict.{IsVerdict, lexeme, grammar, depth, tree, tree_phases}
+use Rattle.rdl_values.specs.Verdict.{Fails, FirstOf, IsListOf, Phase}
+use Rattle.rdl_values.specs.Phase3.{fails3}
+use Rattle.rdl_layers.specs.Phase4.{fails4}
+use Rattle.rdl_rules.specs.Phase5.{fails5}
+use Rattle.rdl_rules.specs.Phase6.{fails6}
+use Rattle.rb_base.specs.declared.fault.Fault.{Fault}
 use Rattle.rb_base.specs.declared.place.Place.{Place}
 use Rattle.rb_base.specs.declared.rule.Rule.{Rule}
 use Rattle.rdl_parser.proofs.OneVerdict.{accepted_has_none}
@@ -19,18 +30,8 @@ use Rattle.v_design.specs.Design.{Module, module_of, inputs, outputs}
 use Rattle.v_design.specs.Tree.{Tree, IsTree}
 use Rattle.v_design.specs.WellFormed.{IsWellFormed}
 use Rattle.v_design.proofs.OneTree.{tree_once}
-use Rattle.v_syntax.specs.Failing.{Fails}
+use Rattle.v_syntax.specs.Failing as verilog
 use Rattle.v_syntax.specs.declared.error.VError.{VError}
-
-pub one_command : (words : List (List ℕ)) (a b : Command) → Asks words a → Asks words b → a ≡ b
-one_command words (compile f) (compile g) asks_f asks_g = let same = sym asks_f.spelled ∙ asks_g.spelled in let file : f ≡ g = cc in ap compile file
-one_command words (sim f t) (sim g u) asks_f asks_g =
-    let same = sym asks_f.spelled ∙ asks_g.spelled in
-    let file : f ≡ g = cc in
-    let table : t ≡ u = cc in
-    ap (λ z. sim z t) file ∙ ap (sim g) table
-one_command words (compile f) (sim g u) asks_f asks_g = let same = sym asks_f.spelled ∙ asks_g.spelled in absurd (cc same)
-one_command words (sim f t) (compile g) asks_f asks_g = let same = sym asks_f.spelled ∙ asks_g.spelled in absurd (cc same)
 
 same_bytes : (x y : List ℕ) (o : Option (List ℕ)) → o ≡ Some x → o ≡ Some y → x ≡ y
 same_bytes x y o p q = cc
@@ -48,7 +49,7 @@ too_long_stops files failed (file ∷ more) Q hand stops = ⊎_elim
 
 -- bytes that fail are no well-formed module
 abbrev pub NoModuleFails : Type 0
-NoModuleFails = (bytes : List ℕ) (e : VError) (t : Tree) → Fails bytes e → IsTree bytes t → IsWellFormed t → ⊥
+NoModuleFails = (bytes : List ℕ) (e : VError) (t : Tree) → verilog.Fails bytes e → IsTree bytes t → IsWellFormed t → ⊥
 
 same_module : (verilog : List ℕ) (m n : Module) → IsModule verilog m → IsModule verilog n → m ≡ n
 same_module verilog m n a b = a.is ∙ (ap module_of (tree_once verilog a.tree b.tree a.is_tree b.is_tree) ∙ sym b.is)
@@ -59,11 +60,43 @@ no_problem verilog stimulus problem fit bad =
     let table : table_of (inputs bad.module_) (length (outputs bad.module_)) (records_of stimulus) ≡ Ok fit.vectors = subst (λ m. table_of (inputs m) (length (outputs m)) (records_of stimulus) ≡ Ok fit.vectors) e fit.table in
     let wrong : Ok fit.vectors ≡ Err bad.problem = sym table ∙ bad.table in cc
 
-clean_source : (source : List ℕ) (place : Place) (rule : Rule) → IsClean source → FailsFirst source place rule → ⊥
-clean_source source _ _ clean (lexeme {fault = fault} h) = accepted_has_none source (error.Lex fault) clean.parsed h
-clean_source source _ _ clean (grammar {place = place} {rule = rule} h) = accepted_has_none source (error.Syntax place rule) clean.parsed h
-clean_source source _ _ clean (depth {place = place} h) = accepted_has_none source (error.TooDeep place) clean.parsed h
-clean_source source _ _ clean (version parsed refused) = refused clean.compiled.0 clean.compiled.1
+-- Of a tree that breaks no rule, the first phase with failures has none.
+abbrev AreClear : List Phase → List Fault → Type 0
+AreClear [] list = ⊤
+AreClear (P ∷ ps) list = (P [] → P list → list ≡ []) × AreClear ps list
+
+first_none : (ps : List Phase) (list : List Fault) → AreClear ps list → FirstOf ps [] → FirstOf ps list → list ≡ []
+first_none [] list one clean first = first
+first_none (P ∷ ps) list one clean first = ⊎_elim (λ here. absurd (here.1 refl)) (λ past. ⊎_elim (λ now. one.0 past.0 now.0) (λ later. first_none ps list one.1 past.1 later.1) first) clean
+
+no_member : (P : Fails) (list : List Fault) → IsListOf P [] → IsListOf P list → list ≡ []
+no_member P [] none is = refl
+no_member P (f ∷ fs) none is = absurd (nothing ((none.exact f).1 ((is.exact f).0 (0, omega arith, refl))))
+  where
+    nothing : {f : Fault} → Contains [] f → ⊥
+    nothing h = let l = h.1 in absurd (omega (arith, l))
+
+clean_list : (top : Option (List ℕ)) (source : List ℕ) (list : List Fault) → BreaksNone top source → IsVerdict top source list → list ≡ []
+clean_list top source _ clean (lexeme {fault = fault} h) = absurd (accepted_has_none source (error.Lex fault) clean.parsed h)
+clean_list top source _ clean (grammar {place = place} {rule = rule} h) = absurd (accepted_has_none source (error.Syntax place rule) clean.parsed h)
+clean_list top source _ clean (depth {place = place} h) = absurd (accepted_has_none source (error.TooDeep place) clean.parsed h)
+clean_list top source list clean (tree s reads first) = first_none (tree_phases top s) list (no_member (fails3 top s) list, (no_member (fails4 top s) list, (no_member (fails5 top s) list, (no_member (fails6 top s) list, tt)))) (clean.clean s reads) first
+
+clean_source : (top : Option (List ℕ)) (source : List ℕ) (place : Place) (rule : Rule) → BreaksNone top source → FailsFirst top source place rule → ⊥
+clean_source top source place rule clean fails = let none = clean_list top source _ clean fails.verdict in cc none
+
+clean_lists : (top : Option (List ℕ)) (sources : List (List ℕ)) (lists : List (List Fault)) → AllByRecursion (BreaksNone top) sources → AreVerdicts top sources lists → list_all has_none lists ≡ true
+clean_lists top [] [] clean verdicts = refl
+clean_lists top [] (l ∷ ls) clean verdicts = absurd verdicts
+clean_lists top (s ∷ ss) [] clean verdicts = absurd verdicts
+clean_lists top (s ∷ ss) (l ∷ ls) clean verdicts = ap (λ xs. has_none xs && list_all has_none ls) (clean_list top s l clean.0 verdicts.0) ∙ clean_lists top ss ls clean.1 verdicts.1
+
+-- what is read of fit files breaks no rule
+fit_sources : (top : Option (List ℕ)) (files : Files) (names : List (List ℕ)) (sources : List (List ℕ)) → AllByRecursion (IsFit top files) names → AreRead (Some files) (map (λ name. (name, source_limit)) names) sources → AllByRecursion (BreaksNone top) sources
+fit_sources top files [] [] fit read = tt
+fit_sources top files [] (s ∷ ss) fit read = absurd read
+fit_sources top files (n ∷ ns) [] fit read = absurd read
+fit_sources top files (n ∷ ns) (s ∷ ss) fit read = (fit.0 s read.0.held, fit_sources top files ns ss fit.1 read.1)
 
 module _ (fails : NoModuleFails) where
   fit_run : (file table verilog stimulus : List ℕ) (status : Status) (texts : Texts) → IsFitTable verilog stimulus → Judges (sim file table) (verilog ∷ stimulus ∷ []) status texts → status ≡ Done
@@ -74,11 +107,18 @@ module _ (fails : NoModuleFails) where
 
   fit_judged : (files : Files) (command : Command) (sources : List (List ℕ)) (status : Status) (texts : Texts)
       → AreFit command files → AreRead (Some files) (files_of command) sources → Judges command sources status texts → status ≡ Done
-  fit_judged files (compile file) [] status texts fit read judged = absurd read
-  fit_judged files (compile file) (source ∷ a ∷ more) status texts fit read judged = absurd read.1
-  fit_judged files (compile file) (source ∷ []) Done texts fit read judged = refl
-  fit_judged files (compile file) (source ∷ []) Refused texts fit read judged = absurd (clean_source source judged.place judged.rule (fit source read.0.held) judged.fails)
-  fit_judged files (compile file) (source ∷ []) _ texts fit read judged = absurd judged
+  fit_judged files (compile top file) [] status texts fit read judged = absurd read
+  fit_judged files (compile top file) (source ∷ a ∷ more) status texts fit read judged = absurd read.1
+  fit_judged files (compile top file) (source ∷ []) Done texts fit read judged = refl
+  fit_judged files (compile top file) (source ∷ []) Refused texts fit read judged = absurd (clean_source top source judged.place judged.rule (fit source read.0.held) judged.fails)
+  fit_judged files (compile top file) (source ∷ []) _ texts fit read judged = absurd judged
+  fit_judged files (map_of top file) [] status texts fit read judged = absurd read
+  fit_judged files (map_of top file) (source ∷ a ∷ more) status texts fit read judged = absurd read.1
+  fit_judged files (map_of top file) (source ∷ []) Done texts fit read judged = refl
+  fit_judged files (map_of top file) (source ∷ []) Refused texts fit read judged = absurd (clean_source top source judged.place judged.rule (fit source read.0.held) judged.fails)
+  fit_judged files (map_of top file) (source ∷ []) _ texts fit read judged = absurd judged
+  fit_judged files (check top names) sources status texts fit read judged =
+      judged.ends ∙ ap (λ t. cond t Done Refused) (clean_lists top sources judged.lists (fit_sources top files names sources (recursion_from_All (IsFit top files) names fit) read) judged.verdicts)
   fit_judged files (sim file table) [] status texts fit read judged = absurd read
   fit_judged files (sim file table) (verilog ∷ []) status texts fit read judged = absurd read.1
   fit_judged files (sim file table) (verilog ∷ stimulus ∷ []) status texts fit read judged = fit_run file table verilog stimulus status texts (fit verilog stimulus read.0.held read.1.0.held) judged
@@ -94,7 +134,7 @@ module _ (fails : NoModuleFails) where
       → Asks words command → AreAtHand files failed (files_of command) → AreFit command files → Outcome words (Some files) failed status texts → status ≡ Done
   fit_outcome words files failed command status texts asked hand fit is = ⊎_elim
       (λ asks. let P : Command → Type 0 = λ c. Answers (Some files) failed c status texts in
-      fit_answers files failed command status texts hand fit (subst P (one_command words asks.0 command asks.1 asked) asks.2))
+      fit_answers files failed command status texts hand fit (subst P (one-command words asks.0 command asks.1 asked) asks.2))
       (λ none. absurd (none.0 command asked)) is
 
   no_cut : (err out : Passage) (texts : Texts) → (Rose err.before err.after → ⊥) → (Rose out.before out.after → ⊥) → IsCutShort err out texts → ⊥

@@ -1,70 +1,116 @@
--- What the answers to `compile` promise.
-use Rattle.std.proofs.Common.{◌≡◌, ⊎_elim, ℕ, List, [], ◌∷◌, Option, sym, subst}
-use Rattle.rb_edge.specs.Shelf.{Files}
-use Rattle.rb_model.specs.declared.block.Block.{Block}
-use Rattle.rb_model.specs.Sound.{IsSound}
-use Rattle.first_form.specs.Form.{Form, IsForm}
-use Rattle.first_form.specs.Described.{Describes, block_of}
+-- What the answers to `compile`, `map` and `check` promise.
+use Rattle.std.proofs.Common.{◌≡◌, ◌⊎◌, ⊎_elim, ℕ, List, [], ◌∷◌, map, Option, subst}
+use Rattle.rb_edge.specs.Shelf.{Files, Holds}
+use Rattle.rdl_verdict.specs.Verdict.{tree}
+use Rattle.command_line.proofs.Asking.{one-command}
 use Rattle.regblock.specs.declared.status.Status.{Status}
 use Rattle.regblock.specs.declared.status.Status.TheVariants.{Done, Refused}
-use Rattle.regblock.specs.Words.{Command, compile, Asks}
-use Rattle.regblock.specs.Outcome.{AreRead, Texts, Judges, Answers, Outcome, files_of}
+use Rattle.command_line.specs.Words.{Command, check, compile, map_of, Asks}
+use Rattle.regblock.specs.Outcome.{AreRead, IsChecked, IsRefused, Texts, Judges, Answers, Outcome, files_of, source_limit}
 use Rattle.regblock.specs.Ends.{Passage, TookAll, Ends}
-use Rattle.regblock.specs.Headline.{IsRight, IsToldFailure}
-use Rattle.regblock.proofs.CompleteRuns.{one_command}
+use Rattle.regblock.specs.Headline.{AreHeld, AreToldVerdicts, IsRight, IsTable, IsToldFailure}
 
-abbrev AllAreSound : Type 0
-AllAreSound = (source : List ℕ) (f : Form) → IsForm source f → IsSound (block_of f)
-
-sound_block : AllAreSound → (source : List ℕ) (block : Block) → Describes source block → IsSound block
-sound_block sounds source block d = subst IsSound (sym d.is) (sounds source d.form d.is_form)
-
-module _ (contents : Option Files) (failed : List ℕ → Type 0) (err out : Passage) (file : List ℕ) (texts : Texts) where
-  compiled : AllAreSound → (sources : List (List ℕ)) → AreRead contents (files_of (compile file)) sources → Judges (compile file) sources Done texts
-      → TookAll err texts.err → TookAll out texts.out → IsRight contents file err out
-  compiled sounds [] read judged e o = absurd judged
-  compiled sounds (source ∷ a ∷ more) read judged e o = absurd judged
-  compiled sounds (source ∷ []) read judged e o =
+module _ (contents : Option Files) (err out : Passage) (top : Option (List ℕ)) (file : List ℕ) (texts : Texts) where
+  compiled : (sources : List (List ℕ)) → AreRead contents (files_of (compile top file)) sources → Judges (compile top file) sources Done texts
+      → TookAll err texts.err → TookAll out texts.out → IsRight contents top file err out
+  compiled [] read judged e o = absurd judged
+  compiled (source ∷ a ∷ more) read judged e o = absurd judged
+  compiled (source ∷ []) read judged e o =
       let P : List ℕ → Type 0 = λ t. TookAll err t in
       record {
         source = source;
+        tree = judged.tree;
         block = judged.block;
         text = texts.out;
         held = read.0.held;
-        clean = judged.clean;
-        describes = judged.describes;
-        sound = sound_block sounds source judged.block judged.describes;
+        clean = tree judged.tree judged.described.reads judged.described.clean;
+        described = judged.described;
         agrees = judged.agrees;
         written = o;
         quiet = subst P judged.quiet e;
       }
 
-  told : (sources : List (List ℕ)) → AreRead contents (files_of (compile file)) sources → Judges (compile file) sources Refused texts
-      → TookAll err texts.err → TookAll out texts.out → IsToldFailure contents file err out
-  told [] read judged e o = absurd judged
-  told (source ∷ a ∷ more) read judged e o = absurd judged
-  told (source ∷ []) read judged e o =
+  told : (source : List ℕ) → Holds contents file source → IsRefused top file source texts → TookAll err texts.err → TookAll out texts.out → IsToldFailure contents top file err out
+  told source held judged e o =
       let P : List ℕ → Type 0 = λ t. TookAll err t in
       let Q : List ℕ → Type 0 = λ t. TookAll out t in
-      record { source = source; place = judged.place; rule = judged.rule; held = read.0.held; fails = judged.fails; told = subst P judged.told.0 e; quiet = subst Q judged.told.1 o }
+      record { source = source; place = judged.place; rule = judged.rule; held = held; fails = judged.fails; told = subst P judged.told.0 e; quiet = subst Q judged.told.1 o }
+
+  uncompiled : (sources : List (List ℕ)) → AreRead contents (files_of (compile top file)) sources → Judges (compile top file) sources Refused texts
+      → TookAll err texts.err → TookAll out texts.out → IsToldFailure contents top file err out
+  uncompiled [] read judged e o = absurd judged
+  uncompiled (source ∷ a ∷ more) read judged e o = absurd judged
+  uncompiled (source ∷ []) read judged e o = told source read.0.held judged e o
+
+  listed : (sources : List (List ℕ)) → AreRead contents (files_of (map_of top file)) sources → Judges (map_of top file) sources Done texts
+      → TookAll err texts.err → TookAll out texts.out → IsTable contents top file err out
+  listed [] read judged e o = absurd judged
+  listed (source ∷ a ∷ more) read judged e o = absurd judged
+  listed (source ∷ []) read judged e o =
+      let P : List ℕ → Type 0 = λ t. TookAll err t in
+      let Q : List ℕ → Type 0 = λ t. TookAll out t in
+      record { source = source; tree = judged.tree; block = judged.block; held = read.0.held; described = judged.described; written = subst Q judged.table o; quiet = subst P judged.quiet e }
+
+  unlisted : (sources : List (List ℕ)) → AreRead contents (files_of (map_of top file)) sources → Judges (map_of top file) sources Refused texts
+      → TookAll err texts.err → TookAll out texts.out → IsToldFailure contents top file err out
+  unlisted [] read judged e o = absurd judged
+  unlisted (source ∷ a ∷ more) read judged e o = absurd judged
+  unlisted (source ∷ []) read judged e o = told source read.0.held judged e o
+
+held-all : (contents : Option Files) (files : List (List ℕ)) (sources : List (List ℕ)) → AreRead contents (map (λ f. (f, source_limit)) files) sources → AreHeld contents files sources
+held-all contents [] [] read = tt
+held-all contents [] (s ∷ ss) read = absurd read
+held-all contents (f ∷ fs) [] read = absurd read
+held-all contents (f ∷ fs) (s ∷ ss) read = (read.0.held, held-all contents fs ss read.1)
+
+told-all : (contents : Option Files) (err out : Passage) (top : Option (List ℕ)) (files sources : List (List ℕ)) (status : Status) (texts : Texts) → AreRead contents (map (λ f. (f, source_limit)) files) sources → IsChecked top files sources status texts
+    → TookAll err texts.err → TookAll out texts.out → AreToldVerdicts contents top files err out
+told-all contents err out top files sources status texts read judged e o =
+    let P : List ℕ → Type 0 = λ t. TookAll err t in
+    let Q : List ℕ → Type 0 = λ t. TookAll out t in
+    record { sources = sources; lists = judged.lists; held = held-all contents files sources read; verdicts = judged.verdicts; told = subst P judged.told e; fine = subst Q judged.fine o }
 
 module _ (words : List (List ℕ)) (contents : Option Files) (failed : List ℕ → Type 0) (err out : Passage) (result : Status) (ends : Ends (Outcome words contents failed) err out result) where
   abbrev At : Status → Type 0
   At status = Ends (Outcome words contents failed) err out status
 
   -- the answer is one to this command
-  answers_of : (status : Status) (texts : Texts) (file : List ℕ) → Asks words (compile file) → (command : Command) → Asks words command → Answers contents failed command status texts → Answers contents failed (compile file) status texts
-  answers_of status texts file asks command asked answers =
-      let P : Command → Type 0 = λ c. Answers contents failed c status texts in subst P (one_command words command (compile file) asked asks) answers
+  answers_of : (wanted : Command) (status : Status) (texts : Texts) → Asks words wanted → (command : Command) → Asks words command → Answers contents failed command status texts → Answers contents failed wanted status texts
+  answers_of wanted status texts asks command asked answers =
+      let P : Command → Type 0 = λ c. Answers contents failed c status texts in subst P (one-command words command wanted asked asks) answers
 
-  pub done : AllAreSound → (file : List ℕ) → Asks words (compile file) → result ≡ Done → IsRight contents file err out
-  done sounds file asks is =
+  pub done : (top : Option (List ℕ)) (file : List ℕ) → Asks words (compile top file) → result ≡ Done → IsRight contents top file err out
+  done top file asks is =
       let at = subst At is ends in
-      ⊎_elim (λ asked. let a = answers_of Done at.0 file asks asked.0 asked.1 asked.2 in compiled contents failed err out file at.0 sounds a.0 a.1 a.2 at.2 at.3)
-      (λ none. absurd (none.0 (compile file) asks)) at.1
+      ⊎_elim (λ asked. let a = answers_of (compile top file) Done at.0 asks asked.0 asked.1 asked.2 in compiled contents err out top file at.0 a.0 a.1 a.2 at.2 at.3)
+      (λ none. absurd (none.0 (compile top file) asks)) at.1
 
-  pub refused : (file : List ℕ) → Asks words (compile file) → result ≡ Refused → IsToldFailure contents file err out
-  refused file asks is =
+  pub refused : (top : Option (List ℕ)) (file : List ℕ) → Asks words (compile top file) → result ≡ Refused → IsToldFailure contents top file err out
+  refused top file asks is =
       let at = subst At is ends in
-      ⊎_elim (λ asked. let a = answers_of Refused at.0 file asks asked.0 asked.1 asked.2 in told contents failed err out file at.0 a.0 a.1 a.2 at.2 at.3)
-      (λ none. absurd (none.0 (compile file) asks)) at.1
+      ⊎_elim (λ asked. let a = answers_of (compile top file) Refused at.0 asks asked.0 asked.1 asked.2 in uncompiled contents err out top file at.0 a.0 a.1 a.2 at.2 at.3)
+      (λ none. absurd (none.0 (compile top file) asks)) at.1
+
+  pub mapped : (top : Option (List ℕ)) (file : List ℕ) → Asks words (map_of top file) → result ≡ Done → IsTable contents top file err out
+  mapped top file asks is =
+      let at = subst At is ends in
+      ⊎_elim (λ asked. let a = answers_of (map_of top file) Done at.0 asks asked.0 asked.1 asked.2 in listed contents err out top file at.0 a.0 a.1 a.2 at.2 at.3)
+      (λ none. absurd (none.0 (map_of top file) asks)) at.1
+
+  pub unmapped : (top : Option (List ℕ)) (file : List ℕ) → Asks words (map_of top file) → result ≡ Refused → IsToldFailure contents top file err out
+  unmapped top file asks is =
+      let at = subst At is ends in
+      ⊎_elim (λ asked. let a = answers_of (map_of top file) Refused at.0 asks asked.0 asked.1 asked.2 in unlisted contents err out top file at.0 a.0 a.1 a.2 at.2 at.3)
+      (λ none. absurd (none.0 (map_of top file) asks)) at.1
+
+  checked_at : (top : Option (List ℕ)) (files : List (List ℕ)) (status : Status) → (status ≡ Done) ⊎ (status ≡ Refused) → Asks words (check top files) → At status → AreToldVerdicts contents top files err out
+  checked_at top files Done h asks at =
+      ⊎_elim (λ asked. let a = answers_of (check top files) Done at.0 asks asked.0 asked.1 asked.2 in told-all contents err out top files a.0 Done at.0 a.1 a.2 at.2 at.3)
+      (λ none. absurd (none.0 (check top files) asks)) at.1
+  checked_at top files Refused h asks at =
+      ⊎_elim (λ asked. let a = answers_of (check top files) Refused at.0 asks asked.0 asked.1 asked.2 in told-all contents err out top files a.0 Refused at.0 a.1 a.2 at.2 at.3)
+      (λ none. absurd (none.0 (check top files) asks)) at.1
+  checked_at top files status h asks at = absurd (⊎_elim (λ e. cc e) (λ e. cc e) h)
+
+  pub checked : (top : Option (List ℕ)) (files : List (List ℕ)) → Asks words (check top files) → (result ≡ Done) ⊎ (result ≡ Refused) → AreToldVerdicts contents top files err out
+  checked top files asks is = checked_at top files result is asks ends

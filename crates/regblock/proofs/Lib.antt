@@ -1,6 +1,6 @@
 mod Rows
+mod Verdicts
 mod CompleteRuns
 mod Causes
 mod Headlines
-mod Within
 mod Simulations

@@ -1,36 +1,61 @@
 -- The rows of the outcome, at a status that is known by an equation.
-use Rattle.std.proofs.Common.{◌≡◌, ◌⊎◌, ⊎_elim, inl, inr, ℕ, ◌≤◌, List, [], ◌∷◌, length, Option, refl, sym, subst}
-use Rattle.rb_base.specs.declared.place.Place.{Place}
-use Rattle.rb_base.specs.declared.rule.Rule.{Rule}
-use Rattle.rb_edge.specs.Shelf.{Files, Holds, IsLonger}
-use Rattle.rb_model.specs.Agreement.{Agrees}
-use Rattle.first_form.specs.Form.{Form, IsForm}
-use Rattle.first_form.specs.Described.{block_of}
-use Rattle.rdl_parser.specs.Verdicts as parser
+use Rattle.std.proofs.Common.{◌≡◌, ◌⊎◌, ⊎_elim, inl, inr, ℕ, Bool, true, false, cond, List, [], ◌∷◌, append-nil, take, Option, refl, sym, ◌∙◌, subst}
+use Rattle.std.specs.List.{list_all}
+use Rattle.rb_base.specs.declared.fault.Fault.{Fault}
+use Rattle.rdl_verdict.specs.Answers as verdict
+use Rattle.verdict_text.specs.Lines.{rule_line, verdict_lines}
+use Rattle.rb_edge.specs.Shelf.{Files, IsLonger}
 use Rattle.sim_run.specs.Simulated.{IsSimulated, IsProblem}
 use Rattle.v_syntax.specs.Failing.{Fails}
 use Rattle.v_syntax.specs.declared.error.VError.{VError}
 use Rattle.regblock.specs.declared.status.Status.{Status}
 use Rattle.regblock.specs.declared.status.Status.TheVariants.{Done, Refused, ReadFault, WriteFault, NoMemory, TooLong, BadVerilog, BadStimulus}
-use Rattle.regblock.specs.Text.{cannot_read, too_long, rule_line, verilog_line, stimulus_line}
-use Rattle.regblock.specs.Verdict.{FailsFirst}
-use Rattle.regblock.specs.Words.{Command, compile, sim}
-use Rattle.regblock.specs.Outcome.{IsRead, AreRead, StopsAt, Texts, IsNotice, Judges, Answers, Outcome, files_of, source_limit, verilog_limit}
+use Rattle.regblock.specs.Text.{cannot_read, too_long, verilog_line, stimulus_line}
+use Rattle.command_line.specs.Words.{Command, check, compile, map_of, sim}
+use Rattle.regblock.specs.Outcome.{IsCompiled, IsMapped, IsRefused, AreRead, StopsAt, Texts, IsNotice, Judges, Answers, Outcome, files_of, has_none}
 use Rattle.regblock.specs.Ends.{Passage, TookAll, IsCutShort, Ends}
 
--- a verdict on the one file of `compile`
-pub Judges-refused : (file source : List ℕ) (place : Place) (rule : Rule) (status : Status) (texts : Texts)
-    → status ≡ Refused → FailsFirst source place rule → IsNotice texts (rule_line file source place rule) → Judges (compile file) (source ∷ []) status texts
-Judges-refused file source place rule status texts is fails notice =
-    let P : Status → Type 0 = λ s. Judges (compile file) (source ∷ []) s texts in
-    subst P (sym is) (record { place = place; rule = rule; fails = fails; told = notice })
+-- sources that are checked are refused, or not
+pub checked_ends : (t : Bool) (status : Status) → status ≡ cond t Done Refused → (status ≡ Done → ⊥) → (status ≡ Refused → ⊥) → ⊥
+checked_ends true status e done refused = done e
+checked_ends false status e done refused = refused e
 
--- a module of what the one file of `compile` says
-pub Judges-done : (file source : List ℕ) (f : Form) (status : Status) (texts : Texts)
-    → status ≡ Done → parser.IsAccepted source → IsForm source f → Agrees texts.out (block_of f) → texts.err ≡ [] → Judges (compile file) (source ∷ []) status texts
-Judges-done file source f status texts is parsed says agrees quiet =
-    let P : Status → Type 0 = λ s. Judges (compile file) (source ∷ []) s texts in
-    subst P (sym is) (record { clean = record { parsed = parsed; compiled = (f, says) }; block = block_of f; describes = record { form = f; is_form = says; is = refl }; agrees = agrees; quiet = quiet })
+-- the first failure of a verdict, told alone
+pub first_told : (top : Option (List ℕ)) (file source : List ℕ) (list : List Fault) (texts : Texts)
+    → verdict.IsRefused top source list → IsNotice texts (verdict_lines file source (take 1 list)) → IsRefused top file source texts
+first_told top file source [] texts refused notice = absurd (refused.some refl)
+first_told top file source (f ∷ fs) texts refused notice = record {
+  place = f.place;
+  rule = f.rule;
+  fails = record { others = fs; verdict = refused.verdict };
+  told = (notice.0 ∙ append-nil (rule_line file source f.place f.rule), notice.1);
+}
+
+-- a module of the block that the one file of `compile` describes
+pub Judges-compiled : (top : Option (List ℕ)) (file source : List ℕ) (status : Status) (texts : Texts)
+    → status ≡ Done → IsCompiled top source texts → Judges (compile top file) (source ∷ []) status texts
+Judges-compiled top file source status texts is compiled =
+    let P : Status → Type 0 = λ s. Judges (compile top file) (source ∷ []) s texts in
+    subst P (sym is) compiled
+
+pub Judges-uncompiled : (top : Option (List ℕ)) (file source : List ℕ) (status : Status) (texts : Texts)
+    → status ≡ Refused → IsRefused top file source texts → Judges (compile top file) (source ∷ []) status texts
+Judges-uncompiled top file source status texts is refused =
+    let P : Status → Type 0 = λ s. Judges (compile top file) (source ∷ []) s texts in
+    subst P (sym is) refused
+
+-- the table of the block that the one file of `map` describes
+pub Judges-mapped : (top : Option (List ℕ)) (file source : List ℕ) (status : Status) (texts : Texts)
+    → status ≡ Done → IsMapped top source texts → Judges (map_of top file) (source ∷ []) status texts
+Judges-mapped top file source status texts is mapped =
+    let P : Status → Type 0 = λ s. Judges (map_of top file) (source ∷ []) s texts in
+    subst P (sym is) mapped
+
+pub Judges-unmapped : (top : Option (List ℕ)) (file source : List ℕ) (status : Status) (texts : Texts)
+    → status ≡ Refused → IsRefused top file source texts → Judges (map_of top file) (source ∷ []) status texts
+Judges-unmapped top file source status texts is refused =
+    let P : Status → Type 0 = λ s. Judges (map_of top file) (source ∷ []) s texts in
+    subst P (sym is) refused
 
 -- what the two files of `sim` give
 pub Judges-run : (file table verilog stimulus : List ℕ) (status : Status) (texts : Texts)
@@ -56,18 +81,26 @@ not_judged : (command : Command) (sources : List (List ℕ)) (texts : Texts) (st
 not_judged command sources texts status h judged = ⊎_elim (λ e. read_fault command sources (subst (λ s. Judges command sources s texts) e judged)) (λ e. too_long_one command sources (subst (λ s. Judges command sources s texts) e judged)) h
   where
     read_fault : (command : Command) (sources : List (List ℕ)) → Judges command sources ReadFault texts → ⊥
-    read_fault (compile file) [] j = j
-    read_fault (compile file) (a ∷ []) j = j
-    read_fault (compile file) (a ∷ b ∷ more) j = j
+    read_fault (compile top file) [] j = j
+    read_fault (compile top file) (a ∷ []) j = j
+    read_fault (compile top file) (a ∷ b ∷ more) j = j
+    read_fault (map_of top file) [] j = j
+    read_fault (map_of top file) (a ∷ []) j = j
+    read_fault (map_of top file) (a ∷ b ∷ more) j = j
+    read_fault (check top files) sources j = checked_ends (list_all has_none j.lists) ReadFault j.ends (λ e. cc e) (λ e. cc e)
     read_fault (sim file table) [] j = j
     read_fault (sim file table) (a ∷ []) j = j
     read_fault (sim file table) (a ∷ b ∷ []) j = j
     read_fault (sim file table) (a ∷ b ∷ c ∷ more) j = j
 
     too_long_one : (command : Command) (sources : List (List ℕ)) → Judges command sources TooLong texts → ⊥
-    too_long_one (compile file) [] j = j
-    too_long_one (compile file) (a ∷ []) j = j
-    too_long_one (compile file) (a ∷ b ∷ more) j = j
+    too_long_one (compile top file) [] j = j
+    too_long_one (compile top file) (a ∷ []) j = j
+    too_long_one (compile top file) (a ∷ b ∷ more) j = j
+    too_long_one (map_of top file) [] j = j
+    too_long_one (map_of top file) (a ∷ []) j = j
+    too_long_one (map_of top file) (a ∷ b ∷ more) j = j
+    too_long_one (check top files) sources j = checked_ends (list_all has_none j.lists) TooLong j.ends (λ e. cc e) (λ e. cc e)
     too_long_one (sim file table) [] j = j
     too_long_one (sim file table) (a ∷ []) j = j
     too_long_one (sim file table) (a ∷ b ∷ []) j = j
@@ -93,18 +126,26 @@ Answers-too_long contents failed command status texts is stops =
 
 -- want of memory and a failed write are no outcome
 no_memory_judged : (command : Command) (sources : List (List ℕ)) (texts : Texts) → Judges command sources NoMemory texts → ⊥
-no_memory_judged (compile file) [] texts j = j
-no_memory_judged (compile file) (a ∷ []) texts j = j
-no_memory_judged (compile file) (a ∷ b ∷ more) texts j = j
+no_memory_judged (compile top file) [] texts j = j
+no_memory_judged (compile top file) (a ∷ []) texts j = j
+no_memory_judged (compile top file) (a ∷ b ∷ more) texts j = j
+no_memory_judged (map_of top file) [] texts j = j
+no_memory_judged (map_of top file) (a ∷ []) texts j = j
+no_memory_judged (map_of top file) (a ∷ b ∷ more) texts j = j
+no_memory_judged (check top files) sources texts j = checked_ends (list_all has_none j.lists) NoMemory j.ends (λ e. cc e) (λ e. cc e)
 no_memory_judged (sim file table) [] texts j = j
 no_memory_judged (sim file table) (a ∷ []) texts j = j
 no_memory_judged (sim file table) (a ∷ b ∷ []) texts j = j
 no_memory_judged (sim file table) (a ∷ b ∷ c ∷ more) texts j = j
 
 write_fault_judged : (command : Command) (sources : List (List ℕ)) (texts : Texts) → Judges command sources WriteFault texts → ⊥
-write_fault_judged (compile file) [] texts j = j
-write_fault_judged (compile file) (a ∷ []) texts j = j
-write_fault_judged (compile file) (a ∷ b ∷ more) texts j = j
+write_fault_judged (compile top file) [] texts j = j
+write_fault_judged (compile top file) (a ∷ []) texts j = j
+write_fault_judged (compile top file) (a ∷ b ∷ more) texts j = j
+write_fault_judged (map_of top file) [] texts j = j
+write_fault_judged (map_of top file) (a ∷ []) texts j = j
+write_fault_judged (map_of top file) (a ∷ b ∷ more) texts j = j
+write_fault_judged (check top files) sources texts j = checked_ends (list_all has_none j.lists) WriteFault j.ends (λ e. cc e) (λ e. cc e)
 write_fault_judged (sim file table) [] texts j = j
 write_fault_judged (sim file table) (a ∷ []) texts j = j
 write_fault_judged (sim file table) (a ∷ b ∷ []) texts j = j

@@ -1,13 +1,13 @@
 -- What the answers to `sim` promise.
-use Rattle.std.proofs.Common.{◌≡◌, ⊎_elim, ℕ, List, [], ◌∷◌, Option, sym, subst}
+use Rattle.std.proofs.Common.{◌≡◌, ⊎_elim, ℕ, List, [], ◌∷◌, Option, subst}
 use Rattle.rb_edge.specs.Shelf.{Files}
 use Rattle.regblock.specs.declared.status.Status.{Status}
 use Rattle.regblock.specs.declared.status.Status.TheVariants.{Done, BadVerilog, BadStimulus}
-use Rattle.regblock.specs.Words.{Command, sim, Asks}
+use Rattle.command_line.specs.Words.{Command, sim, Asks}
 use Rattle.regblock.specs.Outcome.{AreRead, Texts, Judges, Answers, Outcome, files_of}
 use Rattle.regblock.specs.Ends.{Passage, TookAll, Ends}
 use Rattle.regblock.specs.Simulations.{IsRun, IsToldVerilog, IsToldStimulus}
-use Rattle.regblock.proofs.CompleteRuns.{one_command}
+use Rattle.command_line.proofs.Asking.{one-command}
 
 module _ (contents : Option Files) (err out : Passage) (file table : List ℕ) (texts : Texts) where
   ran : (sources : List (List ℕ)) → AreRead contents (files_of (sim file table)) sources → Judges (sim file table) sources Done texts
@@ -63,7 +63,7 @@ module _ (words : List (List ℕ)) (contents : Option Files) (failed : List ℕ 
   -- the answer is one to this command
   answers_of : (status : Status) (texts : Texts) (file table : List ℕ) → Asks words (sim file table) → (command : Command) → Asks words command → Answers contents failed command status texts → Answers contents failed (sim file table) status texts
   answers_of status texts file table asks command asked answers =
-      let P : Command → Type 0 = λ c. Answers contents failed c status texts in subst P (one_command words command (sim file table) asked asks) answers
+      let P : Command → Type 0 = λ c. Answers contents failed c status texts in subst P (one-command words command (sim file table) asked asks) answers
 
   pub simulated : (file table : List ℕ) → Asks words (sim file table) → result ≡ Done → IsRun contents file table err out
   simulated file table asks is =

@@ -1,12 +1,12 @@
 -- When a run does what its words ask for.
-use Rattle.std.specs.Prelude.{◌≡◌, ◌⊎◌, ℕ, ◌≤◌, List, [], ◌∷◌, length, Option, None, Some, ⊤}
+use Rattle.std.specs.Prelude.{◌≡◌, ◌⊎◌, ℕ, ◌≤◌, List, [], ◌∷◌, length, All, Option, None, Some, ⊤}
 use Rattle.rb_edge.specs.Count.{Rose}
 use Rattle.rb_edge.specs.Shelf.{Files}
 use Rattle.sim_run.specs.Simulated.{IsFitTable}
-use Rattle.regblock.specs.Verdict.{IsClean}
+use Rattle.regblock.specs.Verdict.{BreaksNone}
 use Rattle.regblock.specs.declared.status.Status.{Status}
 use Rattle.regblock.specs.declared.status.Status.TheVariants.{Done, NoMemory}
-use Rattle.regblock.specs.Words.{Command, compile, sim, Asks}
+use Rattle.command_line.specs.Words.{Command, check, compile, map_of, sim, Asks}
 use Rattle.regblock.specs.Outcome.{files_of}
 use Rattle.regblock.specs.Ends.{Passage}
 
@@ -15,9 +15,15 @@ abbrev pub AreAtHand : Files → (List ℕ → Type 0) → List (List ℕ × ℕ
 AreAtHand files failed [] = ⊤
 AreAtHand files failed (file ∷ more) = ((bytes : List ℕ) × (files file.0 ≡ Some bytes) × (length bytes ≤ file.1)) × ¬ failed file.0 × AreAtHand files failed more
 
--- the command's files are what it asks for: a source that breaks no rule, or a module and a table for it
+-- the file is a source that breaks no rule
+abbrev pub IsFit : Option (List ℕ) → Files → List ℕ → Type 0
+IsFit top files file = (source : List ℕ) → files file ≡ Some source → BreaksNone top source
+
+-- the command's files are what it asks for: sources that break no rule, or a module and a table for it
 abbrev pub AreFit : Command → Files → Type 0
-AreFit (compile file) files = (source : List ℕ) → files file ≡ Some source → IsClean source
+AreFit (compile top file) files = IsFit top files file
+AreFit (check top names) files = All (IsFit top files) names
+AreFit (map_of top file) files = IsFit top files file
 AreFit (sim file table) files = (verilog stimulus : List ℕ) → files file ≡ Some verilog → files table ≡ Some stimulus → IsFitTable verilog stimulus
 
 -- no write to the sink failed

@@ -1,36 +1,64 @@
--- What an answer to `compile` promises.
-use Rattle.std.specs.Prelude.{ℕ, List, [], Option}
+-- What the answers to `compile`, `map` and `check` promise.
+use Rattle.std.specs.Prelude.{ℕ, List, [], ◌∷◌, Option, ⊤}
 use Rattle.rb_base.specs.declared.place.Place.{Place}
 use Rattle.rb_base.specs.declared.rule.Rule.{Rule}
 use Rattle.rb_edge.specs.Shelf.{Files, Holds}
 use Rattle.rb_model.specs.declared.block.Block.{Block}
-use Rattle.rb_model.specs.Sound.{IsSound}
 use Rattle.rb_model.specs.Agreement.{Agrees}
-use Rattle.first_form.specs.Described.{Describes}
-use Rattle.regblock.specs.Text.{rule_line}
-use Rattle.regblock.specs.Verdict.{FailsFirst, IsClean}
+use Rattle.rb_base.specs.declared.fault.Fault.{Fault}
+use Rattle.rdl_tree.specs.declared.item.Source.{Source}
+use Rattle.rdl_verdict.specs.Verdict.{IsDescribed, IsVerdict}
+use Rattle.address_text.specs.Lines.{address_lines}
+use Rattle.verdict_text.specs.Lines.{rule_line}
+use Rattle.regblock.specs.Outcome.{AreVerdicts, all_failures, all_fine}
+use Rattle.regblock.specs.Verdict.{FailsFirst}
 use Rattle.regblock.specs.Ends.{Passage, TookAll}
 
 -- Done: the source breaks no rule and describes a sound register block, and what was written is one module that gives the
 -- outputs of that block's machine, from any start and for any pins that keep the protocol. Nothing stands on err.
-pub record IsRight (contents : Option Files) (file : List ℕ) (err out : Passage) : Type 0 where
+pub record IsRight (contents : Option Files) (top : Option (List ℕ)) (file : List ℕ) (err out : Passage) : Type 0 where
   pub source : List ℕ
+  pub tree : Source
   pub block : Block
   pub text : List ℕ
   pub held : Holds contents file source
-  pub clean : IsClean source
-  pub describes : Describes source block
-  pub sound : IsSound block
+  pub clean : IsVerdict top source []
+  pub described : IsDescribed top source tree block
   pub agrees : Agrees text block
   pub written : TookAll out text
   pub quiet : TookAll err []
 
 -- Refused: the source breaks a rule, and what was written on err is the line of the first failure. Nothing stands on out.
-pub record IsToldFailure (contents : Option Files) (file : List ℕ) (err out : Passage) : Type 0 where
+pub record IsToldFailure (contents : Option Files) (top : Option (List ℕ)) (file : List ℕ) (err out : Passage) : Type 0 where
   pub source : List ℕ
   pub place : Place
   pub rule : Rule
   pub held : Holds contents file source
-  pub fails : FailsFirst source place rule
+  pub fails : FailsFirst top source place rule
   pub told : TookAll err (rule_line file source place rule)
   pub quiet : TookAll out []
+
+-- Done by `map`: the source breaks no rule, and what was written is the address table of the block that it describes.
+pub record IsTable (contents : Option Files) (top : Option (List ℕ)) (file : List ℕ) (err out : Passage) : Type 0 where
+  pub source : List ℕ
+  pub tree : Source
+  pub block : Block
+  pub held : Holds contents file source
+  pub described : IsDescribed top source tree block
+  pub written : TookAll out (address_lines block)
+  pub quiet : TookAll err []
+
+-- each file holds its source
+abbrev pub AreHeld : Option Files → (files sources : List (List ℕ)) → Type 0
+AreHeld contents [] [] = ⊤
+AreHeld contents (file ∷ files) (source ∷ sources) = Holds contents file source × AreHeld contents files sources
+AreHeld contents _ _ = ⊥
+
+-- Done or Refused by `check`: what was written on err is the verdicts of all files, and on out a line for each that breaks no rule.
+pub record AreToldVerdicts (contents : Option Files) (top : Option (List ℕ)) (files : List (List ℕ)) (err out : Passage) : Type 0 where
+  pub sources : List (List ℕ)
+  pub lists : List (List Fault)
+  pub held : AreHeld contents files sources
+  pub verdicts : AreVerdicts top sources lists
+  pub told : TookAll err (all_failures files sources lists)
+  pub fine : TookAll out (all_fine files lists)

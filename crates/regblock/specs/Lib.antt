@@ -1,4 +1,3 @@
-pub mod Words
 pub mod Text
 pub mod Status
 pub mod Verdict
@@ -7,6 +6,6 @@ pub mod Ends
 pub mod Complete
 pub mod Headline
 pub mod Simulations
-pub mod Command
 pub mod Answer
 pub mod Loaded
+pub mod Checked

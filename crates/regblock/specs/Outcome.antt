@@ -1,15 +1,20 @@
 -- Which status and which texts belong to the words of a command line and the files that they name.
-use Rattle.std.specs.Prelude.{◌≡◌, ◌⊎◌, ℕ, ◌≤◌, List, [], ◌∷◌, length, Option, ⊤}
+use Rattle.std.specs.Prelude.{◌≡◌, ◌⊎◌, ℕ, ◌≤◌, Bool, true, false, cond, List, [], ◌∷◌, ◌++◌, length, map, Option, ⊤}
+use Rattle.std.specs.List.{list_all}
 use Rattle.rb_edge.specs.Count.{Rose}
 use Rattle.rb_edge.specs.Shelf.{Files, Holds, IsLonger}
 use Rattle.rb_model.specs.declared.block.Block.{Block}
 use Rattle.rb_model.specs.Agreement.{Agrees}
-use Rattle.first_form.specs.Described.{Describes}
+use Rattle.rb_base.specs.declared.fault.Fault.{Fault}
+use Rattle.rdl_tree.specs.declared.item.Source.{Source}
+use Rattle.rdl_verdict.specs.Verdict.{IsDescribed, IsVerdict}
+use Rattle.address_text.specs.Lines.{address_lines}
+use Rattle.verdict_text.specs.Lines.{ok_line, rule_line, verdict_lines}
+use Rattle.command_line.specs.Words.{Command, check, compile, map_of, sim, Asks, AsksNothing}
 use Rattle.regblock.specs.declared.status.Status.{Status}
 use Rattle.regblock.specs.declared.status.Status.TheVariants.{Done, Refused, Usage, ReadFault, TooLong, BadVerilog, BadStimulus}
-use Rattle.regblock.specs.Words.{Command, compile, sim, Asks, AsksNothing}
-use Rattle.regblock.specs.Text.{cannot_read, too_long, rule_line, verilog_line, stimulus_line, usage}
-use Rattle.regblock.specs.Verdict.{FailsFirst, IsClean}
+use Rattle.regblock.specs.Text.{cannot_read, too_long, verilog_line, stimulus_line, usage}
+use Rattle.regblock.specs.Verdict.{FailsFirst}
 use Rattle.sim_run.specs.Simulated.{IsSimulated, IsProblem}
 use Rattle.v_syntax.specs.Failing.{Fails}
 use Rattle.v_syntax.specs.declared.error.VError.{VError}
@@ -38,7 +43,9 @@ verilog_limit = 67108864
 
 -- the files that a command names, in order, each with the most bytes that it may have
 abbrev pub files_of : Command → List (List ℕ × ℕ)
-files_of (compile source) = (source, source_limit) ∷ []
+files_of (compile top source) = (source, source_limit) ∷ []
+files_of (check top sources) = map (λ source. (source, source_limit)) sources
+files_of (map_of top source) = (source, source_limit) ∷ []
 files_of (sim verilog stimulus) = (verilog, verilog_limit) ∷ (stimulus, source_limit) ∷ []
 
 -- the file was read whole
@@ -58,19 +65,54 @@ StopsAt contents P [] = ⊥
 StopsAt contents P (file ∷ files) = P file.0 file.1 ⊎ ((bytes : List ℕ) × IsRead contents file.0 file.1 bytes × StopsAt contents P files)
 
 -- the source breaks no rule, and on out is a module of the block that it describes
-pub record IsCompiled (source : List ℕ) (texts : Texts) : Type 0 where
-  pub clean : IsClean source
+pub record IsCompiled (top : Option (List ℕ)) (source : List ℕ) (texts : Texts) : Type 0 where
+  pub tree : Source
   pub block : Block
-  pub describes : Describes source block
+  pub described : IsDescribed top source tree block
   pub agrees : Agrees texts.out block
   pub quiet : texts.err ≡ []
 
+-- the source breaks no rule, and on out is the address table of the block that it describes
+pub record IsMapped (top : Option (List ℕ)) (source : List ℕ) (texts : Texts) : Type 0 where
+  pub tree : Source
+  pub block : Block
+  pub described : IsDescribed top source tree block
+  pub table : texts.out ≡ address_lines block
+  pub quiet : texts.err ≡ []
+
 -- on err is the line of the first rule that the source breaks
-pub record IsRefused (file source : List ℕ) (texts : Texts) : Type 0 where
+pub record IsRefused (top : Option (List ℕ)) (file source : List ℕ) (texts : Texts) : Type 0 where
   pub place : Place
   pub rule : Rule
-  pub fails : FailsFirst source place rule
+  pub fails : FailsFirst top source place rule
   pub told : IsNotice texts (rule_line file source place rule)
+
+-- The verdicts of some sources, each by its own text alone.
+abbrev pub AreVerdicts : Option (List ℕ) → List (List ℕ) → List (List Fault) → Type 0
+AreVerdicts top [] [] = ⊤
+AreVerdicts top (source ∷ sources) (list ∷ lists) = IsVerdict top source list × AreVerdicts top sources lists
+AreVerdicts top _ _ = ⊥
+
+abbrev pub has_none : List Fault → Bool
+has_none [] = true
+has_none (f ∷ fs) = false
+
+-- the lines of all failures, and of all files without any
+abbrev pub all_failures : (files sources : List (List ℕ)) → List (List Fault) → List ℕ
+all_failures (file ∷ files) (source ∷ sources) (list ∷ lists) = verdict_lines file source list ++ all_failures files sources lists
+all_failures _ _ _ = []
+
+abbrev pub all_fine : (files : List (List ℕ)) → List (List Fault) → List ℕ
+all_fine (file ∷ files) (list ∷ lists) = cond (has_none list) (ok_line file) [] ++ all_fine files lists
+all_fine _ _ = []
+
+-- on err are the failures of all sources, in the order of the words, and on out a line for each source that has none
+pub record IsChecked (top : Option (List ℕ)) (files sources : List (List ℕ)) (status : Status) (texts : Texts) : Type 0 where
+  pub lists : List (List Fault)
+  pub verdicts : AreVerdicts top sources lists
+  pub told : texts.err ≡ all_failures files sources lists
+  pub fine : texts.out ≡ all_fine files lists
+  pub ends : status ≡ cond (list_all has_none lists) Done Refused
 
 -- on out is the run of a module over a table
 pub record IsSimulation (verilog stimulus : List ℕ) (texts : Texts) : Type 0 where
@@ -91,8 +133,11 @@ pub record IsBadStimulus (verilog file stimulus : List ℕ) (texts : Texts) : Ty
 
 -- The status and the texts of a command whose files have these bytes.
 abbrev pub Judges : Command → List (List ℕ) → Status → Texts → Type 0
-Judges (compile file) (source ∷ []) Done texts = IsCompiled source texts
-Judges (compile file) (source ∷ []) Refused texts = IsRefused file source texts
+Judges (compile top file) (source ∷ []) Done texts = IsCompiled top source texts
+Judges (compile top file) (source ∷ []) Refused texts = IsRefused top file source texts
+Judges (map_of top file) (source ∷ []) Done texts = IsMapped top source texts
+Judges (map_of top file) (source ∷ []) Refused texts = IsRefused top file source texts
+Judges (check top files) sources status texts = IsChecked top files sources status texts
 Judges (sim file table) (verilog ∷ stimulus ∷ []) Done texts = IsSimulation verilog stimulus texts
 Judges (sim file table) (verilog ∷ stimulus ∷ []) BadVerilog texts = IsBadVerilog file verilog texts
 Judges (sim file table) (verilog ∷ stimulus ∷ []) BadStimulus texts = IsBadStimulus verilog table stimulus texts

@@ -1,7 +1,8 @@
 //! What a command line is answered: a status, a text for err and a text for out.
 
 ghost use Rattle.std.specs.Prelude.{◌≡◌, ◌⊎◌, [], IfOk};
-ghost use Rattle.regblock.specs.Text.{file_line, too_long, usage};
+ghost use Rattle.verdict_text.specs.Lines.{file_line};
+ghost use Rattle.regblock.specs.Text.{too_long, usage};
 ghost use Rattle.regblock.specs.Ends.{TookAll, IsCutShort, passage};
 
 use crate::Status;

@@ -1,14 +1,15 @@
 //! What the words ask for, answered.
 
 ghost use Rattle.std.specs.Prelude.{◌≡◌, ◌≤◌, ℕ, List, IfOk};
-ghost use Rattle.regblock.specs.Words.{AsksNothing, texts};
+ghost use Rattle.command_line.specs.Words.{AsksNothing, texts};
 ghost use Rattle.regblock.specs.Outcome.{FailedRead, Outcome};
 ghost use Rattle.regblock.specs.Answer.{texts_of};
 
 use crate::answer::{Answer, usage_answer};
-use crate::compiling::compile_file;
+use crate::checking::check_files;
+use crate::compiling::{compile_file, map_file};
 use crate::simulating::simulate_files;
-use crate::words::{Command, command_of};
+use command_line::{Command, command_of};
 use rb_base::NoMemory;
 use rb_edge::Shelf;
 use std::alloc::Global;
@@ -25,7 +26,9 @@ pub(crate) fn answer_words<S: Shelf>(
     ensures idle { AsksNothing (texts words.now) → shelf.new ≡ shelf.old }
 {
     match command_of(words) {
-        Some(Command::Compile { source }) => Ok(compile_file(alloc, shelf, source)?),
+        Some(Command::Compile { top, source }) => Ok(compile_file(alloc, shelf, top, source)?),
+        Some(Command::Check { top, sources }) => Ok(check_files(alloc, shelf, top, sources)?),
+        Some(Command::Map { top, source }) => Ok(map_file(alloc, shelf, top, source)?),
         Some(Command::Sim { verilog, stimulus }) => {
             Ok(simulate_files(alloc, shelf, verilog, stimulus)?)
         }

@@ -2,14 +2,15 @@
 #![tactic(auto)]
 
 mod answer;
+mod checking;
 mod commands;
 mod compiling;
 mod loading;
+mod modules;
 mod places;
 mod simulating;
 mod status;
 mod top_call;
-mod words;
 
 pub use status::Status;
 pub use top_call::run;

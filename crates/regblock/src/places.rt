@@ -1,7 +1,7 @@
 //! Places as lines and columns.
 
 ghost use Rattle.std.specs.Prelude.{◌≡◌, ◌≤◌, ◌<◌, ◌-◌, ◌^◌, ◌++◌, length, OnOk};
-ghost use Rattle.regblock.specs.Text.{at_place};
+ghost use Rattle.verdict_text.specs.Lines.{at_place};
 
 use rb_base::{NoMemory, Place, line_column};
 use std::alloc::Global;

@@ -2,7 +2,7 @@
 
 ghost use Rattle.std.specs.Prelude.{◌≡◌, ◌≢◌, ◌≤◌, ◌∷◌, [], ℕ, List, length, IfOk};
 ghost use Rattle.v_reader.specs.Reading.{place_number};
-ghost use Rattle.regblock.specs.Words.{sim};
+ghost use Rattle.command_line.specs.Words.{sim};
 ghost use Rattle.regblock.specs.Text.{kind_of as kind, verilog_line, stimulus_line};
 ghost use Rattle.regblock.specs.Outcome.{FailedRead, Judges, Answers, verilog_limit};
 ghost use Rattle.regblock.specs.Answer.{texts_of};

@@ -1,13 +1,13 @@
 //! The top call.
 
-ghost use Rattle.std.specs.Prelude.{◌≡◌, ◌⊎◌, ◌≤◌, List, ℕ};
+ghost use Rattle.std.specs.Prelude.{◌≡◌, ◌⊎◌, ◌≤◌, List, Option, ℕ};
 ghost use Rattle.rb_edge.specs.Count.{Rose};
 ghost use Rattle.rb_edge.specs.Shelf.{IsLonger};
-ghost use Rattle.regblock.specs.Words.{texts, Command, compile, sim, Asks, AsksNothing};
+ghost use Rattle.command_line.specs.Words.{texts, Command, check, compile, map_of, sim, Asks, AsksNothing};
 ghost use Rattle.regblock.specs.Outcome.{FailedRead, Outcome, StopsAt, files_of};
 ghost use Rattle.regblock.specs.Ends.{Ends, passage};
 ghost use Rattle.regblock.specs.Complete.{IsComplete};
-ghost use Rattle.regblock.specs.Headline.{IsRight, IsToldFailure};
+ghost use Rattle.regblock.specs.Headline.{AreToldVerdicts, IsRight, IsTable, IsToldFailure};
 ghost use Rattle.regblock.specs.Simulations.{IsRun, IsToldVerilog, IsToldStimulus};
 
 use crate::Status;
@@ -26,10 +26,18 @@ pub fn run<S: Shelf, O: Sink, E: Sink>(
     err: &mut E,
 ) -> Status
     // A module that was written is right, and a refusal names the first failure.
-    ensures done { (file : List ℕ) → Asks (texts words.now) (compile file) → result ≡ Status.Done
-        → IsRight (S.contents shelf.old) file (passage E.told E.faults err.old err.new) (passage O.told O.faults out.old out.new) }
-    ensures refused { (file : List ℕ) → Asks (texts words.now) (compile file) → result ≡ Status.Refused
-        → IsToldFailure (S.contents shelf.old) file (passage E.told E.faults err.old err.new) (passage O.told O.faults out.old out.new) }
+    ensures done { (top : Option (List ℕ)) (file : List ℕ) → Asks (texts words.now) (compile top file) → result ≡ Status.Done
+        → IsRight (S.contents shelf.old) top file (passage E.told E.faults err.old err.new) (passage O.told O.faults out.old out.new) }
+    ensures refused { (top : Option (List ℕ)) (file : List ℕ) → Asks (texts words.now) (compile top file) → result ≡ Status.Refused
+        → IsToldFailure (S.contents shelf.old) top file (passage E.told E.faults err.old err.new) (passage O.told O.faults out.old out.new) }
+
+    // A table that was written is that of the block that the source describes; verdicts that were written are those of all files.
+    ensures mapped { (top : Option (List ℕ)) (file : List ℕ) → Asks (texts words.now) (map_of top file) → result ≡ Status.Done
+        → IsTable (S.contents shelf.old) top file (passage E.told E.faults err.old err.new) (passage O.told O.faults out.old out.new) }
+    ensures unmapped { (top : Option (List ℕ)) (file : List ℕ) → Asks (texts words.now) (map_of top file) → result ≡ Status.Refused
+        → IsToldFailure (S.contents shelf.old) top file (passage E.told E.faults err.old err.new) (passage O.told O.faults out.old out.new) }
+    ensures checked { (top : Option (List ℕ)) (files : List (List ℕ)) → Asks (texts words.now) (check top files) → (result ≡ Status.Done) ⊎ (result ≡ Status.Refused)
+        → AreToldVerdicts (S.contents shelf.old) top files (passage E.told E.faults err.old err.new) (passage O.told O.faults out.old out.new) }
 
     // A run that was written is that of the module that the first file is, from zeros, over the table that the second is.
     ensures simulated { (file table : List ℕ) → Asks (texts words.now) (sim file table) → result ≡ Status.Done

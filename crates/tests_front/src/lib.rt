@@ -4,8 +4,6 @@
 #[cfg(test)]
 mod constants;
 #[cfg(test)]
-mod form;
-#[cfg(test)]
 mod lexemes;
 #[cfg(test)]
 mod properties;

@@ -1,5 +1,5 @@
-use Rattle.std.proofs.Common.{ℕ, List, [], ◌∷◌, subst}
-use Rattle.regblock.specs.Words.{compile}
+use Rattle.std.proofs.Common.{ℕ, List, [], ◌∷◌, option_copied, subst}
+use Rattle.command_line.specs.Words.{Command, compile}
 use Rattle.regblock.specs.Loaded.{IsLoaded}
 use Rattle.regblock.specs.Outcome.{Judges, FailedRead, source_limit}
 use Rattle.regblock.specs.Answer.{texts_of}
@@ -12,5 +12,6 @@ returns-in_ok-answer-in-Bytes-clause-answers g c =
     let contents = g.S.Shelf.contents c.args.shelf.now in
     let failed = FailedRead g.S.Shelf.faults c.args.shelf.now c.load_file.new.shelf in
     let read = subst (λ l. IsLoaded contents failed c.args.file.now source_limit l) c.in-Bytes.is c.in_ok-source.ensures.loaded in
-    let P : List ℕ → Type 0 = λ source. Judges (compile c.args.file.now) (source ∷ []) answer.status (texts_of answer) in
-    Answers-judged contents failed (compile c.args.file.now) (c.in-Bytes.source.items ∷ []) answer.status (texts_of answer) (read, tt) (subst P c.deref.ensures.value c.in_ok-answer-in-Bytes.ensures)
+    let command : Command = compile (option_copied c.args.top) c.args.file.now in
+    let P : List ℕ → Type 0 = λ source. Judges command (source ∷ []) answer.status (texts_of answer) in
+    Answers-judged contents failed command (c.in-Bytes.source.items ∷ []) answer.status (texts_of answer) (read, tt) (subst P c.deref.ensures.value c.in_ok-answer-in-Bytes.ensures)

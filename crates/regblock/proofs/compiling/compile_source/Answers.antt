@@ -1,17 +1,20 @@
+use Rattle.std.proofs.Common.{List, option_copied, take, ap, ◌∙◌, subst}
+use Rattle.rb_base.specs.declared.fault.Fault.{Fault}
+use Rattle.verdict_text.specs.Lines.{verdict_lines}
+use Rattle.rdl_verdict.specs.Answers.{Refuses}
+use Rattle.rdl_verdict.specs.declared.error.JudgeError.{JudgeError}
 use Rattle.regblock.specs.Answer.{texts_of}
-use Rattle.regblock.proofs.Rows.{Judges-refused}
-use Rattle.regblock.proofs.Within.{reads_accepted}
+use Rattle.regblock.proofs.Rows.{Judges-uncompiled, first_told}
 use Rattle.regblock.proofs.compiling.compile_source.Goals as goal
 
-pub compile_parsed-requires-clause-parsed : goal.compile_parsed-requires-clause-parsed
-compile_parsed-requires-clause-parsed c = reads_accepted c.args.source.now _ c.in-Ok.ensures.tree
-
-pub refusal-requires-clause-within : goal.refusal-requires-clause-within
-refusal-requires-clause-within c = c.in_ok-fault-in-Err.ensures.names.within c.args.source.now (c.in-Err.ensures.error c.in_ok-fault-in-Err.ensures.memory)
-
-pub returns : goal.returns
-returns c =
-    let answer = c.in_ok-answer-in-Err.answer in
-    let told = c.in_ok-answer-in-Err.ensures in
-    Judges-refused c.args.file.now c.args.source.now _ _ answer.status (texts_of answer) told.status
-    (c.in_ok-fault-in-Err.ensures.names.fails c.args.source.now (c.in-Err.ensures.error c.in_ok-fault-in-Err.ensures.memory)) (told.err, told.out)
+pub returns-in-Err-Faults : goal.returns-in-Err-Faults
+returns-in-Err-Faults c =
+    let answer = c.in_ok-answer-in-Err-Faults.answer in
+    let told = c.in_ok-answer-in-Err-Faults.ensures in
+    let top = option_copied c.args.top in
+    let file = c.args.file.now in
+    let source = c.args.source.now in
+    let refused = subst (λ (e : JudgeError). Refuses top source e) c.in-Err-Faults.field-0-is c.in-Err-Faults.ensures in
+    let err = told.err ∙ ap (λ (fs : List Fault). verdict_lines file source (take 1 fs)) c.deref.ensures.value in
+    Judges-uncompiled top file source answer.status (texts_of answer) told.status
+    (first_told top file source c.in-Err-Faults.faults.items (texts_of answer) refused (err, told.out))

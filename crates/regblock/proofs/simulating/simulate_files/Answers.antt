@@ -1,5 +1,5 @@
-use Rattle.std.proofs.Common.{ℕ, List, [], ◌∷◌, subst}
-use Rattle.regblock.specs.Words.{sim}
+use Rattle.std.proofs.Common.{[], ◌∷◌, subst}
+use Rattle.command_line.specs.Words.{sim}
 use Rattle.regblock.specs.Loaded.{IsLoaded}
 use Rattle.regblock.specs.Outcome.{Judges, FailedRead, IsRead, source_limit, verilog_limit}
 use Rattle.regblock.specs.Answer.{texts_of}

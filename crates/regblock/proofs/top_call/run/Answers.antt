@@ -1,18 +1,16 @@
 use Rattle.regblock.proofs.Rows.{Ends-written}
 use Rattle.regblock.proofs.CompleteRuns.{complete}
 use Rattle.regblock.proofs.Causes.{usage_cause, read_fault_cause, too_long_cause, write_fault_cause}
-use Rattle.regblock.proofs.Headlines.{done, refused}
+use Rattle.regblock.proofs.Headlines.{checked, done, mapped, refused, unmapped}
 use Rattle.v_reader.proofs.Verdicts.{no_module}
 use Rattle.regblock.proofs.Simulations.{simulated, bad_verilog, bad_stimulus}
-use Rattle.first_form.proofs.FirstSound.{sound}
-use Rattle.first_form.proofs.Named.{named}
 use Rattle.regblock.proofs.top_call.run.Goals as goal
 
 pub returns-in-Ok-clause-ends : goal.returns-in-Ok-clause-ends
 returns-in-Ok-clause-ends g c = Ends-written _ _ _ _ _ _ _ _ c.in-Ok.ensures.outcome c.write.ensures
 
 pub returns-in-Ok-clause-done : goal.returns-in-Ok-clause-done
-returns-in-Ok-clause-done g c = done _ _ _ _ _ _ (returns-in-Ok-clause-ends g c) (λ source f is. sound f (named source f is))
+returns-in-Ok-clause-done g c = done _ _ _ _ _ _ (returns-in-Ok-clause-ends g c)
 
 pub returns-in-Ok-clause-refused : goal.returns-in-Ok-clause-refused
 returns-in-Ok-clause-refused g c = refused _ _ _ _ _ _ (returns-in-Ok-clause-ends g c)
@@ -40,3 +38,12 @@ returns-in-Ok-clause-bad_verilog g c = bad_verilog _ _ _ _ _ _ (returns-in-Ok-cl
 
 pub returns-in-Ok-clause-bad_stimulus : goal.returns-in-Ok-clause-bad_stimulus
 returns-in-Ok-clause-bad_stimulus g c = bad_stimulus _ _ _ _ _ _ (returns-in-Ok-clause-ends g c)
+
+pub returns-in-Ok-clause-mapped : goal.returns-in-Ok-clause-mapped
+returns-in-Ok-clause-mapped g c = mapped _ _ _ _ _ _ (returns-in-Ok-clause-ends g c)
+
+pub returns-in-Ok-clause-unmapped : goal.returns-in-Ok-clause-unmapped
+returns-in-Ok-clause-unmapped g c = unmapped _ _ _ _ _ _ (returns-in-Ok-clause-ends g c)
+
+pub returns-in-Ok-clause-checked : goal.returns-in-Ok-clause-checked
+returns-in-Ok-clause-checked g c = checked _ _ _ _ _ _ (returns-in-Ok-clause-ends g c)

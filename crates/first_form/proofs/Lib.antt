@@ -1,6 +1,0 @@
-mod Reading
-mod Places
-mod Deciding
-pub mod Named
-mod Identifiers
-pub mod FirstSound

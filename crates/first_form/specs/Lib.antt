@@ -1,3 +1,0 @@
-pub mod Form
-pub mod Parts
-pub mod Described

@@ -1,6 +1,0 @@
-mod Answering
-mod Running
-mod FirstNet
-mod Chaining
-mod Naming
-mod Valuing

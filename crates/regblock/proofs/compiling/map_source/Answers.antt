@@ -1,0 +1,20 @@
+use Rattle.std.proofs.Common.{List, option_copied, take, ap, ◌∙◌, subst}
+use Rattle.rb_base.specs.declared.fault.Fault.{Fault}
+use Rattle.verdict_text.specs.Lines.{verdict_lines}
+use Rattle.rdl_verdict.specs.Answers.{Refuses}
+use Rattle.rdl_verdict.specs.declared.error.JudgeError.{JudgeError}
+use Rattle.regblock.specs.Answer.{texts_of}
+use Rattle.regblock.proofs.Rows.{Judges-unmapped, first_told}
+use Rattle.regblock.proofs.compiling.map_source.Goals as goal
+
+pub returns-in-Err-Faults : goal.returns-in-Err-Faults
+returns-in-Err-Faults c =
+    let answer = c.in_ok-answer-in-Err-Faults.answer in
+    let told = c.in_ok-answer-in-Err-Faults.ensures in
+    let top = option_copied c.args.top in
+    let file = c.args.file.now in
+    let source = c.args.source.now in
+    let refused = subst (λ (e : JudgeError). Refuses top source e) c.in-Err-Faults.field-0-is c.in-Err-Faults.ensures in
+    let err = told.err ∙ ap (λ (fs : List Fault). verdict_lines file source (take 1 fs)) c.deref.ensures.value in
+    Judges-unmapped top file source answer.status (texts_of answer) told.status
+    (first_told top file source c.in-Err-Faults.faults.items (texts_of answer) refused (err, told.out))

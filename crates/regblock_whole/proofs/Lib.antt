@@ -1,6 +1,0 @@
-mod Rows
-mod Verdicts
-mod CompleteRuns
-mod Causes
-mod Headlines
-mod Simulations
