@@ -4,4 +4,20 @@
 #[cfg(test)]
 mod commands;
 #[cfg(test)]
+mod hostile;
+#[cfg(test)]
+mod machines;
+#[cfg(test)]
+mod maps;
+#[cfg(test)]
+mod ran;
+#[cfg(test)]
 mod reads;
+#[cfg(test)]
+mod stimuli;
+#[cfg(test)]
+mod tops;
+#[cfg(test)]
+mod verdicts;
+#[cfg(test)]
+mod writes;

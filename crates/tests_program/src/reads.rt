@@ -28,7 +28,7 @@ fn status(alloc: Global, asked: &[&str], fails: u64) -> Result<(Status, Vec<u8>)
 #[test]
 fn files_are_read_once_and_in_order(rt: HostRuntime) -> Result<(), Fail> {
     let alloc = rt.alloc();
-    let table: [(&[&str], u64, Status, &str); 7] = [
+    let table: [(&[&str], u64, Status, &str); 11] = [
         (
             &["compile", "one.rdl"],
             1,
@@ -36,6 +36,20 @@ fn files_are_read_once_and_in_order(rt: HostRuntime) -> Result<(), Fail> {
             "one.rdl: cannot read\n",
         ),
         (&["compile", "one.rdl"], 2, Status::Done, ""),
+        (&["map", "one.rdl"], 2, Status::Done, ""),
+        (
+            &["check", "one.rdl", "one.rdl"],
+            1,
+            Status::ReadFault,
+            "one.rdl: cannot read\n",
+        ),
+        (
+            &["check", "one.rdl", "one.rdl"],
+            3,
+            Status::ReadFault,
+            "one.rdl: cannot read\n",
+        ),
+        (&["check", "one.rdl", "one.rdl"], 4, Status::Done, ""),
         (
             &["sim", "m.v", "t.csv"],
             0,

@@ -1,0 +1,47 @@
+//! Runs of the program over files in memory.
+use rb_edge::{MemShelf, MemSink};
+use regblock::{Status, run};
+use std::alloc::Global;
+use std::test::Fail;
+
+// More than any of these runs writes to one sink.
+const ROOM: usize = 100_000;
+
+/// How a run ended, and what it wrote.
+#[derive(Drop)]
+pub(crate) struct Ran {
+    pub status: Status,
+    pub out: MemSink,
+    pub err: MemSink,
+}
+
+/// The words of a command line.
+pub(crate) fn words(alloc: Global, all: &[&str]) -> Result<Vec<String>, Fail> {
+    let mut words = Vec::new(alloc);
+    for word in all {
+        words.push(String::from_str(alloc, *word)?)?;
+    }
+    Ok(words)
+}
+
+/// A run of the program over a shelf.
+pub(crate) fn run_over(alloc: Global, asked: &[&str], shelf: &mut MemShelf) -> Result<Ran, Fail> {
+    let mut out = MemSink::new(alloc, ROOM, ROOM, &[])?;
+    let mut err = MemSink::new(alloc, ROOM, ROOM, &[])?;
+    let words = words(alloc, asked)?;
+    let status = run(alloc, &words, shelf, &mut out, &mut err);
+    Ok(Ran { status, out, err })
+}
+
+/// A run of the program where there is one file.
+pub(crate) fn run_with(
+    alloc: Global,
+    asked: &[&str],
+    file: &str,
+    bytes: &[u8],
+) -> Result<Ran, Fail> {
+    let mut shelf = MemShelf::new(alloc, &[])?;
+    shelf.put(file, bytes)?;
+    let ran = run_over(alloc, asked, &mut shelf)?;
+    Ok(ran)
+}
