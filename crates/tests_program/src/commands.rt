@@ -88,26 +88,20 @@ fn refusals_are_one_line_on_err(rt: HostRuntime) -> Result<(), Fail> {
 #[test]
 fn a_source_has_8388608_bytes_at_most(rt: HostRuntime) -> Result<(), Fail> {
     let alloc = rt.alloc();
-    let table: [(usize, Status, &str); 2] = [
-        (
-            8_388_608,
-            Status::Refused,
-            "long.rdl:1:1: E1 no top address map\n",
-        ),
-        (
-            8_388_609,
-            Status::TooLong,
-            "long.rdl: longer than 8388608 bytes\n",
-        ),
+    let empty = "long.rdl:1:1: E1 no top address map\n";
+    let longer = "long.rdl: longer than 8388608 bytes\n";
+    let table: [(&str, usize, Status, &str); 4] = [
+        ("compile", 8_388_608, Status::Refused, empty),
+        ("compile", 8_388_609, Status::TooLong, longer),
+        ("check", 8_388_609, Status::TooLong, longer),
+        ("map", 8_388_609, Status::TooLong, longer),
     ];
-    for (count, wanted, line) in table {
+    for (command, count, wanted, line) in table {
         let spaces = vec![in alloc; b' '; count]?;
-        for command in ["compile", "check", "map"] {
-            let ran = run_with(alloc, &[command, "long.rdl"], "long.rdl", &spaces)?;
-            assert_eq!(rt; ran.status, wanted);
-            assert_eq!(rt; ran.err.bytes(), line.as_bytes());
-            assert!(rt; ran.out.bytes().is_empty());
-        }
+        let ran = run_with(alloc, &[command, "long.rdl"], "long.rdl", &spaces)?;
+        assert_eq!(rt; ran.status, wanted);
+        assert_eq!(rt; ran.err.bytes(), line.as_bytes());
+        assert!(rt; ran.out.bytes().is_empty());
     }
     Ok(())
 }
