@@ -10,8 +10,6 @@ const ONE: &str = "addrmap one { reg { field { sw=rw; hw=r; } f[32] = 32'h5; } a
 const BROKEN: &str =
     "addrmap b { reg { field { sw=r; sw=w; bogus; } f; } a; T x; field {} g; reg { field {} f; } a; };\n";
 
-const HALF: &str = "module m (input PCLK, input a, output x); assign x = a; endmodule";
-
 // How many bytes a stream takes in all, one at a call, and the call that fails.
 type Stream = (usize, u64);
 
@@ -28,15 +26,13 @@ fn shelf(alloc: Global) -> Result<MemShelf, Fail> {
     shelf.put("one.rdl", ONE.as_bytes())?;
     shelf.put("e.rdl", b"")?;
     shelf.put("b.rdl", BROKEN.as_bytes())?;
-    shelf.put("m.v", HALF.as_bytes())?;
-    shelf.put("t.csv", b"a\n0\n1\n")?;
     Ok(shelf)
 }
 
 #[test]
 fn what_is_cut_short_is_a_beginning(rt: HostRuntime) -> Result<(), Fail> {
     let alloc = rt.alloc();
-    let table: [(&[&str], Stream, Stream, &str, &str); 13] = [
+    let table: [(&[&str], Stream, Stream, &str, &str); 12] = [
         (&["compile", "one.rdl"], (10_000, 0), WIDE, "", ""),
         (&["compile", "one.rdl"], (10_000, 7), WIDE, "module ", ""),
         (
@@ -78,7 +74,6 @@ fn what_is_cut_short_is_a_beginning(rt: HostRuntime) -> Result<(), Fail> {
             "",
         ),
         (&["map", "one.rdl"], (5, u64::MAX), WIDE, "0x000", ""),
-        (&["sim", "m.v", "t.csv"], (10_000, 3), WIDE, "x\n0", ""),
         (&["frob"], WIDE, (5, u64::MAX), "", "usage"),
     ];
     for (asked, out, err, written, told) in table.iter() {
