@@ -159,12 +159,10 @@ pub enum Rule {
     R7,
     /// Two reset signals.
     R8,
-    /// Not in this version.
-    N1,
 }
 
 // The code, the phrase and the phase of each rule, in the order of the rules.
-static TABLE: [(&str, &str, u8); 78] = [
+static TABLE: [(&str, &str, u8); 77] = [
     ("L1", "no token here", 1),
     ("L2", "comment not closed", 1),
     ("L3", "string not closed", 1),
@@ -242,7 +240,6 @@ static TABLE: [(&str, &str, u8); 78] = [
     ("R6", "bad reset signal", 6),
     ("R7", "references run in a circle", 6),
     ("R8", "two reset signals", 6),
-    ("N1", "not in this version", 7),
 ];
 
 impl Rule {

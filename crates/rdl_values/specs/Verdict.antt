@@ -7,7 +7,6 @@ use Rattle.rb_base.specs.Faults.{fault_cmp}
 use Rattle.rb_base.specs.declared.place.Place.{Place}
 use Rattle.rb_base.specs.declared.fault.Fault.{Fault}
 use Rattle.rb_base.specs.declared.rule.Rule.{Rule}
-use Rattle.rb_base.specs.declared.rule.Rule.TheVariants.{N1}
 
 -- Which rule fails at which place.
 abbrev pub Fails : Type 1
@@ -48,9 +47,3 @@ Phase = List Fault → Type 0
 abbrev pub FirstOf : List Phase → List Fault → Type 0
 FirstOf [] list = list ≡ []
 FirstOf (P ∷ later) list = (P list × (list ≢ [])) ⊎ (P [] × FirstOf later list)
-
--- A version that compiles some forms of source alone refuses all others by N1, at the start: a phase of its own, the last.
-pub record FailsVersion (IsRefused : Type 0) (rule : Rule) (place : Place) : Type 0 where
-  pub refused : IsRefused
-  pub named : rule ≡ N1
-  pub at_start : place ≡ record { 0 = 0 }

@@ -1,3 +1,1 @@
-pub mod Printed
-pub mod Stimulus
 pub mod Simulated

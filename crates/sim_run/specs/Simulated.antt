@@ -9,8 +9,8 @@ use Rattle.stim_csv.specs.PinTable.{table_of, records_of}
 use Rattle.stim_csv.specs.declared.error.StimError.{StimError}
 use Rattle.v_syntax.specs.Failing.{Fails}
 use Rattle.v_reader.specs.Reading.{place_number}
-use Rattle.sim_run.specs.Printed.{printed_run}
-use Rattle.sim_run.specs.Stimulus.{problem_text}
+use Rattle.run_text.specs.Printed.{printed_run}
+use Rattle.run_text.specs.Problems.{problem_text}
 use Rattle.sim_run.specs.declared.error.SimError.{SimError}
 use Rattle.sim_run.specs.declared.error.SimError.TheVariants as error
 

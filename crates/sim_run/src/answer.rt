@@ -5,12 +5,12 @@ ghost use Rattle.v_design.specs.Design.{inputs, outputs};
 ghost use Rattle.v_design.specs.Seen.{module_seen};
 ghost use Rattle.stim_csv.specs.PinTable.{table_of, records_of};
 ghost use Rattle.v_reader.specs.Reading.{IsDesign};
-ghost use Rattle.sim_run.specs.Stimulus.{problem_text as problem_words};
+ghost use Rattle.run_text.specs.Problems.{problem_text as problem_words};
 ghost use Rattle.sim_run.specs.Simulated.{IsSimulated, IsProblem, Prevents};
 
 use crate::SimError;
-use crate::running::run_text;
-use crate::stimulus::problem_text;
+use crate::running::module_run;
+use run_text::problem_text;
 use std::alloc::Global;
 use stim_csv::Stimulus;
 use v_design::Design;
@@ -33,7 +33,7 @@ pub fn simulate(alloc: Global, verilog: &[u8], stimulus: &[u8]) -> Result<Vec<u8
         Ok(table) => table,
         Err(error) => return Err(error),
     };
-    match run_text(alloc, &design, &table) {
+    match module_run(alloc, &design, &table) {
         Ok(text) => Ok(text),
         Err(_) => Err(SimError::NoMemory),
     }

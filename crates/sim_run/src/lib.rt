@@ -3,9 +3,7 @@
 
 mod answer;
 mod error;
-mod printed;
 mod running;
-mod stimulus;
 
 pub use answer::simulate;
 pub use error::SimError;

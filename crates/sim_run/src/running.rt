@@ -7,15 +7,15 @@ ghost use Rattle.v_design.specs.Fits.{AllFit};
 ghost use Rattle.cyc_sim.specs.Accepted.{IsAccepted};
 ghost use Rattle.sim_run.specs.Simulated.{IsRunText};
 
-use crate::printed::{push_names, push_numbers};
 use cyc_sim::Sim;
 use rb_base::NoMemory;
+use run_text::{push_names, push_numbers};
 use std::alloc::Global;
 use stim_csv::Stimulus;
 use v_design::Design;
 
 /// The run of a module from zeros over the vectors of a table, as text.
-pub(crate) fn run_text(
+pub(crate) fn module_run(
     alloc: Global,
     design: &Design,
     table: &Stimulus,

@@ -3,7 +3,7 @@ use rb_base::{Keyword, Rule};
 use std::test::Fail;
 
 // A line for each rule, in the order of the table: its code, its phrase and its phase.
-const TABLE: [(Rule, &str); 78] = [
+const TABLE: [(Rule, &str); 77] = [
     (Rule::L1, "L1 no token here 1"),
     (Rule::L2, "L2 comment not closed 1"),
     (Rule::L3, "L3 string not closed 1"),
@@ -81,7 +81,6 @@ const TABLE: [(Rule, &str); 78] = [
     (Rule::R6, "R6 bad reset signal 6"),
     (Rule::R7, "R7 references run in a circle 6"),
     (Rule::R8, "R8 two reset signals 6"),
-    (Rule::N1, "N1 not in this version 7"),
 ];
 
 #[test]

@@ -2,7 +2,7 @@
 
 ghost use Rattle.std.specs.Prelude.{◌≡◌, ◌≢◌, ◌++◌, IfOk, OnOk, codes};
 ghost use Rattle.std.specs.Fmt.{decimal};
-ghost use Rattle.sim_run.specs.Stimulus.{problem_text, name_at};
+ghost use Rattle.run_text.specs.Problems.{problem_text, name_at};
 
 use rb_base::{NoMemory, Pin};
 use std::alloc::Global;
@@ -41,11 +41,7 @@ fn pin_text(alloc: Global, pins: &[Pin], place: u64) -> Result<Vec<u8>, NoMemory
 }
 
 /// The text of a table's problem, unless that is want of memory.
-pub(crate) fn problem_text(
-    alloc: Global,
-    pins: &[Pin],
-    problem: StimError,
-) -> Result<Vec<u8>, NoMemory>
+pub fn problem_text(alloc: Global, pins: &[Pin], problem: StimError) -> Result<Vec<u8>, NoMemory>
     ensures text { IfOk result (λ text. text.items ≡ problem_text pins.now problem) }
     ensures problem { OnOk result (problem ≢ StimError.NoMemory) }
 {

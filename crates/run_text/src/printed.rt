@@ -1,13 +1,13 @@
 //! Lines of cells.
 
 ghost use Rattle.std.specs.Prelude.{◌≡◌, ◌++◌, OnOk, map};
-ghost use Rattle.sim_run.specs.Printed.{line, cell};
+ghost use Rattle.run_text.specs.Printed.{line, cell};
 
 use rb_base::{NoMemory, Pin};
 use rb_text::hex_digits;
 
 /// Adds the names of pins as a line, with commas between.
-pub(crate) fn push_names(text: &mut Vec<u8>, pins: &[Pin]) -> Result<(), NoMemory>
+pub fn push_names(text: &mut Vec<u8>, pins: &[Pin]) -> Result<(), NoMemory>
     ensures { OnOk result (text.new.items ≡ text.old.items ++ line (map (λ p. p.name) pins.now)) }
 {
     for (index, pin) in pins.iter().enumerate() {
@@ -32,7 +32,7 @@ fn push_number(text: &mut Vec<u8>, number: u128) -> Result<(), NoMemory>
 }
 
 /// Adds numbers in hexadecimal digits as a line, with commas between.
-pub(crate) fn push_numbers(text: &mut Vec<u8>, numbers: &[u128]) -> Result<(), NoMemory>
+pub fn push_numbers(text: &mut Vec<u8>, numbers: &[u128]) -> Result<(), NoMemory>
     ensures { OnOk result (text.new.items ≡ text.old.items ++ line (map cell numbers.now)) }
 {
     for (index, number) in numbers.iter().enumerate() {
