@@ -1,31 +1,17 @@
 -- The cause of each end.
-use Rattle.std.proofs.Common.{◌≡◌, ◌⊎◌, ⊎_elim, inl, inr, ℕ, List, [], ◌∷◌, Option, subst}
+use Rattle.std.proofs.Common.{◌≡◌, ◌⊎◌, ⊎_elim, inl, inr, ℕ, List, [], ◌∷◌, Option, refl, subst}
 use Rattle.rb_edge.specs.Count.{Rose}
 use Rattle.rb_edge.specs.Shelf.{Files, IsLonger}
 use Rattle.regblock.specs.declared.status.Status.{Status}
 use Rattle.regblock.specs.declared.status.Status.TheVariants.{Usage, ReadFault, WriteFault, TooLong}
-use Rattle.command_line.specs.Words.{Command, check, compile, map_of, sim, Asks, AsksNothing}
-use Rattle.std.specs.List.{list_all}
-use Rattle.regblock.specs.Outcome.{StopsAt, Texts, Judges, Outcome, files_of, has_none}
-use Rattle.regblock.proofs.Rows.{checked_ends}
+use Rattle.command_line.specs.Words.{Command, Asks, AsksNothing}
+use Rattle.regblock.specs.Outcome.{StopsAt, Outcome, files_of}
+use Rattle.regblock.proofs.Rows.{unjudged}
 use Rattle.regblock.specs.Ends.{Passage, Ends}
 
 stops_weaker : (contents : Option Files) (P Q : List ℕ → ℕ → Type 0) (named : List (List ℕ × ℕ)) → ((file : List ℕ) (limit : ℕ) → P file limit → Q file limit) → StopsAt contents P named → StopsAt contents Q named
 stops_weaker contents P Q [] weaker stops = stops
 stops_weaker contents P Q (file ∷ more) weaker stops = ⊎_elim (λ here. inl (weaker file.0 file.1 here)) (λ there. inr (there.0, there.1, stops_weaker contents P Q more weaker there.2)) stops
-
-no_usage : (command : Command) (sources : List (List ℕ)) (texts : Texts) → Judges command sources Usage texts → ⊥
-no_usage (compile top file) [] texts judged = judged
-no_usage (compile top file) (a ∷ []) texts judged = judged
-no_usage (compile top file) (a ∷ b ∷ more) texts judged = judged
-no_usage (map_of top file) [] texts judged = judged
-no_usage (map_of top file) (a ∷ []) texts judged = judged
-no_usage (map_of top file) (a ∷ b ∷ more) texts judged = judged
-no_usage (check top files) sources texts judged = checked_ends (list_all has_none judged.lists) Usage judged.ends (λ e. cc e) (λ e. cc e)
-no_usage (sim file table) [] texts judged = judged
-no_usage (sim file table) (a ∷ []) texts judged = judged
-no_usage (sim file table) (a ∷ b ∷ []) texts judged = judged
-no_usage (sim file table) (a ∷ b ∷ c ∷ more) texts judged = judged
 
 module _ (words : List (List ℕ)) (contents : Option Files) (failed : List ℕ → Type 0) (err out : Passage) (result : Status) (ends : Ends (Outcome words contents failed) err out result) where
   abbrev At : Status → Type 0
@@ -33,7 +19,7 @@ module _ (words : List (List ℕ)) (contents : Option Files) (failed : List ℕ 
 
   pub usage_cause : result ≡ Usage → AsksNothing words
   usage_cause is = let at = subst At is ends in
-      ⊎_elim (λ asked. absurd (no_usage asked.0 asked.2.0 at.0 asked.2.2)) (λ none. none.0) at.1
+      ⊎_elim (λ asked. absurd (unjudged asked.0 asked.2.0 Usage at.0 refl asked.2.2)) (λ none. none.0) at.1
 
   pub read_fault_cause : result ≡ ReadFault → (command : Command) × Asks words command × StopsAt contents (λ file _. failed file) (files_of command)
   read_fault_cause is = let at = subst At is ends in

@@ -6,12 +6,12 @@ use Rattle.std.proofs.Common.{◌≡◌, ◌⊎◌, ⊎_elim, inl, inr, ℕ, tru
 use Rattle.rb_edge.specs.Count.{Rose}
 use Rattle.rb_edge.specs.Shelf.{Files, IsLonger}
 use Rattle.regblock.specs.declared.status.Status.{Status}
-use Rattle.regblock.specs.declared.status.Status.TheVariants.{Done, Refused, ReadFault, WriteFault, NoMemory, TooLong, BadVerilog, BadStimulus}
-use Rattle.command_line.specs.Words.{Command, check, compile, map_of, sim, Asks}
+use Rattle.regblock.specs.declared.status.Status.TheVariants.{Done, Refused, ReadFault, WriteFault, NoMemory, TooLong, BadVerilog, BadStimulus, Protocol}
+use Rattle.command_line.specs.Words.{Command, check, compile, map_of, sim, run_of, gen_of, waits_of, Asks}
 use Rattle.command_line.proofs.Asking.{one-command}
 use Rattle.regblock.specs.Outcome.{AreRead, AreVerdicts, StopsAt, Texts, Judges, Answers, Outcome, files_of, has_none, source_limit}
 use Rattle.regblock.specs.Ends.{Passage, IsCutShort, Ends}
-use Rattle.regblock.specs.Complete.{AreAtHand, AreFit, CanBeDone, IsComplete, IsFit}
+use Rattle.regblock.specs.Complete.{AreAtHand, AreFit, CanBeDone, FitsSource, IsComplete, IsFit}
 use Rattle.regblock.specs.Verdict.{BreaksNone, FailsFirst}
 use Rattle.rdl_verdict.specs.Verdict.{IsVerdict, lexeme, grammar, depth, tree, tree_phases}
 use Rattle.rdl_values.specs.Verdict.{Fails, FirstOf, IsListOf, Phase}
@@ -25,6 +25,8 @@ use Rattle.rb_base.specs.declared.rule.Rule.{Rule}
 use Rattle.rdl_parser.proofs.OneVerdict.{accepted_has_none}
 use Rattle.rdl_parser.specs.declared.error.ParseError.TheVariants as error
 use Rattle.sim_run.specs.Simulated.{IsModule, IsProblem, IsFitTable}
+use Rattle.machine_run.proofs.Fitting as machine
+use Rattle.sized_source.specs.Source.{source_of}
 use Rattle.stim_csv.specs.PinTable.{table_of, records_of}
 use Rattle.v_design.specs.Design.{Module, module_of, inputs, outputs}
 use Rattle.v_design.specs.Tree.{Tree, IsTree}
@@ -98,6 +100,15 @@ fit_sources top files [] (s ∷ ss) fit read = absurd read
 fit_sources top files (n ∷ ns) [] fit read = absurd read
 fit_sources top files (n ∷ ns) (s ∷ ss) fit read = (fit.0 s read.0.held, fit_sources top files ns ss fit.1 read.1)
 
+-- a table that fits the block of a source is run
+fit_ran : (waits : Option ℕ) (top : Option (List ℕ)) (file table source stimulus : List ℕ) (status : Status) (texts : Texts) → BreaksNone top source × FitsSource (waits_of waits) top source stimulus
+    → Judges (run_of waits top file table) (source ∷ stimulus ∷ []) status texts → status ≡ Done
+fit_ran waits top file table source stimulus Done texts fit judged = refl
+fit_ran waits top file table source stimulus Refused texts fit judged = absurd (clean_source top source judged.place judged.rule fit.0 judged.fails)
+fit_ran waits top file table source stimulus BadStimulus texts fit judged = absurd (machine.no_problem judged.block stimulus judged.problem (fit.1 judged.tree judged.block judged.described) judged.fails)
+fit_ran waits top file table source stimulus Protocol texts fit judged = absurd (machine.no_break judged.block stimulus judged.row (fit.1 judged.tree judged.block judged.described) judged.breaks)
+fit_ran waits top file table source stimulus _ texts fit judged = absurd judged
+
 module _ (fails : NoModuleFails) where
   fit_run : (file table verilog stimulus : List ℕ) (status : Status) (texts : Texts) → IsFitTable verilog stimulus → Judges (sim file table) (verilog ∷ stimulus ∷ []) status texts → status ≡ Done
   fit_run file table verilog stimulus Done texts fit judged = refl
@@ -107,11 +118,11 @@ module _ (fails : NoModuleFails) where
 
   fit_judged : (files : Files) (command : Command) (sources : List (List ℕ)) (status : Status) (texts : Texts)
       → AreFit command files → AreRead (Some files) (files_of command) sources → Judges command sources status texts → status ≡ Done
-  fit_judged files (compile top file) [] status texts fit read judged = absurd read
-  fit_judged files (compile top file) (source ∷ a ∷ more) status texts fit read judged = absurd read.1
-  fit_judged files (compile top file) (source ∷ []) Done texts fit read judged = refl
-  fit_judged files (compile top file) (source ∷ []) Refused texts fit read judged = absurd (clean_source top source judged.place judged.rule (fit source read.0.held) judged.fails)
-  fit_judged files (compile top file) (source ∷ []) _ texts fit read judged = absurd judged
+  fit_judged files (compile waits top file) [] status texts fit read judged = absurd read
+  fit_judged files (compile waits top file) (source ∷ a ∷ more) status texts fit read judged = absurd read.1
+  fit_judged files (compile waits top file) (source ∷ []) Done texts fit read judged = refl
+  fit_judged files (compile waits top file) (source ∷ []) Refused texts fit read judged = absurd (clean_source top source judged.place judged.rule (fit source read.0.held) judged.fails)
+  fit_judged files (compile waits top file) (source ∷ []) _ texts fit read judged = absurd judged
   fit_judged files (map_of top file) [] status texts fit read judged = absurd read
   fit_judged files (map_of top file) (source ∷ a ∷ more) status texts fit read judged = absurd read.1
   fit_judged files (map_of top file) (source ∷ []) Done texts fit read judged = refl
@@ -123,6 +134,15 @@ module _ (fails : NoModuleFails) where
   fit_judged files (sim file table) (verilog ∷ []) status texts fit read judged = absurd read.1
   fit_judged files (sim file table) (verilog ∷ stimulus ∷ []) status texts fit read judged = fit_run file table verilog stimulus status texts (fit verilog stimulus read.0.held read.1.0.held) judged
   fit_judged files (sim file table) (verilog ∷ stimulus ∷ a ∷ more) status texts fit read judged = absurd read.1.1
+
+  fit_judged files (run_of waits top file table) [] status texts fit read judged = absurd read
+  fit_judged files (run_of waits top file table) (source ∷ []) status texts fit read judged = absurd read.1
+  fit_judged files (run_of waits top file table) (source ∷ stimulus ∷ []) status texts fit read judged = fit_ran waits top file table source stimulus status texts (fit source stimulus read.0.held read.1.0.held) judged
+  fit_judged files (run_of waits top file table) (source ∷ stimulus ∷ a ∷ more) status texts fit read judged = absurd read.1.1
+  fit_judged files (gen_of count) [] Done texts fit read judged = refl
+  fit_judged files (gen_of count) [] Refused texts fit read judged = absurd (clean_source None (source_of count) judged.place judged.rule fit judged.fails)
+  fit_judged files (gen_of count) [] _ texts fit read judged = absurd judged
+  fit_judged files (gen_of count) (a ∷ more) status texts fit read judged = absurd read
 
   fit_answers : (files : Files) (failed : List ℕ → Type 0) (command : Command) (status : Status) (texts : Texts)
       → AreAtHand files failed (files_of command) → AreFit command files → Answers (Some files) failed command status texts → status ≡ Done

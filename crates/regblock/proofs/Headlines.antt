@@ -2,17 +2,40 @@
 use Rattle.std.proofs.Common.{◌≡◌, ◌⊎◌, ⊎_elim, ℕ, List, [], ◌∷◌, map, Option, subst}
 use Rattle.rb_edge.specs.Shelf.{Files, Holds}
 use Rattle.rdl_verdict.specs.Verdict.{tree}
-use Rattle.command_line.proofs.Asking.{one-command}
 use Rattle.regblock.specs.declared.status.Status.{Status}
 use Rattle.regblock.specs.declared.status.Status.TheVariants.{Done, Refused}
-use Rattle.command_line.specs.Words.{Command, check, compile, map_of, Asks}
-use Rattle.regblock.specs.Outcome.{AreRead, IsChecked, IsRefused, Texts, Judges, Answers, Outcome, files_of, source_limit}
+use Rattle.command_line.specs.Words.{check, compile, map_of, waits_of, Asks}
+use Rattle.regblock.specs.Outcome.{AreRead, IsChecked, IsRefused, Texts, Judges, Outcome, files_of, source_limit}
 use Rattle.regblock.specs.Ends.{Passage, TookAll, Ends}
+use Rattle.regblock.proofs.Asked.{asked}
 use Rattle.regblock.specs.Headline.{AreHeld, AreToldVerdicts, IsRight, IsTable, IsToldFailure}
 
+-- the line of a source's first failure
 module _ (contents : Option Files) (err out : Passage) (top : Option (List ℕ)) (file : List ℕ) (texts : Texts) where
-  compiled : (sources : List (List ℕ)) → AreRead contents (files_of (compile top file)) sources → Judges (compile top file) sources Done texts
-      → TookAll err texts.err → TookAll out texts.out → IsRight contents top file err out
+  pub told : (source : List ℕ) → Holds contents file source → IsRefused top file source texts → TookAll err texts.err → TookAll out texts.out → IsToldFailure contents top file err out
+  told source held judged e o =
+      let P : List ℕ → Type 0 = λ t. TookAll err t in
+      let Q : List ℕ → Type 0 = λ t. TookAll out t in
+      record { source = source; place = judged.place; rule = judged.rule; held = held; fails = judged.fails; told = subst P judged.told.0 e; quiet = subst Q judged.told.1 o }
+
+  listed : (sources : List (List ℕ)) → AreRead contents (files_of (map_of top file)) sources → Judges (map_of top file) sources Done texts
+      → TookAll err texts.err → TookAll out texts.out → IsTable contents top file err out
+  listed [] read judged e o = absurd judged
+  listed (source ∷ a ∷ more) read judged e o = absurd judged
+  listed (source ∷ []) read judged e o =
+      let P : List ℕ → Type 0 = λ t. TookAll err t in
+      let Q : List ℕ → Type 0 = λ t. TookAll out t in
+      record { source = source; tree = judged.tree; block = judged.block; held = read.0.held; described = judged.described; written = subst Q judged.table o; quiet = subst P judged.quiet e }
+
+  unlisted : (sources : List (List ℕ)) → AreRead contents (files_of (map_of top file)) sources → Judges (map_of top file) sources Refused texts
+      → TookAll err texts.err → TookAll out texts.out → IsToldFailure contents top file err out
+  unlisted [] read judged e o = absurd judged
+  unlisted (source ∷ a ∷ more) read judged e o = absurd judged
+  unlisted (source ∷ []) read judged e o = told source read.0.held judged e o
+
+module _ (contents : Option Files) (err out : Passage) (waits : Option ℕ) (top : Option (List ℕ)) (file : List ℕ) (texts : Texts) where
+  compiled : (sources : List (List ℕ)) → AreRead contents (files_of (compile waits top file)) sources → Judges (compile waits top file) sources Done texts
+      → TookAll err texts.err → TookAll out texts.out → IsRight contents (waits_of waits) top file err out
   compiled [] read judged e o = absurd judged
   compiled (source ∷ a ∷ more) read judged e o = absurd judged
   compiled (source ∷ []) read judged e o =
@@ -30,32 +53,11 @@ module _ (contents : Option Files) (err out : Passage) (top : Option (List ℕ))
         quiet = subst P judged.quiet e;
       }
 
-  told : (source : List ℕ) → Holds contents file source → IsRefused top file source texts → TookAll err texts.err → TookAll out texts.out → IsToldFailure contents top file err out
-  told source held judged e o =
-      let P : List ℕ → Type 0 = λ t. TookAll err t in
-      let Q : List ℕ → Type 0 = λ t. TookAll out t in
-      record { source = source; place = judged.place; rule = judged.rule; held = held; fails = judged.fails; told = subst P judged.told.0 e; quiet = subst Q judged.told.1 o }
-
-  uncompiled : (sources : List (List ℕ)) → AreRead contents (files_of (compile top file)) sources → Judges (compile top file) sources Refused texts
+  uncompiled : (sources : List (List ℕ)) → AreRead contents (files_of (compile waits top file)) sources → Judges (compile waits top file) sources Refused texts
       → TookAll err texts.err → TookAll out texts.out → IsToldFailure contents top file err out
   uncompiled [] read judged e o = absurd judged
   uncompiled (source ∷ a ∷ more) read judged e o = absurd judged
-  uncompiled (source ∷ []) read judged e o = told source read.0.held judged e o
-
-  listed : (sources : List (List ℕ)) → AreRead contents (files_of (map_of top file)) sources → Judges (map_of top file) sources Done texts
-      → TookAll err texts.err → TookAll out texts.out → IsTable contents top file err out
-  listed [] read judged e o = absurd judged
-  listed (source ∷ a ∷ more) read judged e o = absurd judged
-  listed (source ∷ []) read judged e o =
-      let P : List ℕ → Type 0 = λ t. TookAll err t in
-      let Q : List ℕ → Type 0 = λ t. TookAll out t in
-      record { source = source; tree = judged.tree; block = judged.block; held = read.0.held; described = judged.described; written = subst Q judged.table o; quiet = subst P judged.quiet e }
-
-  unlisted : (sources : List (List ℕ)) → AreRead contents (files_of (map_of top file)) sources → Judges (map_of top file) sources Refused texts
-      → TookAll err texts.err → TookAll out texts.out → IsToldFailure contents top file err out
-  unlisted [] read judged e o = absurd judged
-  unlisted (source ∷ a ∷ more) read judged e o = absurd judged
-  unlisted (source ∷ []) read judged e o = told source read.0.held judged e o
+  uncompiled (source ∷ []) read judged e o = told contents err out top file texts source read.0.held judged e o
 
 held-all : (contents : Option Files) (files : List (List ℕ)) (sources : List (List ℕ)) → AreRead contents (map (λ f. (f, source_limit)) files) sources → AreHeld contents files sources
 held-all contents [] [] read = tt
@@ -74,42 +76,35 @@ module _ (words : List (List ℕ)) (contents : Option Files) (failed : List ℕ 
   abbrev At : Status → Type 0
   At status = Ends (Outcome words contents failed) err out status
 
-  -- the answer is one to this command
-  answers_of : (wanted : Command) (status : Status) (texts : Texts) → Asks words wanted → (command : Command) → Asks words command → Answers contents failed command status texts → Answers contents failed wanted status texts
-  answers_of wanted status texts asks command asked answers =
-      let P : Command → Type 0 = λ c. Answers contents failed c status texts in subst P (one-command words command wanted asked asks) answers
-
-  pub done : (top : Option (List ℕ)) (file : List ℕ) → Asks words (compile top file) → result ≡ Done → IsRight contents top file err out
-  done top file asks is =
+  pub done : (waits : Option ℕ) (top : Option (List ℕ)) (file : List ℕ) → Asks words (compile waits top file) → result ≡ Done → IsRight contents (waits_of waits) top file err out
+  done waits top file asks is =
       let at = subst At is ends in
-      ⊎_elim (λ asked. let a = answers_of (compile top file) Done at.0 asks asked.0 asked.1 asked.2 in compiled contents err out top file at.0 a.0 a.1 a.2 at.2 at.3)
-      (λ none. absurd (none.0 (compile top file) asks)) at.1
+      let a = asked words contents failed (compile waits top file) Done at.0 asks at.1 in
+      compiled contents err out waits top file at.0 a.0 a.1 a.2 at.2 at.3
 
-  pub refused : (top : Option (List ℕ)) (file : List ℕ) → Asks words (compile top file) → result ≡ Refused → IsToldFailure contents top file err out
-  refused top file asks is =
+  pub refused : (waits : Option ℕ) (top : Option (List ℕ)) (file : List ℕ) → Asks words (compile waits top file) → result ≡ Refused → IsToldFailure contents top file err out
+  refused waits top file asks is =
       let at = subst At is ends in
-      ⊎_elim (λ asked. let a = answers_of (compile top file) Refused at.0 asks asked.0 asked.1 asked.2 in uncompiled contents err out top file at.0 a.0 a.1 a.2 at.2 at.3)
-      (λ none. absurd (none.0 (compile top file) asks)) at.1
+      let a = asked words contents failed (compile waits top file) Refused at.0 asks at.1 in
+      uncompiled contents err out waits top file at.0 a.0 a.1 a.2 at.2 at.3
 
   pub mapped : (top : Option (List ℕ)) (file : List ℕ) → Asks words (map_of top file) → result ≡ Done → IsTable contents top file err out
   mapped top file asks is =
       let at = subst At is ends in
-      ⊎_elim (λ asked. let a = answers_of (map_of top file) Done at.0 asks asked.0 asked.1 asked.2 in listed contents err out top file at.0 a.0 a.1 a.2 at.2 at.3)
-      (λ none. absurd (none.0 (map_of top file) asks)) at.1
+      let a = asked words contents failed (map_of top file) Done at.0 asks at.1 in
+      listed contents err out top file at.0 a.0 a.1 a.2 at.2 at.3
 
   pub unmapped : (top : Option (List ℕ)) (file : List ℕ) → Asks words (map_of top file) → result ≡ Refused → IsToldFailure contents top file err out
   unmapped top file asks is =
       let at = subst At is ends in
-      ⊎_elim (λ asked. let a = answers_of (map_of top file) Refused at.0 asks asked.0 asked.1 asked.2 in unlisted contents err out top file at.0 a.0 a.1 a.2 at.2 at.3)
-      (λ none. absurd (none.0 (map_of top file) asks)) at.1
+      let a = asked words contents failed (map_of top file) Refused at.0 asks at.1 in
+      unlisted contents err out top file at.0 a.0 a.1 a.2 at.2 at.3
 
   checked_at : (top : Option (List ℕ)) (files : List (List ℕ)) (status : Status) → (status ≡ Done) ⊎ (status ≡ Refused) → Asks words (check top files) → At status → AreToldVerdicts contents top files err out
   checked_at top files Done h asks at =
-      ⊎_elim (λ asked. let a = answers_of (check top files) Done at.0 asks asked.0 asked.1 asked.2 in told-all contents err out top files a.0 Done at.0 a.1 a.2 at.2 at.3)
-      (λ none. absurd (none.0 (check top files) asks)) at.1
+      let a = asked words contents failed (check top files) Done at.0 asks at.1 in told-all contents err out top files a.0 Done at.0 a.1 a.2 at.2 at.3
   checked_at top files Refused h asks at =
-      ⊎_elim (λ asked. let a = answers_of (check top files) Refused at.0 asks asked.0 asked.1 asked.2 in told-all contents err out top files a.0 Refused at.0 a.1 a.2 at.2 at.3)
-      (λ none. absurd (none.0 (check top files) asks)) at.1
+      let a = asked words contents failed (check top files) Refused at.0 asks at.1 in told-all contents err out top files a.0 Refused at.0 a.1 a.2 at.2 at.3
   checked_at top files status h asks at = absurd (⊎_elim (λ e. cc e) (λ e. cc e) h)
 
   pub checked : (top : Option (List ℕ)) (files : List (List ℕ)) → Asks words (check top files) → (result ≡ Done) ⊎ (result ≡ Refused) → AreToldVerdicts contents top files err out

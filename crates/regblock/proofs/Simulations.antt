@@ -1,13 +1,13 @@
 -- What the answers to `sim` promise.
-use Rattle.std.proofs.Common.{◌≡◌, ⊎_elim, ℕ, List, [], ◌∷◌, Option, subst}
+use Rattle.std.proofs.Common.{◌≡◌, ℕ, List, [], ◌∷◌, Option, subst}
 use Rattle.rb_edge.specs.Shelf.{Files}
 use Rattle.regblock.specs.declared.status.Status.{Status}
 use Rattle.regblock.specs.declared.status.Status.TheVariants.{Done, BadVerilog, BadStimulus}
-use Rattle.command_line.specs.Words.{Command, sim, Asks}
-use Rattle.regblock.specs.Outcome.{AreRead, Texts, Judges, Answers, Outcome, files_of}
+use Rattle.command_line.specs.Words.{sim, Asks}
+use Rattle.regblock.specs.Outcome.{AreRead, Texts, Judges, Outcome, files_of}
 use Rattle.regblock.specs.Ends.{Passage, TookAll, Ends}
 use Rattle.regblock.specs.Simulations.{IsRun, IsToldVerilog, IsToldStimulus}
-use Rattle.command_line.proofs.Asking.{one-command}
+use Rattle.regblock.proofs.Asked.{asked}
 
 module _ (contents : Option Files) (err out : Passage) (file table : List ℕ) (texts : Texts) where
   ran : (sources : List (List ℕ)) → AreRead contents (files_of (sim file table)) sources → Judges (sim file table) sources Done texts
@@ -60,25 +60,20 @@ module _ (words : List (List ℕ)) (contents : Option Files) (failed : List ℕ 
   abbrev At : Status → Type 0
   At status = Ends (Outcome words contents failed) err out status
 
-  -- the answer is one to this command
-  answers_of : (status : Status) (texts : Texts) (file table : List ℕ) → Asks words (sim file table) → (command : Command) → Asks words command → Answers contents failed command status texts → Answers contents failed (sim file table) status texts
-  answers_of status texts file table asks command asked answers =
-      let P : Command → Type 0 = λ c. Answers contents failed c status texts in subst P (one-command words command (sim file table) asked asks) answers
-
   pub simulated : (file table : List ℕ) → Asks words (sim file table) → result ≡ Done → IsRun contents file table err out
   simulated file table asks is =
       let at = subst At is ends in
-      ⊎_elim (λ asked. let a = answers_of Done at.0 file table asks asked.0 asked.1 asked.2 in ran contents err out file table at.0 a.0 a.1 a.2 at.2 at.3)
-      (λ none. absurd (none.0 (sim file table) asks)) at.1
+      let a = asked words contents failed (sim file table) Done at.0 asks at.1 in
+      ran contents err out file table at.0 a.0 a.1 a.2 at.2 at.3
 
   pub bad_verilog : (file table : List ℕ) → Asks words (sim file table) → result ≡ BadVerilog → IsToldVerilog contents file err out
   bad_verilog file table asks is =
       let at = subst At is ends in
-      ⊎_elim (λ asked. let a = answers_of BadVerilog at.0 file table asks asked.0 asked.1 asked.2 in bad_module contents err out file table at.0 a.0 a.1 a.2 at.2 at.3)
-      (λ none. absurd (none.0 (sim file table) asks)) at.1
+      let a = asked words contents failed (sim file table) BadVerilog at.0 asks at.1 in
+      bad_module contents err out file table at.0 a.0 a.1 a.2 at.2 at.3
 
   pub bad_stimulus : (file table : List ℕ) → Asks words (sim file table) → result ≡ BadStimulus → IsToldStimulus contents file table err out
   bad_stimulus file table asks is =
       let at = subst At is ends in
-      ⊎_elim (λ asked. let a = answers_of BadStimulus at.0 file table asks asked.0 asked.1 asked.2 in bad_table contents err out file table at.0 a.0 a.1 a.2 at.2 at.3)
-      (λ none. absurd (none.0 (sim file table) asks)) at.1
+      let a = asked words contents failed (sim file table) BadStimulus at.0 asks at.1 in
+      bad_table contents err out file table at.0 a.0 a.1 a.2 at.2 at.3

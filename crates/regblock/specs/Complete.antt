@@ -3,10 +3,15 @@ use Rattle.std.specs.Prelude.{◌≡◌, ◌⊎◌, ℕ, ◌≤◌, List, [], �
 use Rattle.rb_edge.specs.Count.{Rose}
 use Rattle.rb_edge.specs.Shelf.{Files}
 use Rattle.sim_run.specs.Simulated.{IsFitTable}
+use Rattle.rb_model.specs.declared.block.Block.{Block}
+use Rattle.rdl_tree.specs.declared.item.Source.{Source}
+use Rattle.rdl_waits.specs.Waits.{IsDescribedWith}
+use Rattle.machine_run.specs.Runs.{IsFitFor}
+use Rattle.sized_source.specs.Source.{source_of}
 use Rattle.regblock.specs.Verdict.{BreaksNone}
 use Rattle.regblock.specs.declared.status.Status.{Status}
 use Rattle.regblock.specs.declared.status.Status.TheVariants.{Done, NoMemory}
-use Rattle.command_line.specs.Words.{Command, check, compile, map_of, sim, Asks}
+use Rattle.command_line.specs.Words.{Command, check, compile, map_of, sim, run_of, gen_of, waits_of, Asks}
 use Rattle.regblock.specs.Outcome.{files_of}
 use Rattle.regblock.specs.Ends.{Passage}
 
@@ -19,12 +24,19 @@ AreAtHand files failed (file ∷ more) = ((bytes : List ℕ) × (files file.0 �
 abbrev pub IsFit : Option (List ℕ) → Files → List ℕ → Type 0
 IsFit top files file = (source : List ℕ) → files file ≡ Some source → BreaksNone top source
 
--- the command's files are what it asks for: sources that break no rule, or a module and a table for it
+-- the table fits each block that the source describes, and its rows keep the bus protocol
+abbrev pub FitsSource : ℕ → Option (List ℕ) → (source stimulus : List ℕ) → Type 0
+FitsSource waits top source stimulus = (tree : Source) (block : Block) → IsDescribedWith top source tree waits block → IsFitFor block stimulus
+
+-- The command's files are what it asks for: sources that break no rule, a module or a source and a table for it, or the
+-- source that the program writes.
 abbrev pub AreFit : Command → Files → Type 0
-AreFit (compile top file) files = IsFit top files file
+AreFit (compile waits top file) files = IsFit top files file
 AreFit (check top names) files = All (IsFit top files) names
 AreFit (map_of top file) files = IsFit top files file
 AreFit (sim file table) files = (verilog stimulus : List ℕ) → files file ≡ Some verilog → files table ≡ Some stimulus → IsFitTable verilog stimulus
+AreFit (run_of waits top file table) files = (source stimulus : List ℕ) → files file ≡ Some source → files table ≡ Some stimulus → BreaksNone top source × FitsSource (waits_of waits) top source stimulus
+AreFit (gen_of count) files = BreaksNone None (source_of count)
 
 -- no write to the sink failed
 abbrev pub IsUnharmed : Passage → Type 0

@@ -7,7 +7,8 @@ use Rattle.rb_model.specs.declared.block.Block.{Block}
 use Rattle.rb_model.specs.Agreement.{Agrees}
 use Rattle.rb_base.specs.declared.fault.Fault.{Fault}
 use Rattle.rdl_tree.specs.declared.item.Source.{Source}
-use Rattle.rdl_verdict.specs.Verdict.{IsDescribed, IsVerdict}
+use Rattle.rdl_verdict.specs.Verdict.{IsVerdict}
+use Rattle.rdl_waits.specs.Waits.{IsDescribedWith}
 use Rattle.address_text.specs.Lines.{address_lines}
 use Rattle.verdict_text.specs.Lines.{rule_line}
 use Rattle.regblock.specs.Outcome.{AreVerdicts, all_failures, all_fine}
@@ -15,15 +16,16 @@ use Rattle.regblock.specs.Verdict.{FailsFirst}
 use Rattle.regblock.specs.Ends.{Passage, TookAll}
 
 -- Done: the source breaks no rule and describes a sound register block, and what was written is one module that gives the
--- outputs of that block's machine, from any start and for any pins that keep the protocol. Nothing stands on err.
-pub record IsRight (contents : Option Files) (top : Option (List ℕ)) (file : List ℕ) (err out : Passage) : Type 0 where
+-- outputs of that block's machine with so many wait states, from any start and for any pins that keep the protocol. Nothing
+-- stands on err.
+pub record IsRight (contents : Option Files) (waits : ℕ) (top : Option (List ℕ)) (file : List ℕ) (err out : Passage) : Type 0 where
   pub source : List ℕ
   pub tree : Source
   pub block : Block
   pub text : List ℕ
   pub held : Holds contents file source
   pub clean : IsVerdict top source []
-  pub described : IsDescribed top source tree block
+  pub described : IsDescribedWith top source tree waits block
   pub agrees : Agrees text block
   pub written : TookAll out text
   pub quiet : TookAll err []
@@ -44,7 +46,7 @@ pub record IsTable (contents : Option Files) (top : Option (List ℕ)) (file : L
   pub tree : Source
   pub block : Block
   pub held : Holds contents file source
-  pub described : IsDescribed top source tree block
+  pub described : IsDescribedWith top source tree 0 block
   pub written : TookAll out (address_lines block)
   pub quiet : TookAll err []
 

@@ -1,21 +1,25 @@
 -- Which status and which texts belong to the words of a command line and the files that they name.
-use Rattle.std.specs.Prelude.{◌≡◌, ◌⊎◌, ℕ, ◌≤◌, Bool, true, false, cond, List, [], ◌∷◌, ◌++◌, length, map, Option, ⊤}
+use Rattle.std.specs.Prelude.{◌≡◌, ◌⊎◌, ℕ, ◌≤◌, Bool, true, false, cond, List, [], ◌∷◌, ◌++◌, codes, length, map, Option, None, ⊤}
 use Rattle.std.specs.List.{list_all}
-use Rattle.rb_edge.specs.Count.{Rose}
+use Rattle.rb_edge.specs.Count.{Rose, raised}
 use Rattle.rb_edge.specs.Shelf.{Files, Holds, IsLonger}
 use Rattle.rb_model.specs.declared.block.Block.{Block}
 use Rattle.rb_model.specs.Agreement.{Agrees}
 use Rattle.rb_base.specs.declared.fault.Fault.{Fault}
 use Rattle.rdl_tree.specs.declared.item.Source.{Source}
-use Rattle.rdl_verdict.specs.Verdict.{IsDescribed, IsVerdict}
+use Rattle.rdl_verdict.specs.Verdict.{IsVerdict}
+use Rattle.rdl_waits.specs.Waits.{IsDescribedWith}
 use Rattle.address_text.specs.Lines.{address_lines}
 use Rattle.verdict_text.specs.Lines.{ok_line, rule_line, verdict_lines}
-use Rattle.command_line.specs.Words.{Command, check, compile, map_of, sim, Asks, AsksNothing}
+use Rattle.command_line.specs.Words.{Command, check, compile, map_of, sim, run_of, gen_of, waits_of, Asks, AsksNothing}
 use Rattle.regblock.specs.declared.status.Status.{Status}
-use Rattle.regblock.specs.declared.status.Status.TheVariants.{Done, Refused, Usage, ReadFault, TooLong, BadVerilog, BadStimulus}
-use Rattle.regblock.specs.Text.{cannot_read, too_long, verilog_line, stimulus_line, usage}
+use Rattle.regblock.specs.declared.status.Status.TheVariants.{Done, Refused, Usage, ReadFault, TooLong, BadVerilog, BadStimulus, Protocol}
+use Rattle.regblock.specs.Text.{cannot_read, too_long, verilog_line, stimulus_line, protocol_line, usage}
 use Rattle.regblock.specs.Verdict.{FailsFirst}
 use Rattle.sim_run.specs.Simulated.{IsSimulated, IsProblem}
+use Rattle.machine_run.specs.Runs.{IsRunOf, IsBreak}
+use Rattle.machine_run.specs.Runs as machine
+use Rattle.sized_source.specs.Source.{source_of, summary_of}
 use Rattle.v_syntax.specs.Failing.{Fails}
 use Rattle.v_syntax.specs.declared.error.VError.{VError}
 use Rattle.rb_base.specs.declared.place.Place.{Place}
@@ -43,10 +47,12 @@ verilog_limit = 67108864
 
 -- the files that a command names, in order, each with the most bytes that it may have
 abbrev pub files_of : Command → List (List ℕ × ℕ)
-files_of (compile top source) = (source, source_limit) ∷ []
+files_of (compile waits top source) = (source, source_limit) ∷ []
 files_of (check top sources) = map (λ source. (source, source_limit)) sources
 files_of (map_of top source) = (source, source_limit) ∷ []
 files_of (sim verilog stimulus) = (verilog, verilog_limit) ∷ (stimulus, source_limit) ∷ []
+files_of (run_of waits top source stimulus) = (source, source_limit) ∷ (stimulus, source_limit) ∷ []
+files_of (gen_of count) = []
 
 -- the file was read whole
 pub record IsRead (contents : Option Files) (file : List ℕ) (limit : ℕ) (bytes : List ℕ) : Type 0 where
@@ -64,11 +70,11 @@ abbrev pub StopsAt : Option Files → (List ℕ → ℕ → Type 0) → List (Li
 StopsAt contents P [] = ⊥
 StopsAt contents P (file ∷ files) = P file.0 file.1 ⊎ ((bytes : List ℕ) × IsRead contents file.0 file.1 bytes × StopsAt contents P files)
 
--- the source breaks no rule, and on out is a module of the block that it describes
-pub record IsCompiled (top : Option (List ℕ)) (source : List ℕ) (texts : Texts) : Type 0 where
+-- the source breaks no rule, and on out is a module of the block that it describes, with so many wait states
+pub record IsCompiled (waits : ℕ) (top : Option (List ℕ)) (source : List ℕ) (texts : Texts) : Type 0 where
   pub tree : Source
   pub block : Block
-  pub described : IsDescribed top source tree block
+  pub described : IsDescribedWith top source tree waits block
   pub agrees : Agrees texts.out block
   pub quiet : texts.err ≡ []
 
@@ -76,7 +82,7 @@ pub record IsCompiled (top : Option (List ℕ)) (source : List ℕ) (texts : Tex
 pub record IsMapped (top : Option (List ℕ)) (source : List ℕ) (texts : Texts) : Type 0 where
   pub tree : Source
   pub block : Block
-  pub described : IsDescribed top source tree block
+  pub described : IsDescribedWith top source tree 0 block
   pub table : texts.out ≡ address_lines block
   pub quiet : texts.err ≡ []
 
@@ -131,16 +137,70 @@ pub record IsBadStimulus (verilog file stimulus : List ℕ) (texts : Texts) : Ty
   pub fails : IsProblem verilog stimulus problem
   pub told : IsNotice texts (stimulus_line file problem)
 
+-- on out is the run of a block's machine over a table, which a simulation of each module of the block prints too
+pub record IsRunText (b : Block) (stimulus text : List ℕ) : Type 0 where
+  pub run : IsRunOf b stimulus text
+  pub simulated : (verilog : List ℕ) → Agrees verilog b → IsSimulated verilog stimulus text
+
+-- the source breaks no rule, and on out is the run of its block's machine
+pub record IsRan (waits : ℕ) (top : Option (List ℕ)) (source stimulus : List ℕ) (texts : Texts) : Type 0 where
+  pub tree : Source
+  pub block : Block
+  pub described : IsDescribedWith top source tree waits block
+  pub run : IsRunText block stimulus texts.out
+  pub quiet : texts.err ≡ []
+
+-- it breaks none, and on err is the line of what is wrong with a table for its block
+pub record IsUnfit (waits : ℕ) (top : Option (List ℕ)) (source file stimulus : List ℕ) (texts : Texts) : Type 0 where
+  pub tree : Source
+  pub block : Block
+  pub described : IsDescribedWith top source tree waits block
+  pub problem : List ℕ
+  pub fails : machine.IsProblem block stimulus problem
+  pub told : IsNotice texts (stimulus_line file problem)
+
+-- it breaks none, and on err is the line of the first row that breaks the bus protocol
+pub record IsBroken (waits : ℕ) (top : Option (List ℕ)) (source file stimulus : List ℕ) (texts : Texts) : Type 0 where
+  pub tree : Source
+  pub block : Block
+  pub described : IsDescribedWith top source tree waits block
+  pub row : ℕ
+  pub breaks : IsBreak block stimulus row
+  pub told : IsNotice texts (protocol_line file row)
+
+-- the length of some module of the block, or the greatest count of 64 bits where the module is longer
+pub record IsModuleLength (b : Block) (bytes : ℕ) : Type 0 where
+  pub text : List ℕ
+  pub agrees : Agrees text b
+  pub counted : bytes ≡ raised 0 (length text)
+
+-- on out is the source of so many registers, which breaks no rule, and on err its summary, with the length of a module of the
+-- block that it describes
+pub record IsGenerated (count : ℕ) (texts : Texts) : Type 0 where
+  pub tree : Source
+  pub block : Block
+  pub bytes : ℕ
+  pub described : IsDescribedWith None (source_of count) tree 0 block
+  pub long : IsModuleLength block bytes
+  pub generated : texts.out ≡ source_of count
+  pub summed : texts.err ≡ summary_of count bytes
+
 -- The status and the texts of a command whose files have these bytes.
 abbrev pub Judges : Command → List (List ℕ) → Status → Texts → Type 0
-Judges (compile top file) (source ∷ []) Done texts = IsCompiled top source texts
-Judges (compile top file) (source ∷ []) Refused texts = IsRefused top file source texts
+Judges (compile waits top file) (source ∷ []) Done texts = IsCompiled (waits_of waits) top source texts
+Judges (compile waits top file) (source ∷ []) Refused texts = IsRefused top file source texts
 Judges (map_of top file) (source ∷ []) Done texts = IsMapped top source texts
 Judges (map_of top file) (source ∷ []) Refused texts = IsRefused top file source texts
 Judges (check top files) sources status texts = IsChecked top files sources status texts
 Judges (sim file table) (verilog ∷ stimulus ∷ []) Done texts = IsSimulation verilog stimulus texts
 Judges (sim file table) (verilog ∷ stimulus ∷ []) BadVerilog texts = IsBadVerilog file verilog texts
 Judges (sim file table) (verilog ∷ stimulus ∷ []) BadStimulus texts = IsBadStimulus verilog table stimulus texts
+Judges (run_of waits top file table) (source ∷ stimulus ∷ []) Done texts = IsRan (waits_of waits) top source stimulus texts
+Judges (run_of waits top file table) (source ∷ stimulus ∷ []) Refused texts = IsRefused top file source texts
+Judges (run_of waits top file table) (source ∷ stimulus ∷ []) BadStimulus texts = IsUnfit (waits_of waits) top source table stimulus texts
+Judges (run_of waits top file table) (source ∷ stimulus ∷ []) Protocol texts = IsBroken (waits_of waits) top source table stimulus texts
+Judges (gen_of count) [] Done texts = IsGenerated count texts
+Judges (gen_of count) [] Refused texts = IsRefused None (codes "gen") (source_of count) texts
 Judges _ _ _ _ = ⊥
 
 -- The status and the texts of a command. `failed name` says that a read of that name failed in this call.

@@ -1,4 +1,4 @@
-//! What a command line is answered: a status, a text for err and a text for out.
+//! What a command line is answered: a status, a text for err, and a text or a netlist for out.
 
 ghost use Rattle.std.specs.Prelude.{◌≡◌, ◌⊎◌, [], IfOk};
 ghost use Rattle.verdict_text.specs.Lines.{file_line};
@@ -7,8 +7,10 @@ ghost use Rattle.regblock.specs.Ends.{TookAll, IsCutShort, passage};
 
 use crate::Status;
 use rb_base::NoMemory;
-use rb_edge::{Sink, write_all};
+use rb_edge::{Failed, Sink, write_all};
+use rtl_net::Netlist;
 use std::alloc::Global;
+use v_printer::print;
 
 /// What a run is to write, and how it is to end.
 #[derive(Drop)]
@@ -18,7 +20,15 @@ pub struct Answer {
     pub(crate) out: Vec<u8>,
 }
 
+/// An answer, or the netlist whose module is to stand on out, written as it is printed.
+#[derive(Drop)]
+pub enum Reply {
+    Text(Answer),
+    Module(Netlist),
+}
+
 ghost use Rattle.regblock.specs.Answer.{texts_of};
+ghost use Rattle.regblock.specs.Reply.{IsPrintable, status_of, told_by};
 
 // A text about a file, as a line on err.
 pub(crate) fn notice(
@@ -79,6 +89,23 @@ impl Answer {
             Status::WriteFault
         } else {
             self.status
+        }
+    }
+}
+
+impl Reply {
+    /// Writes the text for err and then that for out. It takes no memory.
+    pub fn write<O: Sink, E: Sink>(&self, out: &mut O, err: &mut E) -> Status
+        requires { IsPrintable self.now }
+        ensures { ((result ≡ status_of self.now) × TookAll (passage E.told E.faults err.old err.new) (told_by self.now).err × TookAll (passage O.told O.faults out.old out.new) (told_by self.now).out)
+            ⊎ ((result ≡ Status.WriteFault) × IsCutShort (passage E.told E.faults err.old err.new) (passage O.told O.faults out.old out.new) (told_by self.now)) }
+    {
+        match self {
+            Reply::Text(answer) => answer.write(out, err),
+            Reply::Module(net) => match print(net, out) {
+                Ok(()) => Status::Done,
+                Err(Failed) => Status::WriteFault,
+            },
         }
     }
 }

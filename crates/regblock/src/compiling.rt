@@ -1,61 +1,39 @@
-//! A source, from its bytes to the text of its module, or to its address table.
+//! A source, from its file to its module, or to its address table.
 
-ghost use Rattle.std.specs.Prelude.{◌≡◌, ◌≢◌, ◌≤◌, ◌∷◌, [], ℕ, List, length, take, IfOk, option_copied};
-ghost use Rattle.command_line.specs.Words.{compile, map_of};
-ghost use Rattle.verdict_text.specs.Lines.{verdict_lines};
+ghost use Rattle.std.specs.Prelude.{◌≡◌, ◌≤◌, ◌∷◌, [], ℕ, List, None, length, IfOk, option_copied};
+ghost use Rattle.command_line.specs.Words.{compile, map_of, IsWaits};
 ghost use Rattle.regblock.specs.Outcome.{FailedRead, Judges, Answers, source_limit};
 ghost use Rattle.regblock.specs.Answer.{texts_of};
+ghost use Rattle.regblock.specs.Reply.{IsPrintable, status_of, told_by};
 
-use crate::Status;
-use crate::answer::{Answer, done};
+use crate::answer::{Answer, Reply, done};
+use crate::describing::{Described, describe_source};
 use crate::loading::{Loaded, SOURCE_LIMIT, load_file};
-use crate::modules::module_text;
+use crate::modules::module_net;
 use address_text::address_lines;
-use bumpalo::Bump;
-use rb_base::{Fault, NoMemory};
+use rb_base::NoMemory;
 use rb_edge::Shelf;
-use rdl_verdict::{JudgeError, judge};
 use std::alloc::Global;
-use verdict_text::push_verdict;
-
-// The line of the first rule that a source breaks.
-fn refusal(alloc: Global, file: &str, source: &[u8], faults: &[Fault]) -> Result<Answer, NoMemory>
-    requires short { length source.now ≤ source_limit }
-    requires some { faults.now ≢ [] }
-    ensures status { IfOk result (λ answer. answer.status ≡ Status.Refused) }
-    ensures err { IfOk result (λ answer. answer.err.items ≡ verdict_lines file.now source.now (take 1 faults.now)) }
-    ensures out { IfOk result (λ answer. answer.out.items ≡ []) }
-{
-    let mut err = Vec::new(alloc);
-    push_verdict(alloc, &mut err, file, source, &faults[..1])?;
-    Ok(Answer {
-        status: Status::Refused,
-        err,
-        out: Vec::new(alloc),
-    })
-}
 
 // What a source is compiled to.
 fn compile_source(
     alloc: Global,
+    waits: Option<u8>,
     top: Option<&str>,
     file: &str,
     source: &[u8],
-) -> Result<Answer, NoMemory>
-    requires { length source.now ≤ source_limit }
-    ensures { IfOk result (λ answer. Judges (compile (option_copied top.entry) file.now) (source.now ∷ []) answer.status (texts_of answer)) }
+) -> Result<Reply, NoMemory>
+    requires short { length source.now ≤ source_limit }
+    requires waits { IsWaits waits }
+    ensures judged { IfOk result (λ reply. Judges (compile waits (option_copied top.entry) file.now) (source.now ∷ []) (status_of reply) (told_by reply)) }
+    ensures printable { IfOk result IsPrintable }
 {
-    let arena = Bump::new(alloc);
-    match judge(alloc, &arena, source, top) {
-        Ok(judged) => {
-            let text = module_text(alloc, &judged.block)?;
-            Ok(done(alloc, text))
+    match describe_source(alloc, waits, top, file, source)? {
+        Described::Clean(block) => {
+            let net = module_net(alloc, &block)?;
+            Ok(Reply::Module(net))
         }
-        Err(JudgeError::Faults(faults)) => {
-            let answer = refusal(alloc, file, source, &faults)?;
-            Ok(answer)
-        }
-        Err(JudgeError::NoMemory) => Err(NoMemory),
+        Described::Stopped(answer) => Ok(Reply::Text(answer)),
     }
 }
 
@@ -69,17 +47,12 @@ fn map_source(
     requires { length source.now ≤ source_limit }
     ensures { IfOk result (λ answer. Judges (map_of (option_copied top.entry) file.now) (source.now ∷ []) answer.status (texts_of answer)) }
 {
-    let arena = Bump::new(alloc);
-    match judge(alloc, &arena, source, top) {
-        Ok(judged) => {
-            let text = address_lines(alloc, &judged.block)?;
+    match describe_source(alloc, None, top, file, source)? {
+        Described::Clean(block) => {
+            let text = address_lines(alloc, &block)?;
             Ok(done(alloc, text))
         }
-        Err(JudgeError::Faults(faults)) => {
-            let answer = refusal(alloc, file, source, &faults)?;
-            Ok(answer)
-        }
-        Err(JudgeError::NoMemory) => Err(NoMemory),
+        Described::Stopped(answer) => Ok(answer),
     }
 }
 
@@ -87,19 +60,22 @@ fn map_source(
 pub(crate) fn compile_file<S: Shelf>(
     alloc: Global,
     shelf: &mut S,
+    waits: Option<u8>,
     top: Option<&str>,
     file: &str,
-) -> Result<Answer, NoMemory>
-    ensures answers { IfOk result (λ answer. Answers (S.contents shelf.old) (FailedRead S.faults shelf.old shelf.new) (compile (option_copied top.entry) file.now) answer.status (texts_of answer)) }
+) -> Result<Reply, NoMemory>
+    requires { IsWaits waits }
+    ensures answers { IfOk result (λ reply. Answers (S.contents shelf.old) (FailedRead S.faults shelf.old shelf.new) (compile waits (option_copied top.entry) file.now) (status_of reply) (told_by reply)) }
+    ensures printable { IfOk result IsPrintable }
     ensures unchanged { S.contents shelf.new ≡ S.contents shelf.old }
     ensures later { (any : List ℕ) → S.faults shelf.old any ≤ S.faults shelf.new any }
 {
     match load_file(alloc, shelf, file, SOURCE_LIMIT)? {
         Loaded::Bytes(source) => {
-            let answer = compile_source(alloc, top, file, &source)?;
-            Ok(answer)
+            let reply = compile_source(alloc, waits, top, file, &source)?;
+            Ok(reply)
         }
-        Loaded::Stopped(answer) => Ok(answer),
+        Loaded::Stopped(answer) => Ok(Reply::Text(answer)),
     }
 }
 

@@ -65,8 +65,8 @@ fn bad_verilog(alloc: Global, file: &str, verilog: &[u8], error: VError) -> Resu
     Ok(answer)
 }
 
-// The line of what is wrong with a table.
-fn bad_stimulus(alloc: Global, file: &str, problem: &[u8]) -> Result<Answer, NoMemory>
+/// The line of what is wrong with a table.
+pub(crate) fn bad_stimulus(alloc: Global, file: &str, problem: &[u8]) -> Result<Answer, NoMemory>
     ensures status { IfOk result (λ answer. answer.status ≡ Status.BadStimulus) }
     ensures err { IfOk result (λ answer. answer.err.items ≡ stimulus_line file.now problem.now) }
     ensures out { IfOk result (λ answer. answer.out.items ≡ []) }

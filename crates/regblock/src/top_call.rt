@@ -3,12 +3,14 @@
 ghost use Rattle.std.specs.Prelude.{◌≡◌, ◌⊎◌, ◌≤◌, List, Option, ℕ};
 ghost use Rattle.rb_edge.specs.Count.{Rose};
 ghost use Rattle.rb_edge.specs.Shelf.{IsLonger};
-ghost use Rattle.command_line.specs.Words.{texts, Command, check, compile, map_of, sim, Asks, AsksNothing};
+ghost use Rattle.command_line.specs.Words.{texts, Command, check, compile, map_of, sim, run_of, gen_of, waits_of, Asks, AsksNothing};
 ghost use Rattle.regblock.specs.Outcome.{FailedRead, Outcome, StopsAt, files_of};
 ghost use Rattle.regblock.specs.Ends.{Ends, passage};
 ghost use Rattle.regblock.specs.Complete.{IsComplete};
 ghost use Rattle.regblock.specs.Headline.{AreToldVerdicts, IsRight, IsTable, IsToldFailure};
 ghost use Rattle.regblock.specs.Simulations.{IsRun, IsToldVerilog, IsToldStimulus};
+ghost use Rattle.regblock.specs.MachineRuns.{IsMachineRun, IsToldUnfit, IsToldBreak};
+ghost use Rattle.regblock.specs.Generated.{IsSizedSource};
 
 use crate::Status;
 use crate::commands::answer_words;
@@ -26,9 +28,9 @@ pub fn run<S: Shelf, O: Sink, E: Sink>(
     err: &mut E,
 ) -> Status
     // A module that was written is right, and a refusal names the first failure.
-    ensures done { (top : Option (List ℕ)) (file : List ℕ) → Asks (texts words.now) (compile top file) → result ≡ Status.Done
-        → IsRight (S.contents shelf.old) top file (passage E.told E.faults err.old err.new) (passage O.told O.faults out.old out.new) }
-    ensures refused { (top : Option (List ℕ)) (file : List ℕ) → Asks (texts words.now) (compile top file) → result ≡ Status.Refused
+    ensures done { (waits : Option ℕ) (top : Option (List ℕ)) (file : List ℕ) → Asks (texts words.now) (compile waits top file) → result ≡ Status.Done
+        → IsRight (S.contents shelf.old) (waits_of waits) top file (passage E.told E.faults err.old err.new) (passage O.told O.faults out.old out.new) }
+    ensures refused { (waits : Option ℕ) (top : Option (List ℕ)) (file : List ℕ) → Asks (texts words.now) (compile waits top file) → result ≡ Status.Refused
         → IsToldFailure (S.contents shelf.old) top file (passage E.told E.faults err.old err.new) (passage O.told O.faults out.old out.new) }
 
     // A table that was written is that of the block that the source describes; verdicts that were written are those of all files.
@@ -46,6 +48,20 @@ pub fn run<S: Shelf, O: Sink, E: Sink>(
         → IsToldVerilog (S.contents shelf.old) file (passage E.told E.faults err.old err.new) (passage O.told O.faults out.old out.new) }
     ensures bad_stimulus { (file table : List ℕ) → Asks (texts words.now) (sim file table) → result ≡ Status.BadStimulus
         → IsToldStimulus (S.contents shelf.old) file table (passage E.told E.faults err.old err.new) (passage O.told O.faults out.old out.new) }
+
+    // A run that was written is that of the machine of the block that the source describes, which is what `sim` prints of its module.
+    ensures ran { (waits : Option ℕ) (top : Option (List ℕ)) (file table : List ℕ) → Asks (texts words.now) (run_of waits top file table) → result ≡ Status.Done
+        → IsMachineRun (S.contents shelf.old) (waits_of waits) top file table (passage E.told E.faults err.old err.new) (passage O.told O.faults out.old out.new) }
+    ensures not_run { (waits : Option ℕ) (top : Option (List ℕ)) (file table : List ℕ) → Asks (texts words.now) (run_of waits top file table) → result ≡ Status.Refused
+        → IsToldFailure (S.contents shelf.old) top file (passage E.told E.faults err.old err.new) (passage O.told O.faults out.old out.new) }
+    ensures unfit { (waits : Option ℕ) (top : Option (List ℕ)) (file table : List ℕ) → Asks (texts words.now) (run_of waits top file table) → result ≡ Status.BadStimulus
+        → IsToldUnfit (S.contents shelf.old) (waits_of waits) top file table (passage E.told E.faults err.old err.new) (passage O.told O.faults out.old out.new) }
+    ensures protocol { (waits : Option ℕ) (top : Option (List ℕ)) (file table : List ℕ) → Asks (texts words.now) (run_of waits top file table) → result ≡ Status.Protocol
+        → IsToldBreak (S.contents shelf.old) (waits_of waits) top file table (passage E.told E.faults err.old err.new) (passage O.told O.faults out.old out.new) }
+
+    // A source that was made has its size and breaks no rule, and its summary has the length of a module of it.
+    ensures generated { (count : ℕ) → Asks (texts words.now) (gen_of count) → result ≡ Status.Done
+        → IsSizedSource count (passage E.told E.faults err.old err.new) (passage O.told O.faults out.old out.new) }
 
     // What is written and how it ends belong to the words and the files.
     ensures ends { Ends (Outcome (texts words.now) (S.contents shelf.old) (FailedRead S.faults shelf.old shelf.new))
@@ -72,7 +88,7 @@ pub fn run<S: Shelf, O: Sink, E: Sink>(
     ensures no_memory { result ≡ Status.NoMemory → (out.new ≡ out.old) × (err.new ≡ err.old) }
 {
     match answer_words(alloc, words, shelf) {
-        Ok(answer) => answer.write(out, err),
+        Ok(reply) => reply.write(out, err),
         Err(_) => Status::NoMemory,
     }
 }

@@ -7,31 +7,17 @@ use std::alloc::Global;
 use std::io;
 
 // Command lines, the words apart by a blank, and the file that keeps what each writes.
-const KEPT: [(&str, &str); 23] = [
+const KEPT: [(&str, &str); 9] = [
     (
         "check dma.rdl gpio.rdl intc.rdl one.rdl scratch.rdl timer.rdl uart.rdl",
         "clean.check.txt",
     ),
     ("check broken.rdl", "broken.check.txt"),
-    ("compile one.rdl", "one.v"),
-    ("compile scratch.rdl", "scratch.v"),
-    ("sim one.v one.pins.csv", "one.run.csv"),
-    ("sim scratch.v scratch.pins.csv", "scratch.run.csv"),
     ("map dma.rdl", "dma.map.txt"),
-    ("compile dma.rdl", "dma.v"),
-    ("sim dma.v dma.pins.csv", "dma.run.csv"),
     ("map gpio.rdl", "gpio.map.txt"),
-    ("compile gpio.rdl", "gpio.v"),
-    ("sim gpio.v gpio.pins.csv", "gpio.run.csv"),
     ("map intc.rdl", "intc.map.txt"),
-    ("compile intc.rdl", "intc.v"),
-    ("sim intc.v intc.pins.csv", "intc.run.csv"),
     ("map timer.rdl", "timer.map.txt"),
-    ("compile timer.rdl", "timer.v"),
-    ("sim timer.v timer.pins.csv", "timer.run.csv"),
     ("map uart.rdl", "uart.map.txt"),
-    ("compile uart.rdl", "uart.v"),
-    ("sim uart.v uart.pins.csv", "uart.run.csv"),
     (
         "sim verilog/operators.v verilog/operators.pins.csv",
         "verilog/operators.run.csv",
@@ -42,8 +28,70 @@ const KEPT: [(&str, &str); 23] = [
     ),
 ];
 
+// The blocks, each with a module and a run, and both once more with a wait state.
+const BLOCKS: [&str; 7] = ["dma", "gpio", "intc", "one", "scratch", "timer", "uart"];
+
+// What stands before and behind the name of a block in a command line, and behind it in the name of the file.
+#[derive(Clone, Copy)]
+struct Form {
+    before: &'static str,
+    between: &'static str,
+    behind: &'static str,
+    kept: &'static str,
+}
+
+const FORMS: [Form; 6] = [
+    Form {
+        before: "compile ",
+        between: ".rdl",
+        behind: "",
+        kept: ".v",
+    },
+    Form {
+        before: "sim ",
+        between: ".v ",
+        behind: ".pins.csv",
+        kept: ".run.csv",
+    },
+    Form {
+        before: "run ",
+        between: ".rdl ",
+        behind: ".pins.csv",
+        kept: ".run.csv",
+    },
+    Form {
+        before: "compile --waits 1 ",
+        between: ".rdl",
+        behind: "",
+        kept: ".wait.v",
+    },
+    Form {
+        before: "sim ",
+        between: ".wait.v ",
+        behind: ".wait.pins.csv",
+        kept: ".wait.run.csv",
+    },
+    Form {
+        before: "run --waits 1 ",
+        between: ".rdl ",
+        behind: ".wait.pins.csv",
+        kept: ".wait.run.csv",
+    },
+];
+
 // More than any kept text has.
 const ROOM: usize = 1 << 20;
+
+// A command line of a form, and its file.
+fn formed(alloc: Global, form: Form, block: &str) -> Option<(String, String)> {
+    let again = if form.behind.is_empty() { "" } else { block };
+    let line = format!(in alloc;
+        "{}{block}{}{again}{}",
+        form.before, form.between, form.behind
+    );
+    let file = format!(in alloc; "{block}{}", form.kept);
+    Some((line.ok()?, file.ok()?))
+}
 
 // Whether the words write what the file keeps, on out, or on err where a source is refused; None where memory or the file
 // can't be had.
@@ -63,15 +111,27 @@ fn is_kept<S: Shelf>(alloc: Global, shelf: &mut S, line: &str, file: &str) -> Op
     }
 }
 
+fn verdict<S: Shelf>(alloc: Global, shelf: &mut S, line: &str, file: &str) -> &'static str {
+    match is_kept(alloc, shelf, line, file) {
+        Some(true) => "is kept as",
+        Some(false) => "is NOT kept as",
+        None => "can't be compared with",
+    }
+}
+
 fn main(rt: HostRuntime) -> io::Result<()> {
     let mut shelf = FileShelf::new(&rt);
     for (line, file) in KEPT {
-        let word = match is_kept(rt.alloc(), &mut shelf, line, file) {
-            Some(true) => "is kept as",
-            Some(false) => "is NOT kept as",
-            None => "can't be compared with",
-        };
+        let word = verdict(rt.alloc(), &mut shelf, line, file);
         println!(rt; "{line} {word} {file}")?;
+    }
+    for block in BLOCKS {
+        for form in FORMS {
+            if let Some((line, file)) = formed(rt.alloc(), form, block) {
+                let word = verdict(rt.alloc(), &mut shelf, line.as_str(), file.as_str());
+                println!(rt; "{line} {word} {file}")?;
+            }
+        }
     }
     Ok(())
 }

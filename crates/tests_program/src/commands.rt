@@ -38,7 +38,7 @@ fn shelf(alloc: Global, fails: &[u64]) -> Result<MemShelf, Fail> {
 #[test]
 fn refusals_are_one_line_on_err(rt: HostRuntime) -> Result<(), Fail> {
     let alloc = rt.alloc();
-    let table: [(&[&str], &[u64], Status, &str); 10] = [
+    let table: [(&[&str], &[u64], Status, &str); 17] = [
         (
             &["compile", "one.rdl"],
             &[0],
@@ -74,6 +74,23 @@ fn refusals_are_one_line_on_err(rt: HostRuntime) -> Result<(), Fail> {
         (&["compile", "-"], &[], Status::Usage, USAGE),
         (&["compile", ""], &[], Status::Usage, USAGE),
         (&["sim", "one.rdl"], &[], Status::Usage, USAGE),
+        (&["run", "one.rdl"], &[], Status::Usage, USAGE),
+        (
+            &["compile", "--waits", "2", "one.rdl"],
+            &[],
+            Status::Usage,
+            USAGE,
+        ),
+        (
+            &["compile", "--top", "one", "--waits", "1", "one.rdl"],
+            &[],
+            Status::Usage,
+            USAGE,
+        ),
+        (&["gen", "0"], &[], Status::Usage, USAGE),
+        (&["gen", "8193"], &[], Status::Usage, USAGE),
+        (&["gen", "02"], &[], Status::Usage, USAGE),
+        (&["gen", "+2"], &[], Status::Usage, USAGE),
     ];
     for (asked, fails, wanted, line) in table.iter() {
         let mut shelf = shelf(alloc, *fails)?;

@@ -4,6 +4,8 @@
 #[cfg(test)]
 mod commands;
 #[cfg(test)]
+mod generated;
+#[cfg(test)]
 mod hostile;
 #[cfg(test)]
 mod machines;
@@ -13,6 +15,8 @@ mod maps;
 mod ran;
 #[cfg(test)]
 mod reads;
+#[cfg(test)]
+mod runs;
 #[cfg(test)]
 mod stimuli;
 #[cfg(test)]

@@ -1,4 +1,6 @@
 //! Runs of the program over files in memory.
+ghost use Rattle.std.specs.Prelude.{◌<◌};
+
 use rb_edge::{MemShelf, MemSink};
 use regblock::{Status, run};
 use std::alloc::Global;
@@ -24,13 +26,25 @@ pub(crate) fn words(alloc: Global, all: &[&str]) -> Result<Vec<String>, Fail> {
     Ok(words)
 }
 
-/// A run of the program over a shelf.
-pub(crate) fn run_over(alloc: Global, asked: &[&str], shelf: &mut MemShelf) -> Result<Ran, Fail> {
-    let mut out = MemSink::new(alloc, ROOM, ROOM, &[])?;
+/// A run of the program over a shelf, with sinks of so much room.
+pub(crate) fn run_sized(
+    alloc: Global,
+    asked: &[&str],
+    shelf: &mut MemShelf,
+    room: usize,
+) -> Result<Ran, Fail>
+    requires { 0 < room }
+{
+    let mut out = MemSink::new(alloc, room, room, &[])?;
     let mut err = MemSink::new(alloc, ROOM, ROOM, &[])?;
     let words = words(alloc, asked)?;
     let status = run(alloc, &words, shelf, &mut out, &mut err);
     Ok(Ran { status, out, err })
+}
+
+/// A run of the program over a shelf.
+pub(crate) fn run_over(alloc: Global, asked: &[&str], shelf: &mut MemShelf) -> Result<Ran, Fail> {
+    run_sized(alloc, asked, shelf, ROOM)
 }
 
 /// A run of the program where there is one file.

@@ -4,6 +4,7 @@ use Rattle.regblock.proofs.Causes.{usage_cause, read_fault_cause, too_long_cause
 use Rattle.regblock.proofs.Headlines.{checked, done, mapped, refused, unmapped}
 use Rattle.v_reader.proofs.Verdicts.{no_module}
 use Rattle.regblock.proofs.Simulations.{simulated, bad_verilog, bad_stimulus}
+use Rattle.regblock.proofs.MachineRuns.{ran, not_run, unfit, protocol, generated}
 use Rattle.regblock.proofs.top_call.run.Goals as goal
 
 pub returns-in-Ok-clause-ends : goal.returns-in-Ok-clause-ends
@@ -47,3 +48,18 @@ returns-in-Ok-clause-unmapped g c = unmapped _ _ _ _ _ _ (returns-in-Ok-clause-e
 
 pub returns-in-Ok-clause-checked : goal.returns-in-Ok-clause-checked
 returns-in-Ok-clause-checked g c = checked _ _ _ _ _ _ (returns-in-Ok-clause-ends g c)
+
+pub returns-in-Ok-clause-ran : goal.returns-in-Ok-clause-ran
+returns-in-Ok-clause-ran g c = ran _ _ _ _ _ _ (returns-in-Ok-clause-ends g c)
+
+pub returns-in-Ok-clause-not_run : goal.returns-in-Ok-clause-not_run
+returns-in-Ok-clause-not_run g c = not_run _ _ _ _ _ _ (returns-in-Ok-clause-ends g c)
+
+pub returns-in-Ok-clause-unfit : goal.returns-in-Ok-clause-unfit
+returns-in-Ok-clause-unfit g c = unfit _ _ _ _ _ _ (returns-in-Ok-clause-ends g c)
+
+pub returns-in-Ok-clause-protocol : goal.returns-in-Ok-clause-protocol
+returns-in-Ok-clause-protocol g c = protocol _ _ _ _ _ _ (returns-in-Ok-clause-ends g c)
+
+pub returns-in-Ok-clause-generated : goal.returns-in-Ok-clause-generated
+returns-in-Ok-clause-generated g c = generated _ _ _ _ _ _ (returns-in-Ok-clause-ends g c)

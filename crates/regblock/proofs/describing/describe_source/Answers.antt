@@ -4,8 +4,8 @@ use Rattle.verdict_text.specs.Lines.{verdict_lines}
 use Rattle.rdl_verdict.specs.Answers.{Refuses}
 use Rattle.rdl_verdict.specs.declared.error.JudgeError.{JudgeError}
 use Rattle.regblock.specs.Answer.{texts_of}
-use Rattle.regblock.proofs.Rows.{Judges-unmapped, first_told}
-use Rattle.regblock.proofs.compiling.map_source.Goals as goal
+use Rattle.regblock.proofs.Rows.{first_told}
+use Rattle.regblock.proofs.describing.describe_source.Goals as goal
 
 pub returns-in-Err-Faults : goal.returns-in-Err-Faults
 returns-in-Err-Faults c =
@@ -16,5 +16,4 @@ returns-in-Err-Faults c =
     let source = c.args.source.now in
     let refused = subst (λ (e : JudgeError). Refuses top source e) c.in-Err-Faults.field-0-is c.in-Err-Faults.ensures in
     let err = told.err ∙ ap (λ (fs : List Fault). verdict_lines file source (take 1 fs)) c.deref.ensures.value in
-    Judges-unmapped top file source answer.status (texts_of answer) told.status
-    (first_told top file source c.in-Err-Faults.faults.items (texts_of answer) refused (err, told.out))
+    (told.status, first_told top file source c.in-Err-Faults.faults.items (texts_of answer) refused (err, told.out))
