@@ -1,0 +1,6 @@
+//! That the block of a source is the same with any number of wait states.
+#![tactic(auto)]
+
+mod laws;
+
+pub use laws::described_with_waits;
