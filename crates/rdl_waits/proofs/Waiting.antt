@@ -94,7 +94,7 @@ module _ (waits : ℕ) (b : Block) where
   together s t h = record { one_view = h.one_view; one_reads = h.one_reads; one_writes = h.one_writes }
 
   word : (w : Word) → WordIsSound b w → WordIsSound now w
-  word w h = record { wide = h.wide; in_register = h.in_register; slots = each _ _ w.slots (slot w) h.slots; together = λ i j s t l p q. together s t (h.together i j s t l p q) }
+  word w h = record { wide = h.wide; in_register = h.in_register; slots = each _ _ w.slots (slot w) h.slots; together = λ i j d p q. together _ _ (h.together i j d p q) }
 
   pub sound : waits ≤ 1 → IsSound b → IsSound now
   sound few h = record {
