@@ -1,4 +1,4 @@
-//! What is compiled runs as its source says: `compile`, and `sim` of the module over a table of pins.
+//! What is compiled runs as its source says: `compile` and `sim` of the module over a table of pins, and `run` of the source.
 use crate::ran::{run_over, run_with};
 use rb_edge::MemShelf;
 use regblock::Status;
@@ -117,9 +117,12 @@ fn modules_run_as_their_sources_say(rt: HostRuntime) -> Result<(), Fail> {
         let mut shelf = MemShelf::new(alloc, &[])?;
         shelf.put("m.v", module.out.bytes())?;
         shelf.put("t.csv", table.as_bytes())?;
-        let ran = run_over(alloc, &["sim", "m.v", "t.csv"], &mut shelf)?;
-        assert_eq!(rt; ran.status, Status::Done);
-        assert_eq!(rt; ran.out.bytes(), lines.as_bytes());
+        shelf.put("m.rdl", source.as_bytes())?;
+        for words in [["sim", "m.v", "t.csv"], ["run", "m.rdl", "t.csv"]] {
+            let ran = run_over(alloc, &words, &mut shelf)?;
+            assert_eq!(rt; ran.status, Status::Done);
+            assert_eq!(rt; ran.out.bytes(), lines.as_bytes());
+        }
     }
     Ok(())
 }

@@ -28,7 +28,7 @@ fn status(alloc: Global, asked: &[&str], fails: u64) -> Result<(Status, Vec<u8>)
 #[test]
 fn files_are_read_once_and_in_order(rt: HostRuntime) -> Result<(), Fail> {
     let alloc = rt.alloc();
-    let table: [(&[&str], u64, Status, &str); 11] = [
+    let table: [(&[&str], u64, Status, &str); 13] = [
         (
             &["compile", "one.rdl"],
             1,
@@ -37,6 +37,18 @@ fn files_are_read_once_and_in_order(rt: HostRuntime) -> Result<(), Fail> {
         ),
         (&["compile", "one.rdl"], 2, Status::Done, ""),
         (&["map", "one.rdl"], 2, Status::Done, ""),
+        (
+            &["run", "one.rdl", "t.csv"],
+            1,
+            Status::ReadFault,
+            "one.rdl: cannot read\n",
+        ),
+        (
+            &["run", "one.rdl", "t.csv"],
+            2,
+            Status::ReadFault,
+            "t.csv: cannot read\n",
+        ),
         (
             &["check", "one.rdl", "one.rdl"],
             1,

@@ -10,6 +10,8 @@ const ONE: &str = "addrmap one { reg { field { sw=rw; hw=r; } f[32] = 32'h5; } a
 const BROKEN: &str =
     "addrmap b { reg { field { sw=r; sw=w; bogus; } f; } a; T x; field {} g; reg { field {} f; } a; };\n";
 
+const TABLE: &str = "PRESETn,PADDR,PSEL,PENABLE,PWRITE,PWDATA\n0,0,0,0,0,0\n";
+
 // How many bytes a stream takes in all, one at a call, and the call that fails.
 type Stream = (usize, u64);
 
@@ -26,13 +28,14 @@ fn shelf(alloc: Global) -> Result<MemShelf, Fail> {
     shelf.put("one.rdl", ONE.as_bytes())?;
     shelf.put("e.rdl", b"")?;
     shelf.put("b.rdl", BROKEN.as_bytes())?;
+    shelf.put("t.csv", TABLE.as_bytes())?;
     Ok(shelf)
 }
 
 #[test]
 fn what_is_cut_short_is_a_beginning(rt: HostRuntime) -> Result<(), Fail> {
     let alloc = rt.alloc();
-    let table: [(&[&str], Stream, Stream, &str, &str); 12] = [
+    let table: [(&[&str], Stream, Stream, &str, &str); 15] = [
         (&["compile", "one.rdl"], (10_000, 0), WIDE, "", ""),
         (&["compile", "one.rdl"], (10_000, 7), WIDE, "module ", ""),
         (
@@ -74,6 +77,21 @@ fn what_is_cut_short_is_a_beginning(rt: HostRuntime) -> Result<(), Fail> {
             "",
         ),
         (&["map", "one.rdl"], (5, u64::MAX), WIDE, "0x000", ""),
+        (
+            &["run", "one.rdl", "t.csv"],
+            (10, u64::MAX),
+            WIDE,
+            "PREADY,PRD",
+            "",
+        ),
+        (&["gen", "2"], WIDE, (10_000, 9), "", "registers"),
+        (
+            &["compile", "--waits", "1", "one.rdl"],
+            (10_000, 16),
+            WIDE,
+            "module one_regs ",
+            "",
+        ),
         (&["frob"], WIDE, (5, u64::MAX), "", "usage"),
     ];
     for (asked, out, err, written, told) in table.iter() {
