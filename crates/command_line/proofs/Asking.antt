@@ -1,16 +1,18 @@
 -- The command that is found is the one that the words ask for.
-use Rattle.std.proofs.Common.{◌≡◌, ◌∙◌, ℕ, ◌<◌, ◌≤◌, ◌==◌, Bool, true, false, not, ◌&&◌, cond, bytes_eq, nat_le, List, [], ◌∷◌, ◌++◌, Option, None, Some, String, length, codes, refl, sym, ap, subst, arith}
+use Rattle.std.proofs.Common.{◌≡◌, ◌∙◌, ◌⊎◌, inl, inr, ℕ, zero, suc, ◌+◌, ◌<◌, ◌≤◌, ◌==◌, Bool, true, false, not, ◌&&◌, cond, bytes_eq, nat_le, List, [], ◌∷◌, ◌++◌, append_assoc, lit<, lit≤, Option, None, Some, String, decimal, length, codes, refl, sym, ap, subst, arith}
 use Rattle.std.specs.List.{AllByRecursion, list_all}
 use Rattle.std.specs.String.{string_bytes}
 use Rattle.std.specs.Global.{Global}
 use Rattle.std.proofs.lemmas.Bool.{eqb-true, le-leb, leb-true}
+use Rattle.std.proofs.lemmas.Fmt.{decimal_digit}
 use Rattle.std.proofs.lemmas.List.{length-map}
 use Rattle.std.proofs.lemmas.List.Elements.{All-from_recursion, recursion_from_All}
 use Rattle.std.proofs.lemmas.List.Folds.{list_all-map}
 use Rattle.std.proofs.lemmas.Slice.Eq.{bytes_eq-Decides}
 use Rattle.rdl_tree.specs.Words.{is_word}
-use Rattle.command_line.specs.Words.{AreFileWords, Asks, AsksNothing, Command, IsCommand, IsFileWord, IsTop, check, compile, map_of, sim, texts, top_words, words_of}
-use Rattle.command_line.specs.Found.{Topped, are_files, found_in, is_file, named, one_file, some_files, topped, two_files}
+use Rattle.command_line.specs.Words.{AreFileWords, Asks, AsksNothing, Command, IsCommand, IsFileWord, IsTop, IsWaits, check, compile, gen_of, map_of, run_of, sim, texts, top_words, waits_words, words_of}
+use Rattle.command_line.specs.Found.{Topped, Waited, are_files, compiled, count_in, counted, file_pair, found_in, is_file, named, one_count, one_file, ran, some_files, some_gen, topped, two_files, waited}
+use Rattle.command_line.proofs.Counting.{count-found, found-count}
 
 -- Words that name files.
 
@@ -75,6 +77,15 @@ no-flag (b ∷ bs) e = go (b == 45) refl
     go true q = let bad : false ≡ true = sym (ap not q) ∙ e in cc bad
     go false q = ap (λ t. t && bytes_eq bs (codes "-top")) q
 
+-- nor does it give wait states
+no-waits : (w : List ℕ) → is_file w ≡ true → bytes_eq w (codes "--waits") ≡ false
+no-waits [] e = refl
+no-waits (b ∷ bs) e = go (b == 45) refl
+  where
+    go : (t : Bool) → (b == 45) ≡ t → bytes_eq (b ∷ bs) (codes "--waits") ≡ false
+    go true q = let bad : false ≡ true = sym (ap not q) ∙ e in cc bad
+    go false q = ap (λ t. t && bytes_eq bs (codes "-waits")) q
+
 -- the first of some words names a file, if there is one
 abbrev Begins : List (List ℕ) → Type 0
 Begins [] = Unit {0}
@@ -109,11 +120,70 @@ found-top (w ∷ ws) t e = go (bytes_eq w (codes "--top")) refl e
     go true q f = subst (λ v. IsTopped (v ∷ ws) t) (sym (same-text w (codes "--top") q)) (found-named ws t f)
     go false q f = let same : record { top = None; rest = w ∷ ws } ≡ t = cc f in subst (IsTopped (w ∷ ws)) same (record { spelled = refl; formed = tt })
 
+-- The wait states.
+
+-- the first of some words gives no wait states, if there is one
+abbrev Follows : List (List ℕ) → Type 0
+Follows [] = Unit {0}
+Follows (w ∷ ws) = bytes_eq w (codes "--waits") ≡ false
+
+follows : (top : Option (List ℕ)) (w : List ℕ) (ws : List (List ℕ)) → is_file w ≡ true → Follows (top_words top ++ w ∷ ws)
+follows None w ws e = no-waits w e
+follows (Some n) w ws e = refl
+
+few-waits : (n : ℕ) → n ≤ 1 → (n ≡ 0) ⊎ (n ≡ 1)
+few-waits zero h = inl refl
+few-waits (suc zero) h = inr refl
+few-waits (suc (suc n)) h = absurd (omega (arith, h))
+
+waits-found : (waits : Option ℕ) (ws : List (List ℕ)) → IsWaits waits → Follows ws → waited (waits_words waits ++ ws) ≡ Some (record { waits = waits; rest = ws })
+waits-found None [] h f = refl
+waits-found None (w ∷ ws) h f = ap (λ t. cond t (counted ws) (Some (record { waits = None; rest = w ∷ ws }))) f
+waits-found (Some n) ws h f = elim (few-waits n h) [
+  | inl e ↦ subst Is (sym e) (ap (λ w. counted (w ∷ ws)) (decimal_digit 0 (lit< tt)))
+  | inr e ↦ subst Is (sym e) (ap (λ w. counted (w ∷ ws)) (decimal_digit 1 (lit< tt)))
+]
+  where
+    Is : ℕ → Type 0
+    Is m = counted (decimal m ∷ ws) ≡ Some (record { waits = Some m; rest = ws })
+
+-- what was found behind wait states
+pub record IsWaited (ws : List (List ℕ)) (t : Waited) : Type 0 where
+  pub spelled : ws ≡ waits_words t.waits ++ t.rest
+  pub formed : IsWaits t.waits
+
+found-counted : (ws : List (List ℕ)) (t : Waited) → counted ws ≡ Some t → IsWaited (codes "--waits" ∷ ws) t
+found-counted [] t e = cc e
+found-counted (w ∷ ws) t e = none (bytes_eq w (codes "0")) refl e
+  where
+    is : (n : ℕ) → n < 10 → n ≤ 1 → w ≡ (48 + n) ∷ [] → record { waits = Some n; rest = ws } ≡ t → IsWaited (codes "--waits" ∷ w ∷ ws) t
+    is n small few q same = subst (IsWaited (codes "--waits" ∷ w ∷ ws)) same (record { spelled = ap (λ v. codes "--waits" ∷ v ∷ ws) (q ∙ sym (decimal_digit n small)); formed = few })
+
+    one : (b : Bool) → bytes_eq w (codes "1") ≡ b → cond b (Some (record { waits = Some 1; rest = ws })) None ≡ Some t → IsWaited (codes "--waits" ∷ w ∷ ws) t
+    one true q f = is 1 (lit< tt) (lit≤ tt) (same-text w (codes "1") q) (cc f)
+    one false q f = cc f
+
+    none : (b : Bool) → bytes_eq w (codes "0") ≡ b → cond b (Some (record { waits = Some 0; rest = ws })) (cond (bytes_eq w (codes "1")) (Some (record { waits = Some 1; rest = ws })) None) ≡ Some t → IsWaited (codes "--waits" ∷ w ∷ ws) t
+    none true q f = is 0 (lit< tt) (lit≤ tt) (same-text w (codes "0") q) (cc f)
+    none false q f = one (bytes_eq w (codes "1")) refl f
+
+found-waits : (ws : List (List ℕ)) (t : Waited) → waited ws ≡ Some t → IsWaited ws t
+found-waits [] t e = let same : record { waits = None; rest = [] } ≡ t = cc e in subst (IsWaited []) same (record { spelled = refl; formed = tt })
+found-waits (w ∷ ws) t e = go (bytes_eq w (codes "--waits")) refl e
+  where
+    go : (b : Bool) → bytes_eq w (codes "--waits") ≡ b → cond b (counted ws) (Some (record { waits = None; rest = w ∷ ws })) ≡ Some t → IsWaited (w ∷ ws) t
+    go true q f = subst (λ v. IsWaited (v ∷ ws) t) (sym (same-text w (codes "--waits") q)) (found-counted ws t f)
+    go false q f = let same : record { waits = None; rest = w ∷ ws } ≡ t = cc f in subst (IsWaited (w ∷ ws)) same (record { spelled = refl; formed = tt })
+
 -- Commands.
 
 -- what is asked for is found
 asked-found : (c : Command) → IsCommand c → found_in (words_of c) ≡ Some c
-asked-found (compile top source) h = ap (one_file compile) (top-found top (source ∷ []) h.0 (file-yes source h.1)) ∙ ap (λ t. cond t (Some (compile top source)) None) (file-yes source h.1)
+asked-found (compile waits top source) h =
+    let file = file-yes source h.2 in
+    ap (λ ws. compiled (waited ws)) (append_assoc (waits_words waits) (top_words top) (source ∷ []))
+    ∙ ap compiled (waits-found waits (top_words top ++ source ∷ []) h.0 (follows top source [] file))
+    ∙ ap (one_file (compile waits)) (top-found top (source ∷ []) h.1 file) ∙ ap (λ t. cond t (Some (compile waits top source)) None) file
 asked-found (map_of top source) h = ap (one_file map_of) (top-found top (source ∷ []) h.0 (file-yes source h.1)) ∙ ap (λ t. cond t (Some (map_of top source)) None) (file-yes source h.1)
 asked-found (check top sources) h = ap some_files (top-found top sources h.0 (begins sources (recursion_from_All IsFileWord sources h.1.each))) ∙ ap (λ t. cond t (Some (check top sources)) None) (are-yes sources h.1)
   where
@@ -121,6 +191,13 @@ asked-found (check top sources) h = ap some_files (top-found top sources h.0 (be
     begins [] g = tt
     begins (w ∷ ws) g = file-yes w g.0
 asked-found (sim verilog stimulus) h = ap (λ t. cond (t && is_file stimulus) (Some (sim verilog stimulus)) None) (file-yes verilog h.0) ∙ ap (λ t. cond t (Some (sim verilog stimulus)) None) (file-yes stimulus h.1)
+asked-found (run_of waits top source stimulus) h =
+    let file = file-yes source h.2 in
+    ap (λ ws. ran (waited ws)) (append_assoc (waits_words waits) (top_words top) (source ∷ stimulus ∷ []))
+    ∙ ap ran (waits-found waits (top_words top ++ source ∷ stimulus ∷ []) h.0 (follows top source (stimulus ∷ []) file))
+    ∙ ap (file_pair (run_of waits)) (top-found top (source ∷ stimulus ∷ []) h.1 file)
+    ∙ ap (λ t. cond (t && is_file stimulus) (Some (run_of waits top source stimulus)) None) file ∙ ap (λ t. cond t (Some (run_of waits top source stimulus)) None) (file-yes stimulus h.3)
+asked-found (gen_of count) h = ap some_gen (count-found (decimal count) count (record { spelled = refl; some = h.0; few = h.1 }))
 
 -- one file behind the name of a top
 one-found : (f : Option (List ℕ) → List ℕ → Command) (ws : List (List ℕ)) (c : Command) → one_file f (topped ws) ≡ Some c
@@ -142,6 +219,86 @@ one-found f ws c e = go (topped ws) refl e
             file true y z = (t.top, source, is.spelled ∙ ap (λ us. top_words t.top ++ us) r, is.formed, file-word source y, (let same : f t.top source ≡ c = cc z in same))
             file false y z = cc z
         rest (source ∷ more ∷ us) r x = cc x
+
+compile-found : (ws : List (List ℕ)) (c : Command) → compiled (waited ws) ≡ Some c → Asks (codes "compile" ∷ ws) c
+compile-found ws c e = go (waited ws) refl e
+  where
+    go : (o : Option Waited) → waited ws ≡ o → compiled o ≡ Some c → Asks (codes "compile" ∷ ws) c
+    go None q g = cc g
+    go (Some t) q g =
+        let is = found-waits ws t q in
+        let f = one-found (compile t.waits) t.rest c g in
+        subst (Asks (codes "compile" ∷ ws)) f.5 (record {
+          spelled = ap (λ us. codes "compile" ∷ us) (is.spelled ∙ ap (λ us. waits_words t.waits ++ us) f.2 ∙ sym (append_assoc (waits_words t.waits) (top_words f.0) (f.1 ∷ [])));
+          formed = (is.formed, f.3, f.4);
+        })
+
+-- the form of a command with two files behind the name of a top
+pub record IsPair (f : Option (List ℕ) → List ℕ → List ℕ → Command) (ws : List (List ℕ)) (c : Command) : Type 0 where
+  pub top : Option (List ℕ)
+  pub source : List ℕ
+  pub stimulus : List ℕ
+  pub spelled : ws ≡ top_words top ++ source ∷ stimulus ∷ []
+  pub named : IsTop top
+  pub first : IsFileWord source
+  pub second : IsFileWord stimulus
+  pub is : f top source stimulus ≡ c
+
+pair-found : (f : Option (List ℕ) → List ℕ → List ℕ → Command) (ws : List (List ℕ)) (c : Command) → file_pair f (topped ws) ≡ Some c → IsPair f ws c
+pair-found f ws c e = go (topped ws) refl e
+  where
+    go : (o : Option Topped) → topped ws ≡ o → file_pair f o ≡ Some c → IsPair f ws c
+    go None q g = cc g
+    go (Some t) q g = rest t.rest refl g
+      where
+        is : IsTopped ws t
+        is = found-top ws t q
+
+        rest : (rs : List (List ℕ)) → t.rest ≡ rs → file_pair f (Some (record { top = t.top; rest = rs })) ≡ Some c → IsPair f ws c
+        rest [] r x = cc x
+        rest (source ∷ []) r x = cc x
+        rest (source ∷ stimulus ∷ []) r x = files (is_file source && is_file stimulus) refl x
+          where
+            files : (b : Bool) → (is_file source && is_file stimulus) ≡ b → cond b (Some (f t.top source stimulus)) None ≡ Some c → IsPair f ws c
+            files true y z =
+                let p = and-both (is_file source) (is_file stimulus) y in
+                record {
+                  top = t.top;
+                  source = source;
+                  stimulus = stimulus;
+                  spelled = is.spelled ∙ ap (λ us. top_words t.top ++ us) r;
+                  named = is.formed;
+                  first = file-word source p.0;
+                  second = file-word stimulus p.1;
+                  is = cc z;
+                }
+            files false y z = cc z
+        rest (source ∷ stimulus ∷ more ∷ us) r x = cc x
+
+run-found : (ws : List (List ℕ)) (c : Command) → ran (waited ws) ≡ Some c → Asks (codes "run" ∷ ws) c
+run-found ws c e = go (waited ws) refl e
+  where
+    go : (o : Option Waited) → waited ws ≡ o → ran o ≡ Some c → Asks (codes "run" ∷ ws) c
+    go None q g = cc g
+    go (Some t) q g =
+        let is = found-waits ws t q in
+        let f = pair-found (run_of t.waits) t.rest c g in
+        subst (Asks (codes "run" ∷ ws)) f.is (record {
+          spelled = ap (λ us. codes "run" ∷ us) (is.spelled ∙ ap (λ us. waits_words t.waits ++ us) f.spelled ∙ sym (append_assoc (waits_words t.waits) (top_words f.top) (f.source ∷ f.stimulus ∷ [])));
+          formed = (is.formed, f.named, f.first, f.second);
+        })
+
+gen-found : (ws : List (List ℕ)) (c : Command) → one_count ws ≡ Some c → Asks (codes "gen" ∷ ws) c
+gen-found [] c e = cc e
+gen-found (w ∷ []) c e = go (count_in w) refl e
+  where
+    go : (o : Option ℕ) → count_in w ≡ o → some_gen o ≡ Some c → Asks (codes "gen" ∷ w ∷ []) c
+    go None q g = cc g
+    go (Some n) q g =
+        let is = found-count w n q in
+        let same : gen_of n ≡ c = cc g in
+        subst (Asks (codes "gen" ∷ w ∷ [])) same (record { spelled = ap (λ v. codes "gen" ∷ v ∷ []) is.spelled; formed = (is.some, is.few) })
+gen-found (w ∷ v ∷ ws) c e = cc e
 
 some-found : (ws : List (List ℕ)) (c : Command) → some_files (topped ws) ≡ Some c → Asks (codes "check" ∷ ws) c
 some-found ws c e = go (topped ws) refl e
@@ -170,26 +327,47 @@ two-found (v ∷ s ∷ []) c e = go (is_file v && is_file s) refl e
     go false q g = cc g
 two-found (v ∷ s ∷ t ∷ ws) c e = cc e
 
+-- a first word that was found is the name of a command
+under : (name word : List ℕ) (rest : List (List ℕ)) (c : Command) → bytes_eq name word ≡ true → Asks (word ∷ rest) c → Asks (name ∷ rest) c
+under name word rest c q a = subst (λ n. Asks (n ∷ rest) c) (sym (same-text name word q)) a
+
+map-found : (ws : List (List ℕ)) (c : Command) → one_file map_of (topped ws) ≡ Some c → Asks (codes "map" ∷ ws) c
+map-found ws c e = let f = one-found map_of ws c e in subst (Asks (codes "map" ∷ ws)) f.5 (record { spelled = ap (λ us. codes "map" ∷ us) f.2; formed = (f.3, f.4) })
+
+-- one name of a command, or what comes behind it
+found-by : (name word : List ℕ) (rest : List (List ℕ)) (c : Command) (here other : Option Command) → (here ≡ Some c → Asks (word ∷ rest) c) → (other ≡ Some c → Asks (name ∷ rest) c)
+    → cond (bytes_eq name word) here other ≡ Some c → Asks (name ∷ rest) c
+found-by name word rest c here other found behind e = go (bytes_eq name word) refl e
+  where
+    go : (b : Bool) → bytes_eq name word ≡ b → cond b here other ≡ Some c → Asks (name ∷ rest) c
+    go true q f = under name word rest c q (found f)
+    go false q f = behind f
+
 -- what is found is asked for
 found-asked : (ws : List (List ℕ)) (c : Command) → found_in ws ≡ Some c → Asks ws c
 found-asked [] c e = cc e
-found-asked (name ∷ rest) c e = first (bytes_eq name (codes "compile")) refl e
+found-asked (name ∷ rest) c e =
+    found-by name (codes "compile") rest c (compiled (waited rest)) after-compile (compile-found rest c)
+    (found-by name (codes "map") rest c (one_file map_of (topped rest)) after-map (map-found rest c)
+    (found-by name (codes "check") rest c (some_files (topped rest)) after-check (some-found rest c)
+    (found-by name (codes "sim") rest c (two_files rest) after-sim (two-found rest c)
+    (found-by name (codes "run") rest c (ran (waited rest)) after-run (run-found rest c)
+    (found-by name (codes "gen") rest c (one_count rest) None (gen-found rest c) (λ x. cc x)))))) e
   where
-    fourth : (b : Bool) → bytes_eq name (codes "sim") ≡ b → cond b (two_files rest) None ≡ Some c → Asks (name ∷ rest) c
-    fourth true q g = subst (λ n. Asks (n ∷ rest) c) (sym (same-text name (codes "sim") q)) (two-found rest c g)
-    fourth false q g = cc g
+    after-run : Option Command
+    after-run = cond (bytes_eq name (codes "gen")) (one_count rest) None
 
-    third : (b : Bool) → bytes_eq name (codes "check") ≡ b → cond b (some_files (topped rest)) (cond (bytes_eq name (codes "sim")) (two_files rest) None) ≡ Some c → Asks (name ∷ rest) c
-    third true q g = subst (λ n. Asks (n ∷ rest) c) (sym (same-text name (codes "check") q)) (some-found rest c g)
-    third false q g = fourth (bytes_eq name (codes "sim")) refl g
+    after-sim : Option Command
+    after-sim = cond (bytes_eq name (codes "run")) (ran (waited rest)) after-run
 
-    second : (b : Bool) → bytes_eq name (codes "map") ≡ b → cond b (one_file map_of (topped rest)) (cond (bytes_eq name (codes "check")) (some_files (topped rest)) (cond (bytes_eq name (codes "sim")) (two_files rest) None)) ≡ Some c → Asks (name ∷ rest) c
-    second true q g = let f = one-found map_of rest c g in subst (λ n. Asks (n ∷ rest) c) (sym (same-text name (codes "map") q)) (subst (Asks (codes "map" ∷ rest)) f.5 (record { spelled = ap (λ us. codes "map" ∷ us) f.2; formed = (f.3, f.4) }))
-    second false q g = third (bytes_eq name (codes "check")) refl g
+    after-check : Option Command
+    after-check = cond (bytes_eq name (codes "sim")) (two_files rest) after-sim
 
-    first : (b : Bool) → bytes_eq name (codes "compile") ≡ b → cond b (one_file compile (topped rest)) (cond (bytes_eq name (codes "map")) (one_file map_of (topped rest)) (cond (bytes_eq name (codes "check")) (some_files (topped rest)) (cond (bytes_eq name (codes "sim")) (two_files rest) None))) ≡ Some c → Asks (name ∷ rest) c
-    first true q g = let f = one-found compile rest c g in subst (λ n. Asks (n ∷ rest) c) (sym (same-text name (codes "compile") q)) (subst (Asks (codes "compile" ∷ rest)) f.5 (record { spelled = ap (λ us. codes "compile" ∷ us) f.2; formed = (f.3, f.4) }))
-    first false q g = second (bytes_eq name (codes "map")) refl g
+    after-map : Option Command
+    after-map = cond (bytes_eq name (codes "check")) (some_files (topped rest)) after-check
+
+    after-compile : Option Command
+    after-compile = cond (bytes_eq name (codes "map")) (one_file map_of (topped rest)) after-map
 
 pub none-asked : (ws : List (List ℕ)) → found_in ws ≡ None → AsksNothing ws
 none-asked ws e c a = let bad : None ≡ Some c = sym e ∙ ap found_in a.spelled ∙ asked-found c a.formed in cc bad

@@ -1,8 +1,24 @@
 -- The command that is found in words.
-use Rattle.std.specs.Prelude.{ℕ, Bool, false, not, ◌&&◌, ◌==◌, cond, bytes_eq, nat_le, List, [], ◌∷◌, Option, None, Some, length, codes}
+use Rattle.std.specs.Prelude.{ℕ, Bool, false, not, ◌&&◌, ◌==◌, cond, bytes_eq, nat_le, List, [], ◌∷◌, Option, None, Some, length, codes, decimal}
 use Rattle.std.specs.List.{list_all}
+use Rattle.std.specs.Str.Parse.{digits_value}
 use Rattle.rdl_tree.specs.Words.{is_word}
-use Rattle.command_line.specs.Words.{Command, check, compile, map_of, sim}
+use Rattle.command_line.specs.Words.{Command, check, compile, gen_of, map_of, run_of, sim}
+
+-- the wait states, and the words behind them
+pub record Waited : Type 0 where
+  pub waits : Option ℕ
+  pub rest : List (List ℕ)
+
+abbrev pub counted : List (List ℕ) → Option Waited
+counted [] = None
+counted (number ∷ rest) =
+    cond (bytes_eq number (codes "0")) (Some (record { waits = Some 0; rest = rest }))
+    (cond (bytes_eq number (codes "1")) (Some (record { waits = Some 1; rest = rest })) None)
+
+abbrev pub waited : List (List ℕ) → Option Waited
+waited [] = Some (record { waits = None; rest = [] })
+waited (w ∷ ws) = cond (bytes_eq w (codes "--waits")) (counted ws) (Some (record { waits = None; rest = w ∷ ws }))
 
 -- the name of the top, and the words behind it
 pub record Topped : Type 0 where
@@ -33,6 +49,24 @@ one_file f (Some t) = go t.rest
     go (source ∷ []) = cond (is_file source) (Some (f t.top source)) None
     go _ = None
 
+-- two files behind the name of a top
+abbrev pub file_pair : (Option (List ℕ) → List ℕ → List ℕ → Command) → Option Topped → Option Command
+file_pair f None = None
+file_pair f (Some t) = go t.rest
+  where
+    go : List (List ℕ) → Option Command
+    go (source ∷ stimulus ∷ []) = cond (is_file source && is_file stimulus) (Some (f t.top source stimulus)) None
+    go _ = None
+
+-- what stands behind the wait states
+abbrev pub compiled : Option Waited → Option Command
+compiled None = None
+compiled (Some w) = one_file (compile w.waits) (topped w.rest)
+
+abbrev pub ran : Option Waited → Option Command
+ran None = None
+ran (Some w) = file_pair (run_of w.waits) (topped w.rest)
+
 abbrev pub some_files : Option Topped → Option Command
 some_files None = None
 some_files (Some t) = cond (are_files t.rest) (Some (check t.top t.rest)) None
@@ -41,10 +75,28 @@ abbrev pub two_files : List (List ℕ) → Option Command
 two_files (verilog ∷ stimulus ∷ []) = cond (is_file verilog && is_file stimulus) (Some (sim verilog stimulus)) None
 two_files _ = None
 
+-- the word is the decimal of the number, which is 1 to 8,192
+abbrev pub gives : List ℕ → ℕ → Bool
+gives word n = nat_le 1 n && nat_le n 8192 && bytes_eq (decimal n) word
+
+-- the number that a word gives
+abbrev pub count_in : List ℕ → Option ℕ
+count_in word = cond (gives word (digits_value 10 word)) (Some (digits_value 10 word)) None
+
+abbrev pub some_gen : Option ℕ → Option Command
+some_gen None = None
+some_gen (Some n) = Some (gen_of n)
+
+abbrev pub one_count : List (List ℕ) → Option Command
+one_count (word ∷ []) = some_gen (count_in word)
+one_count _ = None
+
 abbrev pub found_in : List (List ℕ) → Option Command
 found_in [] = None
 found_in (name ∷ rest) =
-    cond (bytes_eq name (codes "compile")) (one_file compile (topped rest))
+    cond (bytes_eq name (codes "compile")) (compiled (waited rest))
     (cond (bytes_eq name (codes "map")) (one_file map_of (topped rest))
     (cond (bytes_eq name (codes "check")) (some_files (topped rest))
-    (cond (bytes_eq name (codes "sim")) (two_files rest) None)))
+    (cond (bytes_eq name (codes "sim")) (two_files rest)
+    (cond (bytes_eq name (codes "run")) (ran (waited rest))
+    (cond (bytes_eq name (codes "gen")) (one_count rest) None)))))

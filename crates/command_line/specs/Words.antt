@@ -1,15 +1,27 @@
 -- What the words of a command line ask for.
-use Rattle.std.specs.Prelude.{◌≡◌, ◌≢◌, ℕ, ◌<◌, ◌≤◌, IsTrue, List, [], ◌∷◌, ◌++◌, All, Option, None, Some, length, map, slice_index, codes, String}
+use Rattle.std.specs.Prelude.{◌≡◌, ◌≢◌, ℕ, ◌<◌, ◌≤◌, IsTrue, List, [], ◌∷◌, ◌++◌, All, Option, None, Some, length, map, slice_index, codes, decimal, String}
 use Rattle.std.specs.String.{string_bytes}
 use Rattle.std.specs.declared.alloc.Global.{Global}
 use Rattle.rdl_tree.specs.Words.{is_word}
 
--- a command: the name of the top, where one is given, and the names of its files
+-- a command: the number of wait states and the name of the top, where they are given, and the names of its files; or a number of registers
 pub data Command : Type 0 where
-  compile : (top : Option (List ℕ)) (source : List ℕ) → Command
+  compile : (waits : Option ℕ) (top : Option (List ℕ)) (source : List ℕ) → Command
   check : (top : Option (List ℕ)) (sources : List (List ℕ)) → Command
   map_of : (top : Option (List ℕ)) (source : List ℕ) → Command
   sim : (verilog stimulus : List ℕ) → Command
+  run_of : (waits : Option ℕ) (top : Option (List ℕ)) (source stimulus : List ℕ) → Command
+  gen_of : (count : ℕ) → Command
+
+-- the wait states of a transfer: none, where no number is given
+abbrev pub waits_of : Option ℕ → ℕ
+waits_of None = 0
+waits_of (Some n) = n
+
+-- a transfer has no wait state, or one
+abbrev pub IsWaits : Option ℕ → Type 0
+IsWaits None = Unit {0}
+IsWaits (Some n) = n ≤ 1
 
 -- a word that names a file: it isn't empty and doesn't begin with a dash
 pub record IsFileWord (word : List ℕ) : Type 0 where
@@ -27,6 +39,11 @@ pub record AreFileWords (words : List (List ℕ)) : Type 0 where
   pub few : length words ≤ 64
   pub each : All IsFileWord words
 
+-- the words that give the wait states
+abbrev pub waits_words : Option ℕ → List (List ℕ)
+waits_words None = []
+waits_words (Some n) = codes "--waits" ∷ decimal n ∷ []
+
 -- the words that name the top
 abbrev pub top_words : Option (List ℕ) → List (List ℕ)
 top_words None = []
@@ -34,17 +51,21 @@ top_words (Some name) = codes "--top" ∷ name ∷ []
 
 -- the words of a command
 abbrev pub words_of : Command → List (List ℕ)
-words_of (compile top source) = codes "compile" ∷ top_words top ++ source ∷ []
+words_of (compile waits top source) = codes "compile" ∷ waits_words waits ++ top_words top ++ source ∷ []
 words_of (check top sources) = codes "check" ∷ top_words top ++ sources
 words_of (map_of top source) = codes "map" ∷ top_words top ++ source ∷ []
 words_of (sim verilog stimulus) = codes "sim" ∷ verilog ∷ stimulus ∷ []
+words_of (run_of waits top source stimulus) = codes "run" ∷ waits_words waits ++ top_words top ++ source ∷ stimulus ∷ []
+words_of (gen_of count) = codes "gen" ∷ decimal count ∷ []
 
--- the words that a command carries have their form
+-- what a command carries has its form
 abbrev pub IsCommand : Command → Type 0
-IsCommand (compile top source) = IsTop top × IsFileWord source
+IsCommand (compile waits top source) = IsWaits waits × IsTop top × IsFileWord source
 IsCommand (check top sources) = IsTop top × AreFileWords sources
 IsCommand (map_of top source) = IsTop top × IsFileWord source
 IsCommand (sim verilog stimulus) = IsFileWord verilog × IsFileWord stimulus
+IsCommand (run_of waits top source stimulus) = IsWaits waits × IsTop top × IsFileWord source × IsFileWord stimulus
+IsCommand (gen_of count) = (1 ≤ count) × (count ≤ 8192)
 
 -- the words ask for the command
 pub record Asks (words : List (List ℕ)) (command : Command) : Type 0 where

@@ -1,6 +1,8 @@
 //! What the words of a command line ask for.
 #![tactic(auto)]
 
+mod flags;
+mod forms;
 mod words;
 
 pub use words::{Command, command_of};

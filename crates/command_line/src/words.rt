@@ -1,130 +1,64 @@
 //! The words of a command line.
 
-ghost use Rattle.std.specs.Prelude.{◌≡◌, IsTrue, MatchOption, option_copied};
-ghost use Rattle.std.specs.List.{list_all};
-ghost use Rattle.std.specs.String.{string_bytes};
-ghost use Rattle.rdl_tree.specs.Words as rdl;
+ghost use Rattle.std.specs.Prelude.{◌≡◌, MatchOption};
 ghost use Rattle.command_line.specs.Words.{Asks, AsksNothing, texts};
 ghost use Rattle.command_line.specs.Words as commands;
 ghost use Rattle.command_line.specs.Found as found;
-ghost use Rattle.command_line.specs.Command.{view, view_all, view_top};
+ghost use Rattle.command_line.specs.Command.{view, view_all};
+
+use crate::flags::{top_of, waits_of};
+use crate::forms::{are_files, count_of, is_file};
 
 /// What the words of a command line ask for.
 #[derive(Clone, Copy, Debug, PartialEq, Eq)]
 pub enum Command<'w> {
+    /// The module of a source; `waits` is the number of wait states, 0 or 1, where it is written.
     Compile {
+        waits: Option<u8>,
         top: Option<&'w str>,
         source: &'w str,
     },
+    /// The verdicts of 1 to 64 sources.
     Check {
         top: Option<&'w str>,
         sources: &'w [String],
     },
+    /// The address table of a source.
     Map {
         top: Option<&'w str>,
         source: &'w str,
     },
+    /// The run of a module.
     Sim {
         verilog: &'w str,
         stimulus: &'w str,
     },
+    /// The run of the register machine that a source describes; `waits` as for `Compile`.
+    Run {
+        waits: Option<u8>,
+        top: Option<&'w str>,
+        source: &'w str,
+        stimulus: &'w str,
+    },
+    /// A source of as many registers, 1 to 8,192.
+    Gen {
+        count: u32,
+    },
 }
 
-// The name of the top, and the words behind it.
-#[derive(Clone, Copy)]
-struct Topped<'w> {
-    top: Option<&'w str>,
-    rest: &'w [String],
-}
-
-fn is_file(word: &str) -> bool
-    ensures { result ≡ found.is_file word.now }
-{
-    match word.as_bytes() {
-        [] => false,
-        [first, ..] => *first != b'-',
-    }
-}
-
-fn is_in_word(byte: u8) -> bool
-    ensures { result ≡ rdl.is_in_word byte }
-{
-    byte.is_ascii_alphanumeric() || byte == b'_'
-}
-
-fn are_in_word(bytes: &[u8]) -> bool
-    ensures { result ≡ list_all rdl.is_in_word bytes.now }
-{
-    for byte in bytes {
-        if !is_in_word(*byte) {
-            return false;
-        }
-    }
-    true
-}
-
-fn is_word(word: &str) -> bool
-    ensures { result ≡ rdl.is_word word.now }
-{
-    match word.as_bytes() {
-        [] => false,
-        [first, rest @ ..] => (first.is_ascii_alphabetic() || *first == b'_') && are_in_word(rest),
-    }
-}
-
-fn name_files(words: &[String]) -> bool
-    ensures { result ≡ list_all (λ word. found.is_file (string_bytes word)) words.now }
-{
-    for word in words {
-        if !is_file(word.as_str()) {
-            return false;
-        }
-    }
-    true
-}
-
-fn are_files(words: &[String]) -> bool
-    ensures { result ≡ found.are_files (texts words.now) }
-{
-    if words.is_empty() || words.len() > 64 {
-        return false;
-    }
-    name_files(words)
-}
-
-fn named(words: &[String]) -> Option<Topped<'_>>
-    ensures { view_top result ≡ found.named (texts words.now) }
-{
-    match words {
-        [name, rest @ ..] if is_word(name.as_str()) => Some(Topped {
-            top: Some(name.as_str()),
-            rest,
-        }),
-        _ => None,
-    }
-}
-
-fn top_of(words: &[String]) -> Option<Topped<'_>>
-    ensures { view_top result ≡ found.topped (texts words.now) }
-{
-    match words {
-        [flag, rest @ ..] if flag.as_str() == "--top" => named(rest),
-        _ => Some(Topped {
-            top: None,
-            rest: words,
-        }),
-    }
-}
-
-// The file of `compile`, with the name of the top.
+// The file of `compile`, with the wait states and the name of the top.
 fn compile_of(words: &[String]) -> Option<Command<'_>>
-    ensures { view_all result ≡ found.one_file commands.compile (found.topped (texts words.now)) }
+    ensures { view_all result ≡ found.compiled (found.waited (texts words.now)) }
 {
-    let Some(topped) = top_of(words) else {
+    let Some(waited) = waits_of(words) else {
+        return None;
+    };
+    let Some(topped) = top_of(waited.rest) else {
         return None;
     };
     match topped.rest {
         [source] if is_file(source.as_str()) => Some(Command::Compile {
+            waits: waited.waits,
             top: topped.top,
             source: source.as_str(),
         }),
@@ -132,7 +66,7 @@ fn compile_of(words: &[String]) -> Option<Command<'_>>
     }
 }
 
-// The file of `map`, likewise.
+// The file of `map`, with the name of the top.
 fn map_of(words: &[String]) -> Option<Command<'_>>
     ensures { view_all result ≡ found.one_file commands.map_of (found.topped (texts words.now)) }
 {
@@ -179,6 +113,49 @@ fn sim_of(words: &[String]) -> Option<Command<'_>>
     }
 }
 
+// The files of `run`, behind its wait states.
+fn run_behind(waits: Option<u8>, words: &[String]) -> Option<Command<'_>>
+    ensures { view_all result ≡ found.file_pair (commands.run_of waits) (found.topped (texts words.now)) }
+{
+    let Some(topped) = top_of(words) else {
+        return None;
+    };
+    match topped.rest {
+        [source, stimulus] if is_file(source.as_str()) && is_file(stimulus.as_str()) => {
+            Some(Command::Run {
+                waits,
+                top: topped.top,
+                source: source.as_str(),
+                stimulus: stimulus.as_str(),
+            })
+        }
+        _ => None,
+    }
+}
+
+// The files of `run`, with the wait states and the name of the top.
+fn run_of(words: &[String]) -> Option<Command<'_>>
+    ensures { view_all result ≡ found.ran (found.waited (texts words.now)) }
+{
+    match waits_of(words) {
+        Some(waited) => run_behind(waited.waits, waited.rest),
+        None => None,
+    }
+}
+
+// The number of `gen`.
+fn gen_of(words: &[String]) -> Option<Command<'_>>
+    ensures { view_all result ≡ found.one_count (texts words.now) }
+{
+    let [word] = words else {
+        return None;
+    };
+    match count_of(word.as_str()) {
+        Some(count) => Some(Command::Gen { count }),
+        None => None,
+    }
+}
+
 // The command that the words name.
 fn named_by(words: &[String]) -> Option<Command<'_>>
     ensures { view_all result ≡ found.found_in (texts words.now) }
@@ -198,10 +175,17 @@ fn named_by(words: &[String]) -> Option<Command<'_>>
     if name.as_str() == "sim" {
         return sim_of(rest);
     }
+    if name.as_str() == "run" {
+        return run_of(rest);
+    }
+    if name.as_str() == "gen" {
+        return gen_of(rest);
+    }
     None
 }
 
-/// The command of the words, if there is one.
+/// The command of the words behind the program's name, if there is one: `compile` and `run` take `--waits` with 0 or 1 and then `--top` with
+/// a name, `check` and `map` take `--top`, and `gen` takes a number from 1 to 8,192 in decimal without leading zeros. All other words are none.
 pub fn command_of(words: &[String]) -> Option<Command<'_>>
     ensures { MatchOption result (AsksNothing (texts words.now)) (λ command. Asks (texts words.now) (view command)) }
 {
