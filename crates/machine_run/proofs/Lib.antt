@@ -1,0 +1,5 @@
+pub mod Fitting
+pub mod Tables
+mod Watching
+mod Keeping
+mod Running
