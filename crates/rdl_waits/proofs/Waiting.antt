@@ -1,6 +1,6 @@
 -- A sound block is sound with any number of wait states that there are.
-use Rattle.std.proofs.Common.{◌≡◌, ℕ, ◌≤◌, ◌+◌, zero, suc, Option, None, Some, List, [], ◌∷◌, AllPairs, refl, sym, ◌∙◌, subst}
-use Rattle.std.specs.List.{enumerate_from, AllByRecursion}
+use Rattle.std.proofs.Common.{◌≡◌, ℕ, ◌≤◌, Option, None, Some, List, [], ◌∷◌, refl, sym, ◌∙◌, subst}
+use Rattle.std.specs.List.{enumerate_from}
 use Rattle.rb_model.specs.declared.kinds.RefItem.{RefItem}
 use Rattle.rb_model.specs.declared.kinds.RefItem.TheVariants as item
 use Rattle.rb_model.specs.declared.block.Block.{Block}
@@ -75,7 +75,7 @@ module _ (waits : ℕ) (b : Block) where
     bits = wide 1 _ h.bits;
     pulses = some _ _ f.count (λ c both. (some _ _ c.up (λ p. wide 1 _) both.0, some _ _ c.down (λ p. wide 1 _) both.1)) h.pulses;
     amounts = some _ _ f.count (λ c both. (some _ _ c.up (λ p. within f.width _) both.0, some _ _ c.down (λ p. within f.width _) both.1)) h.amounts;
-    levels = some _ _ f.count (λ c all. (some _ _ c.high (λ l. within f.width _) all.0, (some _ _ c.low (λ l. within f.width _) all.1.0, within f.width _ all.1.1))) h.levels;
+    levels = some _ _ f.count (λ c all. (some _ _ c.high (λ l. within f.width _) all.0, some _ _ c.low (λ l. within f.width _) all.1, within f.width _ all.2)) h.levels;
   }
 
   field : (f : ℕ × Field) → FieldIsSoundIn b f → FieldIsSoundIn now f
