@@ -1,6 +1,6 @@
 -- A block stays sound, and its source's, with another number of wait states.
-use Rattle.std.proofs.Common.{◌≡◌, ℕ, ◌≤◌, List, [], ◌∷◌, Option, refl}
-use Rattle.std.specs.List.{AllPairs, enumerate_from}
+use Rattle.std.proofs.Common.{ℕ, ◌≤◌, List, [], ◌∷◌, Option, refl}
+use Rattle.std.specs.List.{enumerate_from}
 use Rattle.rb_model.specs.declared.block.Block.{Block}
 use Rattle.rb_model.specs.declared.block.Field.{Field}
 use Rattle.rb_model.specs.declared.block.View.{View}
