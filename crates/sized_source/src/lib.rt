@@ -1,4 +1,4 @@
-//! A source of a wanted size, and its summary (this project's format).
+//! Sources of any number of registers, to measure with.
 #![tactic(auto)]
 
 mod lines;

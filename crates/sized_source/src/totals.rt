@@ -1,21 +1,20 @@
-//! The summary of a source.
+//! What a source of a number of registers has.
 
-ghost use Rattle.std.specs.Prelude.{◌≡◌, ◌≤◌, IfOk};
+ghost use Rattle.std.specs.Prelude.{◌≡◌, IfOk};
 ghost use Rattle.sized_source.specs.Source.{summary_of};
 
 use rb_base::NoMemory;
 use std::alloc::Global;
 
-/// A line with how many registers and fields a source has, how many ports its module, and how many bytes the text of that
-/// module. `count` is at most 8,192. The only error is want of memory.
+/// The line that sums up a source of `count` registers: how many registers and fields it has, how many ports its module has, and how many
+/// bytes the text of that module. The only error is want of memory.
 pub fn summary(alloc: Global, count: u32, bytes: u64) -> Result<Vec<u8>, NoMemory>
-    requires { count ≤ 8192 }
-    ensures { IfOk result (λ text. text.items ≡ summary_of count bytes) }
+    ensures { IfOk result (λ line. line.items ≡ summary_of count bytes) }
 {
-    let fields = 3 * count;
-    let ports = 10 + 4 * count;
-    let text = format!(in alloc;
+    let fields = 3 * u64::from(count);
+    let ports = 10 + 4 * u64::from(count);
+    let line = format!(in alloc;
         "registers {count} fields {fields} ports {ports} bytes {bytes}\n"
     )?;
-    Ok(text.into_bytes())
+    Ok(line.into_bytes())
 }
