@@ -1,10 +1,10 @@
 -- A table whose vectors keep the protocol has no problem, and breaks it nowhere.
-use Rattle.std.proofs.Common.{◌≡◌, ℕ, zero, suc, ◌+◌, Ok, Err, List, [], ◌∷◌, take, map, sym, ◌∙◌, subst}
+use Rattle.std.proofs.Common.{◌≡◌, ℕ, zero, suc, ◌+◌, Ok, Err, List, [], ◌∷◌, take, sym, ◌∙◌, subst}
 use Rattle.rb_model.specs.declared.block.Block.{Block}
 use Rattle.rb_model.specs.Protocol.{Bus, Phase, IDLE, idle, KeepsFrom, KeepsProtocol, bus_of, phase_after}
 use Rattle.rb_model.specs.Run.{pins_of}
 use Rattle.rb_model.specs.Agreement.{buses}
-use Rattle.machine_run.specs.Runs.{IsBreak, IsFitFor, IsProblem, table_for}
+use Rattle.machine_run.specs.Runs.{IsBreak, IsFitFor, IsProblem}
 
 -- so do the first of the vectors
 keeps_first : (b : Block) (last : Phase) (before : Bus) (n : ℕ) (vectors : List (List ℕ)) → KeepsFrom b.waits last before (buses b vectors) → KeepsFrom b.waits last before (buses b (take n vectors))

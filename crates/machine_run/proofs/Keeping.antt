@@ -1,6 +1,5 @@
 -- Which vectors keep the bus protocol, a vector at a time.
-use Rattle.std.proofs.Common.{◌≡◌, ◌≢◌, ◌⊎◌, ℕ, ◌+◌, ◌<◌, ◌≤◌, ◌==◌, Bool, true, false, not, ◌&&◌, ◌||◌, if◌then◌else◌, List, [], ◌∷◌, ◌++◌, length, get_or, take, map, refl, ap, sym, ◌∙◌, subst, arith, inl, inr}
-use Rattle.std.proofs.lemmas.Bool.{and_parts}
+use Rattle.std.proofs.Common.{◌≡◌, ◌≢◌, ℕ, ◌+◌, ◌<◌, ◌≤◌, ◌==◌, Bool, true, false, not, ◌&&◌, ◌||◌, if◌then◌else◌, List, [], ◌∷◌, ◌++◌, length, get_or, take, refl, ap, sym, ◌∙◌, subst, arith, inl, inr}
 use Rattle.std.proofs.lemmas.List.{take_more, map-append, take_all}
 use Rattle.rb_model.specs.declared.block.Block.{Block}
 use Rattle.rb_model.specs.Protocol.{Bus, Phase, IDLE, SETUP, WAIT, ACCESS, AreHeld, IsKeptIdle, IsKeptIn, IsUnderWay, KeepsFrom, KeepsProtocol, bus_of, idle, is_wait, last_before_access, phase_after}
@@ -43,9 +42,9 @@ tells_same c P Q f g h = record { holds = λ e. f (h.holds e); fails = λ e q. h
 tells_held : (before now : Bus) → Tells (are_held before now) (AreHeld before now)
 tells_held before now =
     let parts = tells_both (now.address == before.address && now.write == before.write) (not (now.write == 1) || now.data_in == before.data_in)
-        ((now.address ≡ before.address) × (now.write ≡ before.write)) (now.write ≡ 1 → now.data_in ≡ before.data_in)
-        (tells_both (now.address == before.address) (now.write == before.write) (now.address ≡ before.address) (now.write ≡ before.write) (tells_equal now.address before.address) (tells_equal now.write before.write))
-        (tells_where (now.write == 1) (now.data_in == before.data_in) (now.write ≡ 1) (now.data_in ≡ before.data_in) (tells_equal now.write 1) (tells_equal now.data_in before.data_in)) in
+    ((now.address ≡ before.address) × (now.write ≡ before.write)) (now.write ≡ 1 → now.data_in ≡ before.data_in)
+    (tells_both (now.address == before.address) (now.write == before.write) (now.address ≡ before.address) (now.write ≡ before.write) (tells_equal now.address before.address) (tells_equal now.write before.write))
+    (tells_where (now.write == 1) (now.data_in == before.data_in) (now.write ≡ 1) (now.data_in ≡ before.data_in) (tells_equal now.write 1) (tells_equal now.data_in before.data_in)) in
     tells_same (are_held before now) (((now.address ≡ before.address) × (now.write ≡ before.write)) × (now.write ≡ 1 → now.data_in ≡ before.data_in)) (AreHeld before now)
     (λ h. record { address = h.0.0; write = h.0.1; data_in = h.1 }) (λ h. ((h.address, h.write), h.data_in)) parts
 

@@ -2,4 +2,4 @@ pub mod Fitting
 pub mod Tables
 mod Watching
 mod Keeping
-mod Running
+mod Runs

@@ -1,11 +1,11 @@
 -- The run of a block's machine as that of a module which agrees with the block.
-use Rattle.std.proofs.Common.{◌≡◌, ℕ, ◌^◌, ◌<◌, Ok, List, length, refl, ap, sym, ◌∙◌}
+use Rattle.std.proofs.Common.{ℕ, List, length, get_or, refl, ap, sym, ◌∙◌}
 use Rattle.std.proofs.lemmas.Nat.{pow_pos}
 use Rattle.rb_base.specs.declared.ports.Port.{Port}
 use Rattle.v_design.specs.Design.{inputs_among, module_of, outputs_among}
 use Rattle.rb_model.specs.declared.block.Block.{Block}
 use Rattle.rb_model.specs.Agreement.{Agrees}
-use Rattle.rb_model.specs.Kept.{Fits, register_width}
+use Rattle.rb_model.specs.Kept.{Fits, kept, register_width}
 use Rattle.rb_model.specs.Sound.{IsSound}
 use Rattle.stim_csv.specs.PinTable.{table_of, records_of}
 use Rattle.run_text.specs.Printed.{printed_run}
@@ -15,7 +15,7 @@ use Rattle.machine_run.specs.Runs.{IsRunOf, zeros}
 use Rattle.machine_run.proofs.Tables.{tables_fit}
 
 zeros_fit : (b : Block) → Fits b zeros
-zeros_fit b k d within = pow_pos (register_width b d)
+zeros_fit b k d within = pow_pos (register_width b (get_or (kept b) k d))
 
 pub agree : (b : Block) (verilog stimulus text : List ℕ) → IsSound b → Agrees verilog b → IsRunOf b stimulus text → IsSimulated verilog stimulus text
 agree b verilog stimulus text sound agrees of = record {

@@ -61,10 +61,7 @@ fn a_break_is_told_by_its_row(rt: HostRuntime) -> Result<(), Fail> {
 fn a_table_is_judged_before_the_protocol(rt: HostRuntime) -> Result<(), Fail> {
     let block = one_register(rt.alloc(), 0)?;
     let tables: [(&str, &str); 5] = [
-        (
-            "PRESETn,PADDR,PENABLE,PWRITE,PWDATA\n",
-            "pin PSEL missing",
-        ),
+        ("PRESETn,PADDR,PENABLE,PWRITE,PWDATA\n", "pin PSEL missing"),
         (
             "PRESETn,PADDR,PSEL,PENABLE,PWRITE,PWDATA,PCLK\n",
             "column 6: unknown pin",
@@ -83,8 +80,7 @@ fn a_table_is_judged_before_the_protocol(rt: HostRuntime) -> Result<(), Fail> {
         ),
     ];
     for (table, wanted) in tables {
-        let Err(RunError::Stimulus(text)) = run_machine(rt.alloc(), &block, table.as_bytes())
-        else {
+        let Err(RunError::Stimulus(text)) = run_machine(rt.alloc(), &block, table.as_bytes()) else {
             return Err(Fail::new("a problem of the table"));
         };
         assert_eq!(rt; text.as_slice(), wanted.as_bytes());
