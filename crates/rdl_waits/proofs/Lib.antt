@@ -1,1 +1,1 @@
-pub mod Waiting
+mod Waiting
