@@ -134,7 +134,6 @@ module _ (fails : NoModuleFails) where
   fit_judged files (sim file table) (verilog ∷ []) status texts fit read judged = absurd read.1
   fit_judged files (sim file table) (verilog ∷ stimulus ∷ []) status texts fit read judged = fit_run file table verilog stimulus status texts (fit verilog stimulus read.0.held read.1.0.held) judged
   fit_judged files (sim file table) (verilog ∷ stimulus ∷ a ∷ more) status texts fit read judged = absurd read.1.1
-
   fit_judged files (run_of waits top file table) [] status texts fit read judged = absurd read
   fit_judged files (run_of waits top file table) (source ∷ []) status texts fit read judged = absurd read.1
   fit_judged files (run_of waits top file table) (source ∷ stimulus ∷ []) status texts fit read judged = fit_ran waits top file table source stimulus status texts (fit source stimulus read.0.held read.1.0.held) judged

@@ -2,6 +2,7 @@
 
 ghost use Rattle.std.specs.Prelude.{◌≡◌, ◌≢◌, ◌≤◌, [], length, take, IfOk, option_copied};
 ghost use Rattle.command_line.specs.Words.{IsWaits, waits_of};
+ghost use Rattle.rdl_waits.specs.Waits.{with_waits};
 ghost use Rattle.verdict_text.specs.Lines.{verdict_lines};
 ghost use Rattle.regblock.specs.Outcome.{source_limit};
 ghost use Rattle.regblock.specs.Described.{IsFoundFor};
@@ -11,7 +12,7 @@ use crate::answer::Answer;
 use bumpalo::Bump;
 use rb_base::{Fault, NoMemory};
 use rb_model::Block;
-use rdl_verdict::{JudgeError, judge};
+use rdl_verdict::{JudgeError, Judged, judge};
 use rdl_waits::described_with_waits;
 use std::alloc::Global;
 use verdict_text::push_verdict;
@@ -50,6 +51,15 @@ fn wait_states(waits: Option<u8>) -> u8
     }
 }
 
+// The block of a source, with the wait states that the words name.
+fn waiting(judged: Judged<'_>, waits: Option<u8>) -> Block
+    ensures { result ≡ with_waits (waits_of waits) judged.entry.block }
+{
+    let mut block = judged.block;
+    block.waits = wait_states(waits);
+    block
+}
+
 /// The block that a source describes, with so many wait states. The trees that it is judged by are gone after that.
 pub(crate) fn describe_source(
     alloc: Global,
@@ -65,11 +75,7 @@ pub(crate) fn describe_source(
     described_with_waits();
     let arena = Bump::new(alloc);
     match judge(alloc, &arena, source, top) {
-        Ok(judged) => {
-            let mut block = judged.block;
-            block.waits = wait_states(waits);
-            Ok(Described::Clean(block))
-        }
+        Ok(judged) => Ok(Described::Clean(waiting(judged, waits))),
         Err(JudgeError::Faults(faults)) => {
             let answer = refusal(alloc, file, source, &faults)?;
             Ok(Described::Stopped(answer))

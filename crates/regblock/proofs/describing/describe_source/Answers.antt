@@ -1,11 +1,27 @@
-use Rattle.std.proofs.Common.{List, option_copied, take, ap, ◌∙◌, subst}
+use Rattle.std.proofs.Common.{ℕ, ◌≤◌, List, Option, None, Some, option_copied, take, ap, sym, ◌∙◌, subst, arith}
 use Rattle.rb_base.specs.declared.fault.Fault.{Fault}
 use Rattle.verdict_text.specs.Lines.{verdict_lines}
 use Rattle.rdl_verdict.specs.Answers.{Refuses}
 use Rattle.rdl_verdict.specs.declared.error.JudgeError.{JudgeError}
+use Rattle.command_line.specs.Words.{IsWaits, waits_of}
+use Rattle.rdl_waits.specs.Waits.{IsDescribedWith}
 use Rattle.regblock.specs.Answer.{texts_of}
 use Rattle.regblock.proofs.Rows.{first_told}
 use Rattle.regblock.proofs.describing.describe_source.Goals as goal
+
+few : (waits : Option ℕ) → IsWaits waits → waits_of waits ≤ 1
+few None h = omega arith
+few (Some n) h = h
+
+pub returns-in-Ok : goal.returns-in-Ok
+returns-in-Ok c =
+    let j = c.in-Ok.judged in
+    let n = waits_of c.args.waits in
+    let top = option_copied c.args.top in
+    let source = c.args.source.now in
+    let tree = j.elab.source.now in
+    let described = c.described_with_waits.ensures top source tree j.block n (few c.args.waits c.requires.waits) c.in-Ok.ensures.described in
+    (tree, subst (IsDescribedWith top source tree n) (sym c.waiting.ensures) described)
 
 pub returns-in-Err-Faults : goal.returns-in-Err-Faults
 returns-in-Err-Faults c =
