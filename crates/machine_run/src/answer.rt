@@ -1,4 +1,4 @@
-//! A block and a table, from its bytes to a run.
+//! A block and the bytes of a table, to a run.
 
 ghost use Rattle.std.specs.Prelude.{◌≡◌, Ok, IfOk, IfErr};
 ghost use Rattle.rb_model.specs.Ports.{input_pins};
@@ -15,11 +15,12 @@ use run_text::problem_text;
 use std::alloc::Global;
 use stim_csv::Stimulus;
 
-/// The run of a block's register machine from zeros over a table of pin values, as text: the names of its outputs as a
-/// line, and a line of numbers for each vector.
+/// The run of a block's register machine from zeros over a table of pin values, as text: the names of its outputs, in port
+/// order, as a line, and for each vector a line of their numbers.
 ///
-/// The table is judged first, and then all of its rows by the bus protocol (IHI 0024B), before anything is run. After want of
-/// memory there is no text.
+/// The table is judged first, for all inputs but PCLK, and then all of its rows by the bus protocol (IHI 0024B), before anything
+/// is run. The text of `RunError::Stimulus` tells the first problem of the table, and `RunError::Protocol` the first row that
+/// breaks the protocol. Want of memory may be answered in place of anything, and then there is no text.
 pub fn run_machine(alloc: Global, block: &Block, stimulus: &[u8]) -> Result<Vec<u8>, RunError>
     requires { IsSound block.now }
     ensures ok { IfOk result (λ text. IsRunOf block.now stimulus.now text.items) }
