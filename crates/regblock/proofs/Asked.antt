@@ -1,5 +1,5 @@
 -- The outcome for words that ask for a command.
-use Rattle.std.proofs.Common.{◌≡◌, ⊎_elim, ℕ, List, Option, subst}
+use Rattle.std.proofs.Common.{⊎_elim, ℕ, List, Option, subst}
 use Rattle.rb_edge.specs.Shelf.{Files}
 use Rattle.command_line.specs.Words.{Command, Asks}
 use Rattle.command_line.proofs.Asking.{one-command}

@@ -1,7 +1,7 @@
 -- What a run is to write, as a text or as a netlist.
 use Rattle.std.specs.Prelude.{[], ⊤}
 use Rattle.v_printer.specs.Layout.{text_of}
-use Rattle.v_printer.specs.TextOf.{IsWhole}
+use Rattle.v_printer.specs.TextOf.{IsTextOf, IsWhole}
 use Rattle.regblock.specs.declared.answer.Reply.{Reply}
 use Rattle.regblock.specs.declared.answer.Reply.TheVariants.{Text, Module}
 use Rattle.regblock.specs.declared.status.Status.{Status}
@@ -22,3 +22,8 @@ told_by (Module net) = record { err = []; out = text_of net }
 abbrev pub IsPrintable : Reply → Type 0
 IsPrintable (Text answer) = ⊤
 IsPrintable (Module net) = IsWhole net
+
+-- the text of a netlist is a module of it, which printing it ensures
+abbrev pub HasText : Reply → Type 0
+HasText (Text answer) = ⊤
+HasText (Module net) = IsTextOf net (text_of net)

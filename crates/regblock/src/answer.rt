@@ -28,7 +28,7 @@ pub enum Reply {
 }
 
 ghost use Rattle.regblock.specs.Answer.{texts_of};
-ghost use Rattle.regblock.specs.Reply.{IsPrintable, status_of, told_by};
+ghost use Rattle.regblock.specs.Reply.{HasText, IsPrintable, status_of, told_by};
 
 // A text about a file, as a line on err.
 pub(crate) fn notice(
@@ -97,7 +97,8 @@ impl Reply {
     /// Writes the text for err and then that for out. It takes no memory.
     pub fn write<O: Sink, E: Sink>(&self, out: &mut O, err: &mut E) -> Status
         requires { IsPrintable self.now }
-        ensures { ((result ≡ status_of self.now) × TookAll (passage E.told E.faults err.old err.new) (told_by self.now).err × TookAll (passage O.told O.faults out.old out.new) (told_by self.now).out)
+        ensures text { HasText self.now }
+        ensures written { ((result ≡ status_of self.now) × TookAll (passage E.told E.faults err.old err.new) (told_by self.now).err × TookAll (passage O.told O.faults out.old out.new) (told_by self.now).out)
             ⊎ ((result ≡ Status.WriteFault) × IsCutShort (passage E.told E.faults err.old err.new) (passage O.told O.faults out.old out.new) (told_by self.now)) }
     {
         match self {

@@ -3,7 +3,7 @@
 ghost use Rattle.std.specs.Prelude.{◌≡◌, ◌≤◌, ℕ, List, IfOk};
 ghost use Rattle.command_line.specs.Words.{AsksNothing, texts};
 ghost use Rattle.regblock.specs.Outcome.{FailedRead, Outcome};
-ghost use Rattle.regblock.specs.Reply.{IsPrintable, status_of, told_by};
+ghost use Rattle.regblock.specs.Reply.{HasText, IsPrintable, status_of, told_by};
 
 use crate::answer::{Reply, usage_answer};
 use crate::checking::check_files;
@@ -22,7 +22,7 @@ pub(crate) fn answer_words<S: Shelf>(
     words: &[String],
     shelf: &mut S,
 ) -> Result<Reply, NoMemory>
-    ensures outcome { IfOk result (λ reply. Outcome (texts words.now) (S.contents shelf.old) (FailedRead S.faults shelf.old shelf.new) (status_of reply) (told_by reply)) }
+    ensures outcome { IfOk result (λ reply. HasText reply → Outcome (texts words.now) (S.contents shelf.old) (FailedRead S.faults shelf.old shelf.new) (status_of reply) (told_by reply)) }
     ensures printable { IfOk result IsPrintable }
     ensures unchanged { S.contents shelf.new ≡ S.contents shelf.old }
     ensures later { (any : List ℕ) → S.faults shelf.old any ≤ S.faults shelf.new any }

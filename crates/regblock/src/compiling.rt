@@ -4,7 +4,7 @@ ghost use Rattle.std.specs.Prelude.{◌≡◌, ◌≤◌, ◌∷◌, [], ℕ, Li
 ghost use Rattle.command_line.specs.Words.{compile, map_of, IsWaits};
 ghost use Rattle.regblock.specs.Outcome.{FailedRead, Judges, Answers, source_limit};
 ghost use Rattle.regblock.specs.Answer.{texts_of};
-ghost use Rattle.regblock.specs.Reply.{IsPrintable, status_of, told_by};
+ghost use Rattle.regblock.specs.Reply.{HasText, IsPrintable, status_of, told_by};
 
 use crate::answer::{Answer, Reply, done};
 use crate::describing::{Described, describe_source};
@@ -25,7 +25,7 @@ fn compile_source(
 ) -> Result<Reply, NoMemory>
     requires short { length source.now ≤ source_limit }
     requires waits { IsWaits waits }
-    ensures judged { IfOk result (λ reply. Judges (compile waits (option_copied top.entry) file.now) (source.now ∷ []) (status_of reply) (told_by reply)) }
+    ensures judged { IfOk result (λ reply. HasText reply → Judges (compile waits (option_copied top.entry) file.now) (source.now ∷ []) (status_of reply) (told_by reply)) }
     ensures printable { IfOk result IsPrintable }
 {
     match describe_source(alloc, waits, top, file, source)? {
@@ -65,7 +65,7 @@ pub(crate) fn compile_file<S: Shelf>(
     file: &str,
 ) -> Result<Reply, NoMemory>
     requires { IsWaits waits }
-    ensures answers { IfOk result (λ reply. Answers (S.contents shelf.old) (FailedRead S.faults shelf.old shelf.new) (compile waits (option_copied top.entry) file.now) (status_of reply) (told_by reply)) }
+    ensures answers { IfOk result (λ reply. HasText reply → Answers (S.contents shelf.old) (FailedRead S.faults shelf.old shelf.new) (compile waits (option_copied top.entry) file.now) (status_of reply) (told_by reply)) }
     ensures printable { IfOk result IsPrintable }
     ensures unchanged { S.contents shelf.new ≡ S.contents shelf.old }
     ensures later { (any : List ℕ) → S.faults shelf.old any ≤ S.faults shelf.new any }

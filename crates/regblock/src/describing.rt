@@ -25,11 +25,11 @@ pub(crate) enum Described {
 }
 
 // The line of the first rule that a source breaks.
-fn refusal(alloc: Global, file: &str, source: &[u8], faults: &[Fault]) -> Result<Answer, NoMemory>
+fn refusal(alloc: Global, file: &str, source: &[u8], faults: Vec<Fault>) -> Result<Answer, NoMemory>
     requires short { length source.now ≤ source_limit }
-    requires some { faults.now ≢ [] }
+    requires some { faults.items ≢ [] }
     ensures status { IfOk result (λ answer. answer.status ≡ Status.Refused) }
-    ensures err { IfOk result (λ answer. answer.err.items ≡ verdict_lines file.now source.now (take 1 faults.now)) }
+    ensures err { IfOk result (λ answer. answer.err.items ≡ verdict_lines file.now source.now (take 1 faults.items)) }
     ensures out { IfOk result (λ answer. answer.out.items ≡ []) }
 {
     let mut err = Vec::new(alloc);
@@ -77,7 +77,7 @@ pub(crate) fn describe_source(
     match judge(alloc, &arena, source, top) {
         Ok(judged) => Ok(Described::Clean(waiting(judged, waits))),
         Err(JudgeError::Faults(faults)) => {
-            let answer = refusal(alloc, file, source, &faults)?;
+            let answer = refusal(alloc, file, source, faults)?;
             Ok(Described::Stopped(answer))
         }
         Err(JudgeError::NoMemory) => Err(NoMemory),

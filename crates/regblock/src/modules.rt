@@ -4,7 +4,7 @@ ghost use Rattle.std.specs.Prelude.{IfOk};
 ghost use Rattle.rb_model.specs.Agreement.{Agrees};
 ghost use Rattle.rb_model.specs.Sound.{IsSound};
 ghost use Rattle.v_printer.specs.Layout.{text_of};
-ghost use Rattle.v_printer.specs.TextOf.{IsWhole};
+ghost use Rattle.v_printer.specs.TextOf.{IsTextOf, IsWhole};
 
 use gen_apb::apb;
 use gen_text::text_agrees;
@@ -13,15 +13,14 @@ use rb_model::Block;
 use rtl_net::Netlist;
 use std::alloc::Global;
 
-/// The netlist of a module that agrees with a block, behind an APB slave port (IHI 0024B). The only error is want of memory.
+/// The netlist of a module that agrees with a block, behind an APB slave port (IHI 0024B). That its text is one of its module
+/// is what printing it ensures. The only error is want of memory.
 pub(crate) fn module_net(alloc: Global, block: &Block) -> Result<Netlist, NoMemory>
     requires { IsSound block.now }
     ensures whole { IfOk result IsWhole }
-    ensures agrees { IfOk result (λ net. Agrees (text_of net) block.now) }
+    ensures agrees { IfOk result (λ net. IsTextOf net (text_of net) → Agrees (text_of net) block.now) }
 {
     text_agrees();
     let net = apb(alloc, block)?;
-    // The proof cites what holds of each netlist, which it knows where the nodes are read.
-    let _nodes = net.nodes();
     Ok(net)
 }

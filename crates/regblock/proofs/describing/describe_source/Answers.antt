@@ -1,6 +1,4 @@
-use Rattle.std.proofs.Common.{ℕ, ◌≤◌, List, Option, None, Some, option_copied, take, ap, sym, ◌∙◌, subst, arith}
-use Rattle.rb_base.specs.declared.fault.Fault.{Fault}
-use Rattle.verdict_text.specs.Lines.{verdict_lines}
+use Rattle.std.proofs.Common.{ℕ, ◌≤◌, Option, None, Some, option_copied, sym, subst, arith}
 use Rattle.rdl_verdict.specs.Answers.{Refuses}
 use Rattle.rdl_verdict.specs.declared.error.JudgeError.{JudgeError}
 use Rattle.command_line.specs.Words.{IsWaits, waits_of}
@@ -31,5 +29,4 @@ returns-in-Err-Faults c =
     let file = c.args.file.now in
     let source = c.args.source.now in
     let refused = subst (λ (e : JudgeError). Refuses top source e) c.in-Err-Faults.field-0-is c.in-Err-Faults.ensures in
-    let err = told.err ∙ ap (λ (fs : List Fault). verdict_lines file source (take 1 fs)) c.deref.ensures.value in
-    (told.status, first_told top file source c.in-Err-Faults.faults.items (texts_of answer) refused (err, told.out))
+    (told.status, first_told top file source c.in-Err-Faults.faults.items (texts_of answer) refused (rw c.in-Err-Faults.field-0-is at told.err, told.out))

@@ -8,7 +8,7 @@ use Rattle.regblock.proofs.MachineRuns.{ran, not_run, unfit, protocol, generated
 use Rattle.regblock.proofs.top_call.run.Goals as goal
 
 pub returns-in-Ok-clause-ends : goal.returns-in-Ok-clause-ends
-returns-in-Ok-clause-ends g c = Ends-written _ _ _ _ _ _ _ _ c.in-Ok.ensures.outcome c.write.ensures
+returns-in-Ok-clause-ends g c = Ends-written _ _ _ _ _ _ _ _ (c.in-Ok.ensures.outcome c.write.ensures.text) c.write.ensures.written
 
 pub returns-in-Ok-clause-done : goal.returns-in-Ok-clause-done
 returns-in-Ok-clause-done g c = done _ _ _ _ _ _ (returns-in-Ok-clause-ends g c)
