@@ -11,6 +11,7 @@ ghost use Rattle.rdl_tree.specs.Tree.{IsMark, IsName, DerivesProp, DerivesExpr, 
 ghost use Rattle.rdl_expressions.specs.Following.{after_indices, after_path, after_primary, after_binary, after_expr, operands, more_steps, brackets_or_name, flag_or_other, behind_name, Adds, AddsStep, ClosesIndex, IsPair, IsPick, TakesOperator, IsLooser};
 
 use crate::parser::{Parser, Sort, add};
+use crate::rooms::Run;
 use bumpalo::Bump;
 use bumpalo::collections::into_bump_slice;
 use rb_base::{Keyword, Place};
@@ -287,7 +288,7 @@ impl<'a> Parser<'a> {
         ensures reads { OnOk result (Same grammar after_path (Many (Non rules.Index) ∷ more_steps ∷ []) self.old [] self.new) }
         ensures stops { result ≡ Err Stop.Syntax → Stops grammar after_path (Many (Non rules.Index) ∷ more_steps ∷ []) self.old self.new }
     {
-        let mut steps = Vec::new(self.arena);
+        let mut steps = self.room(Run::Steps);
         self.add_step(&mut steps, first)?;
         'more: while let Some(_) = self.mark(Mark::Dot) {
             let name = self.expect_name()?;
@@ -316,7 +317,7 @@ impl<'a> Parser<'a> {
         ensures reads { OnOk result (Same grammar after_indices (Many (Non rules.Index) ∷ []) self.old [] self.new) }
         ensures stops { result ≡ Err Stop.Syntax → Stops grammar after_indices (Many (Non rules.Index) ∷ []) self.old self.new }
     {
-        let mut index = Vec::new(self.arena);
+        let mut index = self.room(Run::Indices);
         'more: while let Some(_) = self.mark(Mark::OpenBracket) {
             self.add_index(&mut index)?;
         }

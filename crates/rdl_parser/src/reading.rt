@@ -76,6 +76,25 @@ fn rule_of(left: &[Token<'_>]) -> Rule
     }
 }
 
+// About how many tokens a source has: its runs of letters and digits, and its other bytes but white space.
+fn count_tokens(src: &[u8]) -> usize {
+    let mut count: usize = 0;
+    let mut is_in_word = false;
+    for byte in src {
+        let is_of_word = byte.is_ascii_alphanumeric() || *byte == b'_';
+        let begins = if is_of_word {
+            !is_in_word
+        } else {
+            !byte.is_ascii_whitespace()
+        };
+        if begins {
+            count = count.saturating_add(1);
+        }
+        is_in_word = is_of_word;
+    }
+    count
+}
+
 // All tokens of a source.
 fn tokens<'a>(arena: &'a Bump, src: &'a [u8]) -> Result<&'a [Token<'a>], ParseError>
     requires { length src.now < 2 ^ 32 - 1 }
@@ -83,7 +102,7 @@ fn tokens<'a>(arena: &'a Bump, src: &'a [u8]) -> Result<&'a [Token<'a>], ParseEr
     ensures fault { IfErr result (λ e. e ≢ ParseError.NoMemory → HasError src.now e) }
 {
     let mut lexer = Lexer::new(src);
-    let mut tokens = Vec::new(arena);
+    let mut tokens = Vec::with_capacity(arena, count_tokens(src))?;
     'more: loop {
         match lexer.next() {
             Ok(Some(token)) => tokens.push(token)?,
