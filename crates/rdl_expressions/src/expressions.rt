@@ -16,7 +16,8 @@ use bumpalo::Bump;
 use bumpalo::collections::into_bump_slice;
 use rb_base::{Keyword, Place};
 use rb_grammar::Stop;
-use rdl_tree::{Expr, Mark, Name, Op, Path, Step, Terminal, Token, TokenKind};
+use rdl_depth::CompactToken;
+use rdl_tree::{Expr, Mark, Name, Op, Path, Step, Terminal, TokenKind};
 
 // The operator of a mark.
 fn operator_of(mark: Mark) -> Option<Op>
@@ -71,8 +72,9 @@ impl<'a> Parser<'a> {
     fn operator(&mut self, least: u8) -> Option<(Op, Place)>
         ensures { MatchOption result ((self.new ≡ self.old) × IsLooser least self.old) (λ o. TakesOperator least self.old self.new o.0 o.1) }
     {
-        let all: &'a [Token<'a>] = self.rest;
-        let first = *all.first()?;
+        let all: &'a [CompactToken<'a>] = self.rest;
+        let next = all.first()?;
+        let first = next.token();
         let TokenKind::Mark(mark) = first.kind else {
             return None;
         };

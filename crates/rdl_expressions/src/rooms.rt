@@ -4,7 +4,8 @@ ghost use Rattle.std.specs.Prelude.{◌≡◌, []};
 
 use crate::parser::Parser;
 use bumpalo::Bump;
-use rdl_tree::{Mark, Token, TokenKind};
+use rdl_depth::CompactToken;
+use rdl_tree::{Mark, TokenKind};
 
 /// What the tokens of a list are.
 #[derive(Clone, Copy)]
@@ -22,12 +23,12 @@ pub enum Run {
 }
 
 // How many of these marks stand outside brackets, up to the bracket that closes, a ";" or a mark with nothing before it.
-fn count_marks(tokens: &[Token<'_>], wanted: Mark) -> usize {
+fn count_marks(tokens: &[CompactToken<'_>], wanted: Mark) -> usize {
     let mut depth: usize = 0;
     let mut count: usize = 0;
     let mut is_empty = true;
     for token in tokens {
-        let TokenKind::Mark(mark) = token.kind else {
+        let TokenKind::Mark(mark) = token.token().kind else {
             is_empty = false;
             continue;
         };
@@ -61,10 +62,10 @@ fn count_marks(tokens: &[Token<'_>], wanted: Mark) -> usize {
 }
 
 // How many dots stand between names alone.
-fn count_dots(tokens: &[Token<'_>]) -> usize {
+fn count_dots(tokens: &[CompactToken<'_>]) -> usize {
     let mut count: usize = 0;
     for token in tokens {
-        match token.kind {
+        match token.token().kind {
             TokenKind::Mark(Mark::Dot) => count = count.saturating_add(1),
             TokenKind::Word => {}
             _ => return count,
@@ -74,13 +75,13 @@ fn count_dots(tokens: &[Token<'_>]) -> usize {
 }
 
 // About how many the list at the front has.
-fn count(tokens: &[Token<'_>], run: Run) -> usize {
+fn count(tokens: &[CompactToken<'_>], run: Run) -> usize {
     match run {
         Run::Ended => count_marks(tokens, Mark::Semicolon),
         Run::Parted => count_marks(tokens, Mark::Comma).saturating_add(1),
         Run::Steps => count_dots(tokens).saturating_add(1),
         Run::Indices => match tokens.first() {
-            Some(token) if token.kind == TokenKind::Mark(Mark::OpenBracket) => 1,
+            Some(token) if token.token().kind == TokenKind::Mark(Mark::OpenBracket) => 1,
             _ => 0,
         },
         Run::One => 1,

@@ -57,7 +57,7 @@ fn is_at<'a>(parser: &Parser<'a>, terminal: Terminal) -> bool
     ensures { result ≡ at grammar terminal parser.now }
 {
     match parser.rest.first() {
-        Some(token) => token.is(terminal),
+        Some(token) => token.token().is(terminal),
         None => false,
     }
 }
@@ -69,7 +69,7 @@ fn next_role<'a>(parser: &Parser<'a>) -> Role
     let Some(token) = parser.rest.first() else {
         return Role::Made;
     };
-    match token.kind {
+    match token.token().kind {
         TokenKind::Mark(Mark::Equals | Mark::Semicolon) => Role::Local,
         TokenKind::Mark(Mark::OpenBracket | Mark::Dot | Mark::Arrow) => Role::Dynamic,
         _ => Role::Made,

@@ -104,7 +104,7 @@ fn place<'a>(parser: &Parser<'a>) -> Option<Place>
     ensures { MatchOption result (parser.now ≡ []) (StartsAt parser.now) }
 {
     let first = parser.rest.first()?;
-    Some(first.place)
+    Some(first.token().place)
 }
 
 /// A local assignment at the place where it begins.
