@@ -4,6 +4,7 @@ ghost use Rattle.std.specs.Prelude.{◌≡◌, ◌≤◌, ◌<◌, ℕ, Bool, �
 ghost use Rattle.rdl_depth.specs.Depth.{Depth, start, deeper, effect, IsWithin, StaysWithin, IsFirstTooDeep};
 ghost use Rattle.rdl_depth.specs.Depth as depths;
 
+use crate::compact::CompactToken;
 use bumpalo::Bump;
 use rdl_tree::{Mark, Token, TokenKind};
 use std::alloc::AllocFailed;
@@ -129,13 +130,13 @@ fn effect_of(token: &Token<'_>) -> Effect
 /// The index of the first token that nests too deep (this project's rule).
 pub fn first_too_deep(
     arena: &Bump,
-    tokens: &[Token<'_>],
+    tokens: &[CompactToken<'_>],
 ) -> Result<Option<usize>, AllocFailed<Level>>
     ensures { IfOk result (λ deep. MatchOption deep (StaysWithin tokens.now) (IsFirstTooDeep tokens.now)) }
 {
     let mut nest = Nest::new(arena);
     for (i, token) in tokens.iter().enumerate() {
-        nest.pass(effect_of(token))?;
+        nest.pass(effect_of(&token.token()))?;
         if !nest.is_within() {
             return Ok(Some(i));
         }

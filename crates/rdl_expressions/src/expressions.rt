@@ -11,11 +11,13 @@ ghost use Rattle.rdl_tree.specs.Tree.{IsMark, IsName, DerivesProp, DerivesExpr, 
 ghost use Rattle.rdl_expressions.specs.Following.{after_indices, after_path, after_primary, after_binary, after_expr, operands, more_steps, brackets_or_name, flag_or_other, behind_name, Adds, AddsStep, ClosesIndex, IsPair, IsPick, TakesOperator, IsLooser};
 
 use crate::parser::{Parser, Sort, add};
+use crate::rooms::Run;
 use bumpalo::Bump;
 use bumpalo::collections::into_bump_slice;
 use rb_base::{Keyword, Place};
 use rb_grammar::Stop;
-use rdl_tree::{Expr, Mark, Name, Op, Path, Step, Terminal, Token, TokenKind};
+use rdl_depth::CompactToken;
+use rdl_tree::{Expr, Mark, Name, Op, Path, Step, Terminal, TokenKind};
 
 // The operator of a mark.
 fn operator_of(mark: Mark) -> Option<Op>
@@ -70,8 +72,9 @@ impl<'a> Parser<'a> {
     fn operator(&mut self, least: u8) -> Option<(Op, Place)>
         ensures { MatchOption result ((self.new ≡ self.old) × IsLooser least self.old) (λ o. TakesOperator least self.old self.new o.0 o.1) }
     {
-        let all: &'a [Token<'a>] = self.rest;
-        let first = *all.first()?;
+        let all: &'a [CompactToken<'a>] = self.rest;
+        let next = all.first()?;
+        let first = next.token();
         let TokenKind::Mark(mark) = first.kind else {
             return None;
         };
@@ -287,7 +290,7 @@ impl<'a> Parser<'a> {
         ensures reads { OnOk result (Same grammar after_path (Many (Non rules.Index) ∷ more_steps ∷ []) self.old [] self.new) }
         ensures stops { result ≡ Err Stop.Syntax → Stops grammar after_path (Many (Non rules.Index) ∷ more_steps ∷ []) self.old self.new }
     {
-        let mut steps = Vec::new(self.arena);
+        let mut steps = self.room(Run::Steps);
         self.add_step(&mut steps, first)?;
         'more: while let Some(_) = self.mark(Mark::Dot) {
             let name = self.expect_name()?;
@@ -316,7 +319,7 @@ impl<'a> Parser<'a> {
         ensures reads { OnOk result (Same grammar after_indices (Many (Non rules.Index) ∷ []) self.old [] self.new) }
         ensures stops { result ≡ Err Stop.Syntax → Stops grammar after_indices (Many (Non rules.Index) ∷ []) self.old self.new }
     {
-        let mut index = Vec::new(self.arena);
+        let mut index = self.room(Run::Indices);
         'more: while let Some(_) = self.mark(Mark::OpenBracket) {
             self.add_index(&mut index)?;
         }

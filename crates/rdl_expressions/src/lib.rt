@@ -3,5 +3,7 @@
 
 mod expressions;
 mod parser;
+mod rooms;
 
 pub use parser::{Parser, Sort, add};
+pub use rooms::Run;

@@ -11,6 +11,7 @@ ghost use Rattle.rdl_expressions.specs.Following.{TakesNumber, is_kind, is_type,
 use bumpalo::Bump;
 use rb_base::{Keyword, Place};
 use rb_grammar::Stop;
+use rdl_depth::CompactToken;
 use rdl_tree::{Mark, Name, Terminal, Token, TokenKind};
 use std::marker::Model;
 
@@ -100,7 +101,7 @@ fn is_value(word: Keyword) -> bool
 #[derive(Drop)]
 pub struct Parser<'a> {
     pub arena: &'a Bump,
-    pub rest: &'a [Token<'a>],
+    pub rest: &'a [CompactToken<'a>],
 }
 
 impl<'a> Model for Parser<'a> {
@@ -126,8 +127,9 @@ impl<'a> Parser<'a> {
     pub fn eat(&mut self, terminal: Terminal) -> Option<Token<'a>>
         ensures { MatchOption result (Misses grammar terminal self.old self.new) (λ t. Takes grammar terminal self.old t self.new) }
     {
-        let all: &'a [Token<'a>] = self.rest;
-        let first = *all.first()?;
+        let all: &'a [CompactToken<'a>] = self.rest;
+        let next = all.first()?;
+        let first = next.token();
         if first.is(terminal) {
             self.rest = &all[1..];
             Some(first)
@@ -192,8 +194,9 @@ impl<'a> Parser<'a> {
     pub fn word_of(&mut self, sort: Sort) -> Option<(Keyword, Token<'a>)>
         ensures { MatchOption result (LacksWords sort self.old self.new) (λ w. TakesWord sort self.old self.new w.0 w.1) }
     {
-        let all: &'a [Token<'a>] = self.rest;
-        let first = *all.first()?;
+        let all: &'a [CompactToken<'a>] = self.rest;
+        let next = all.first()?;
+        let first = next.token();
         let TokenKind::Reserved(word) = first.kind else {
             return None;
         };

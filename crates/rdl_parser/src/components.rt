@@ -20,7 +20,7 @@ use bumpalo::Bump;
 use bumpalo::collections::into_bump_slice;
 use rb_base::{Keyword, Place};
 use rb_grammar::Stop;
-use rdl_expressions::{Parser, Sort, add};
+use rdl_expressions::{Parser, Run, Sort, add};
 use rdl_tree::{Def, Insts, Item, Kind, Mark, Name, Terminal, TokenKind};
 
 /// What an item is that begins with a name.
@@ -57,7 +57,7 @@ fn is_at<'a>(parser: &Parser<'a>, terminal: Terminal) -> bool
     ensures { result ≡ at grammar terminal parser.now }
 {
     match parser.rest.first() {
-        Some(token) => token.is(terminal),
+        Some(token) => token.token().is(terminal),
         None => false,
     }
 }
@@ -69,7 +69,7 @@ fn next_role<'a>(parser: &Parser<'a>) -> Role
     let Some(token) = parser.rest.first() else {
         return Role::Made;
     };
-    match token.kind {
+    match token.token().kind {
         TokenKind::Mark(Mark::Equals | Mark::Semicolon) => Role::Local,
         TokenKind::Mark(Mark::OpenBracket | Mark::Dot | Mark::Arrow) => Role::Dynamic,
         _ => Role::Made,
@@ -298,7 +298,7 @@ fn body<'a>(parser: &mut Parser<'a>) -> Result<&'a [Item<'a>], Stop>
     ensures stops { result ≡ Err Stop.Syntax → Stops grammar [] (Non rules.Body ∷ []) parser.old parser.new }
 {
     let _open = parser.expect(Mark::OpenBrace)?;
-    let mut items = Vec::new(parser.arena);
+    let mut items = parser.room(Run::Ended);
     'more: loop {
         if let Some(_) = parser.mark(Mark::CloseBrace) {
             return Ok(into_bump_slice(items));
@@ -358,7 +358,7 @@ pub fn source<'a>(parser: &mut Parser<'a>) -> Result<&'a [Item<'a>], Stop>
     ensures whole { OnOk result (parser.new ≡ []) }
     ensures stops { result ≡ Err Stop.Syntax → StopsAt grammar (Non rules.Source) parser.old parser.new }
 {
-    let mut items = Vec::new(parser.arena);
+    let mut items = parser.room(Run::Ended);
     'more: while !is_done(parser) {
         add_item(parser, &mut items)?;
     }

@@ -16,7 +16,7 @@ use bumpalo::Bump;
 use bumpalo::collections::into_bump_slice;
 use rb_base::Keyword;
 use rb_grammar::Stop;
-use rdl_expressions::{Parser, Sort, add};
+use rdl_expressions::{Parser, Run, Sort, add};
 use rdl_tree::{Arg, Expr, Inst, Insts, Mark, PType, Param};
 
 /// The dimensions or the range of an instance.
@@ -58,7 +58,7 @@ fn dims<'a>(parser: &mut Parser<'a>, first: Expr<'a>) -> Result<&'a [Expr<'a>], 
     ensures stops { result ≡ Err Stop.Syntax → Stops grammar after_indices (mark marks.CloseBracket ∷ Many (Non rules.Index) ∷ []) parser.old parser.new }
 {
     let _end = parser.expect(Mark::CloseBracket)?;
-    let mut dims = Vec::new(parser.arena);
+    let mut dims = parser.room(Run::One);
     add(&mut dims, first)?;
     'more: while let Some(_) = parser.mark(Mark::OpenBracket) {
         parser.add_index(&mut dims)?;
@@ -120,7 +120,7 @@ pub fn inst_list<'a>(parser: &mut Parser<'a>) -> Result<&'a [Inst<'a>], Stop>
     ensures reads { OnOk result (Same grammar after_insts (Non rules.InstList ∷ []) parser.old [] parser.new) }
     ensures stops { result ≡ Err Stop.Syntax → Stops grammar after_insts (Non rules.InstList ∷ []) parser.old parser.new }
 {
-    let mut list = Vec::new(parser.arena);
+    let mut list = parser.room(Run::Parted);
     add_inst(parser, &mut list)?;
     'more: while let Some(_) = parser.mark(Mark::Comma) {
         add_inst(parser, &mut list)?;
@@ -175,7 +175,7 @@ fn arg_list<'a>(parser: &mut Parser<'a>) -> Result<&'a [Arg<'a>], Stop>
     ensures reads { OnOk result (Same grammar after_args (Non rules.Arg ∷ Many (mark marks.Comma then Non rules.Arg) ∷ []) parser.old [] parser.new) }
     ensures stops { result ≡ Err Stop.Syntax → Stops grammar after_args (Non rules.Arg ∷ Many (mark marks.Comma then Non rules.Arg) ∷ []) parser.old parser.new }
 {
-    let mut list = Vec::new(parser.arena);
+    let mut list = parser.room(Run::Parted);
     add_arg(parser, &mut list)?;
     'more: while let Some(_) = parser.mark(Mark::Comma) {
         add_arg(parser, &mut list)?;
@@ -262,7 +262,7 @@ fn param_list<'a>(parser: &mut Parser<'a>) -> Result<&'a [Param<'a>], Stop>
     ensures reads { OnOk result (Same grammar after_params (Non rules.Param ∷ Many (mark marks.Comma then Non rules.Param) ∷ []) parser.old [] parser.new) }
     ensures stops { result ≡ Err Stop.Syntax → Stops grammar after_params (Non rules.Param ∷ Many (mark marks.Comma then Non rules.Param) ∷ []) parser.old parser.new }
 {
-    let mut list = Vec::new(parser.arena);
+    let mut list = parser.room(Run::Parted);
     add_param(parser, &mut list)?;
     'more: while let Some(_) = parser.mark(Mark::Comma) {
         add_param(parser, &mut list)?;

@@ -17,7 +17,7 @@ use bumpalo::Bump;
 use bumpalo::collections::into_bump_slice;
 use rb_base::{Edge, Keyword, Place};
 use rb_grammar::Stop;
-use rdl_expressions::{Parser, Sort, add};
+use rdl_expressions::{Parser, Run, Sort, add};
 use rdl_tree::{Entry, Given, Item, Mark, Name, Set};
 
 // What stands before a property.
@@ -104,7 +104,7 @@ fn place<'a>(parser: &Parser<'a>) -> Option<Place>
     ensures { MatchOption result (parser.now ≡ []) (StartsAt parser.now) }
 {
     let first = parser.rest.first()?;
-    Some(first.place)
+    Some(first.token().place)
 }
 
 /// A local assignment at the place where it begins.
@@ -129,7 +129,7 @@ fn sets<'a>(parser: &mut Parser<'a>) -> Result<&'a [Set<'a>], Stop>
     let Some(_) = parser.mark(Mark::OpenBrace) else {
         return Ok(&[]);
     };
-    let mut sets = Vec::new(parser.arena);
+    let mut sets = parser.room(Run::Ended);
     'more: loop {
         if let Some(_) = parser.mark(Mark::CloseBrace) {
             return Ok(into_bump_slice(sets));
@@ -187,7 +187,7 @@ fn entries<'a>(parser: &mut Parser<'a>) -> Result<&'a [Entry<'a>], Stop>
     ensures reads { OnOk result (Same grammar [] (Many (Non rules.Entry) ∷ (mark marks.CloseBrace then mark marks.Semicolon) ∷ []) parser.old [] parser.new) }
     ensures stops { result ≡ Err Stop.Syntax → Stops grammar [] (Many (Non rules.Entry) ∷ (mark marks.CloseBrace then mark marks.Semicolon) ∷ []) parser.old parser.new }
 {
-    let mut entries = Vec::new(parser.arena);
+    let mut entries = parser.room(Run::Ended);
     'more: loop {
         if let Some(_) = parser.mark(Mark::CloseBrace) {
             let _end = parser.expect(Mark::Semicolon)?;

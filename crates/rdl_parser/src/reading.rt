@@ -12,24 +12,24 @@ use bumpalo::Bump;
 use bumpalo::collections::into_bump_slice;
 use rb_base::{Keyword, Place, Rule};
 use rb_grammar::Stop;
-use rdl_depth::first_too_deep;
+use rdl_depth::{CompactToken, first_too_deep};
 use rdl_expressions::Parser;
 use rdl_lexer::Lexer;
-use rdl_tree::{Item, Mark, Source, Token, TokenKind};
+use rdl_tree::{Item, Mark, Source, TokenKind};
 
 /// Why tokens are not read: these are left where they stop being a source, or memory was refused.
 #[derive(Clone, Copy)]
 pub enum Unread<'a> {
-    Syntax(&'a [Token<'a>]),
+    Syntax(&'a [CompactToken<'a>]),
     NoMemory,
 }
 
 // The place of the next token, or the end.
-fn place_of(left: &[Token<'_>], end: Place) -> Place
+fn place_of(left: &[CompactToken<'_>], end: Place) -> Place
     ensures { result ≡ place_of left.now end }
 {
     match left.first() {
-        Some(token) => token.place,
+        Some(token) => token.token().place,
         None => end,
     }
 }
@@ -63,30 +63,49 @@ fn word_rule(word: Keyword) -> Rule
 }
 
 // The rule that is broken where these tokens are left.
-fn rule_of(left: &[Token<'_>]) -> Rule
+fn rule_of(left: &[CompactToken<'_>]) -> Rule
     ensures { result ≡ rule_of left.now }
 {
     let Some(token) = left.first() else {
         return Rule::S1;
     };
-    match token.kind {
+    match token.token().kind {
         TokenKind::Mark(mark) => mark_rule(mark),
         TokenKind::Reserved(word) => word_rule(word),
         _ => Rule::S1,
     }
 }
 
+// About how many tokens a source has: its runs of letters and digits, and its other bytes but white space.
+fn count_tokens(src: &[u8]) -> usize {
+    let mut count: usize = 0;
+    let mut is_in_word = false;
+    for byte in src {
+        let is_of_word = byte.is_ascii_alphanumeric() || *byte == b'_';
+        let begins = if is_of_word {
+            !is_in_word
+        } else {
+            !byte.is_ascii_whitespace()
+        };
+        if begins {
+            count = count.saturating_add(1);
+        }
+        is_in_word = is_of_word;
+    }
+    count
+}
+
 // All tokens of a source.
-fn tokens<'a>(arena: &'a Bump, src: &'a [u8]) -> Result<&'a [Token<'a>], ParseError>
+fn tokens<'a>(arena: &'a Bump, src: &'a [u8]) -> Result<&'a [CompactToken<'a>], ParseError>
     requires { length src.now < 2 ^ 32 - 1 }
     ensures spells { IfOk result (λ ts. SpellsTokens src.now ts.now) }
     ensures fault { IfErr result (λ e. e ≢ ParseError.NoMemory → HasError src.now e) }
 {
     let mut lexer = Lexer::new(src);
-    let mut tokens = Vec::new(arena);
+    let mut tokens = Vec::with_capacity(arena, count_tokens(src))?;
     'more: loop {
         match lexer.next() {
-            Ok(Some(token)) => tokens.push(token)?,
+            Ok(Some(token)) => tokens.push(CompactToken::pack(token))?,
             Ok(None) => return Ok(into_bump_slice(tokens)),
             Err(fault) => return Err(ParseError::Lex(fault)),
         }
@@ -94,7 +113,7 @@ fn tokens<'a>(arena: &'a Bump, src: &'a [u8]) -> Result<&'a [Token<'a>], ParseEr
 }
 
 // The items that all tokens derive.
-fn read<'a>(arena: &'a Bump, tokens: &'a [Token<'a>]) -> Result<&'a [Item<'a>], Unread<'a>>
+fn read<'a>(arena: &'a Bump, tokens: &'a [CompactToken<'a>]) -> Result<&'a [Item<'a>], Unread<'a>>
     ensures tree { IfOk result (λ is. DerivesItems tokens.now [] is.now) }
     ensures stops { IfErr result (StopsThere tokens.now) }
 {
@@ -110,7 +129,7 @@ fn read<'a>(arena: &'a Bump, tokens: &'a [Token<'a>]) -> Result<&'a [Item<'a>], 
 }
 
 // The error where the tokens stop being a source before these.
-fn wrong(left: &[Token<'_>], end: Place) -> ParseError
+fn wrong(left: &[CompactToken<'_>], end: Place) -> ParseError
     ensures { result ≡ ParseError.Syntax (place_of left.now end) (rule_of left.now) }
 {
     ParseError::Syntax {
@@ -122,7 +141,7 @@ fn wrong(left: &[Token<'_>], end: Place) -> ParseError
 // The items of tokens, of which none nests too deep.
 fn read_all<'a>(
     arena: &'a Bump,
-    tokens: &'a [Token<'a>],
+    tokens: &'a [CompactToken<'a>],
     end: Place,
 ) -> Result<&'a [Item<'a>], ParseError>
     requires { StaysWithin tokens.now }
@@ -137,7 +156,12 @@ fn read_all<'a>(
 }
 
 // The error of tokens, of which the one at the index is the first that nests too deep.
-fn read_cut<'a>(arena: &'a Bump, tokens: &'a [Token<'a>], deep: usize, end: Place) -> ParseError
+fn read_cut<'a>(
+    arena: &'a Bump,
+    tokens: &'a [CompactToken<'a>],
+    deep: usize,
+    end: Place,
+) -> ParseError
     requires { IsFirstTooDeep tokens.now deep }
     ensures { IsJudged tokens.now end result }
 {
@@ -155,7 +179,7 @@ fn read_cut<'a>(arena: &'a Bump, tokens: &'a [Token<'a>], deep: usize, end: Plac
 // The items of tokens, or their error.
 fn items<'a>(
     arena: &'a Bump,
-    tokens: &'a [Token<'a>],
+    tokens: &'a [CompactToken<'a>],
     end: Place,
 ) -> Result<&'a [Item<'a>], ParseError>
     ensures tree { IfOk result (λ is. DerivesItems tokens.now [] is.now) }

@@ -74,7 +74,7 @@ body-returns-in_err-_open-clause-stops t c = λ h. entering ⟫| halting right c
 
 pub body-more-init : goal.body-more-init
 body-more-init t c = record {
-  tree = λ us vs u is d i. rw c.new-items.ensures.items (tree.body c.in_ok-_open.ensures.ok d i);
+  tree = λ us vs u is d i. rw c.room-items.ensures (tree.body c.in_ok-_open.ensures.ok d i);
   reads = entering ⟫ taking right c.in_ok-_open.ensures.ok refl;
   shorter = omega (arith, ap length c.in_ok-_open.ensures.ok.list);
 }

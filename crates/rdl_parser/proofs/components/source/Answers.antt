@@ -6,7 +6,7 @@ use Rattle.rdl_parser.proofs.components.source.Goals as goal
 
 pub more-init : goal.more-init
 more-init c = record {
-  tree = λ us is d. rw c.new-items.ensures.items d;
+  tree = λ us is d. rw c.room-items.ensures d;
   leads = leads_on _;
 }
 

@@ -10,7 +10,7 @@ returns-in_err-add_arg-clause-stops c = λ h. calling_stops right (c.in_err-add_
 
 pub more-init : goal.more-init
 more-init c = let a = c.in_ok-add_arg.ensures.tree in record {
-  tree = λ us xs d. rw (a.list, c.new-list.ensures.items) (listed_from a.derives d);
+  tree = λ us xs d. rw (a.list, c.room-list.ensures) (listed_from a.derives d);
   reads = calling right c.in_ok-add_arg.ensures.reads refl;
 }
 

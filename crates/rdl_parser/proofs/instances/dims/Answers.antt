@@ -12,7 +12,7 @@ returns-in_err-_end-clause-stops c = λ h. halting right c.in_err-_end.ensures.e
 
 pub more-init : goal.more-init
 more-init c = record {
-  tree = λ t ts us vs es i d r. rw (c.in_ok-add.ensures.items, c.new-dims.ensures.items) (tree.next_index i d c.in_ok-_end.ensures.ok r);
+  tree = λ t ts us vs es i d r. rw (c.in_ok-add.ensures.items, c.room-dims.ensures) (tree.next_index i d c.in_ok-_end.ensures.ok r);
   reads = taking right c.in_ok-_end.ensures.ok refl;
 }
 

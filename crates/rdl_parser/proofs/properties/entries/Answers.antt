@@ -7,7 +7,7 @@ use Rattle.rdl_parser.proofs.properties.entries.Goals as goal
 
 pub more-init : goal.more-init
 more-init c = record {
-  tree = λ us es d. rw c.new-entries.ensures.items d;
+  tree = λ us es d. rw c.room-entries.ensures d;
   reads = staying refl;
 }
 

@@ -13,7 +13,7 @@ returns-in_default-clause-reads c = missing right c.in_default.ensures refl
 
 pub more-init : goal.more-init
 more-init c = record {
-  tree = λ us vs t ss d i. rw c.new-sets.ensures.items (tree.some c.in-Some.ensures d i);
+  tree = λ us vs t ss d i. rw c.room-sets.ensures (tree.some c.in-Some.ensures d i);
   reads = taking right c.in-Some.ensures refl;
 }
 

@@ -23,7 +23,7 @@ pub more-preserved : goal.more-preserved
 more-preserved c = let start = next_at _ _ _ _ _ _ c.in-Ok-Some.field-0-is c.more.invariant.size c.in-Ok-Some.ensures.token in record {
   size = c.in-Ok-Some.ensures.size ∙ c.more.invariant.size;
   sound = c.in-Ok-Some.ensures.remembered;
-  spells = λ ts s. rw (collected c.more.tokens.items c.push.new.self.items c.in-Ok-Some.token ts c.in_ok-push-in-Ok-Some.ensures.items) (c.more.invariant.spells (seen c.in-Ok-Some.token ∷ ts) (c.next.new.self.rest, start, s));
+  spells = λ ts s. rw (collected c.more.tokens.items c.push.new.self.items c.in-Ok-Some.token ts (rw c.pack.ensures at c.in_ok-push-in-Ok-Some.ensures.items)) (c.more.invariant.spells (seen c.in-Ok-Some.token ∷ ts) (c.next.new.self.rest, start, s));
   faults = λ f place k. c.more.invariant.faults f place (later start k);
 }
 

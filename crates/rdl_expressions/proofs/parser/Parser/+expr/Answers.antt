@@ -181,7 +181,7 @@ path_from-returns-in_err-add_step-clause-stops t c = λ h. reading_stops right (
 
 pub path_from-more-init : goal.path_from-more-init
 path_from-more-init t c = record {
-  tree = λ ts us ss p n d e. path_start c.new-steps.ensures.items c.in_ok-add_step.ensures.tree n d e;
+  tree = λ ts us ss p n d e. path_start c.room-steps.ensures c.in_ok-add_step.ensures.tree n d e;
   reads = reading right (more_steps ∷ []) c.in_ok-add_step.ensures.reads refl;
 }
 
