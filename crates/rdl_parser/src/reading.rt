@@ -81,13 +81,12 @@ fn count_tokens(src: &[u8]) -> usize {
     let mut count: usize = 0;
     let mut is_in_word = false;
     for byte in src {
+        if *byte <= b' ' {
+            is_in_word = false;
+            continue;
+        }
         let is_of_word = byte.is_ascii_alphanumeric() || *byte == b'_';
-        let begins = if is_of_word {
-            !is_in_word
-        } else {
-            !byte.is_ascii_whitespace()
-        };
-        if begins {
+        if !is_of_word || !is_in_word {
             count = count.saturating_add(1);
         }
         is_in_word = is_of_word;
