@@ -14,8 +14,7 @@ use Rattle.rb_model.specs.Sound.{ViewIsSound, RegIsSound, SlotIsSound, StandToge
 use Rattle.rb_model.specs.SoundField.{RefersWell, FieldIsSoundIn}
 use Rattle.rdl_tree.specs.declared.item.Source.{Source}
 use Rattle.rdl_rules.specs.Block.{IsBlockOf}
-use Rattle.rdl_verdict.specs.Verdict.{IsDescribed}
-use Rattle.rdl_waits.specs.Waits.{IsDescribedWith, with_waits}
+use Rattle.rdl_waits.specs.Waits.{with_waits}
 
 each : {X : Type 0} (P Q : X → Type 0) (xs : List X) → ((x : X) → P x → Q x) → Each P xs → Each Q xs
 each P Q [] f h = tt
@@ -130,6 +129,3 @@ module _ (waits : ℕ) (b : Block) where
     each_item = h.each_item;
     ordered = ordered b.order h.ordered;
   }
-
-pub described : (wanted : Option (List ℕ)) (text : List ℕ) (s : Source) (b : Block) (waits : ℕ) → waits ≤ 1 → IsDescribed wanted text s b → IsDescribedWith wanted text s waits (with_waits waits b)
-described wanted text s b waits few h = record { reads = h.reads; clean = h.clean; block = block waits b wanted s h.block; sound = sound waits b few h.sound }

@@ -3,4 +3,4 @@
 
 mod laws;
 
-pub use laws::described_with_waits;
+pub use laws::blocks_with_waits;

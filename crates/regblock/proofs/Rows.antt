@@ -14,7 +14,7 @@ use Rattle.regblock.specs.Text.{cannot_read, too_long, verilog_line, stimulus_li
 use Rattle.command_line.specs.Words.{Command, check, compile, map_of, sim, run_of, gen_of, waits_of}
 use Rattle.rb_model.specs.declared.block.Block.{Block}
 use Rattle.rdl_tree.specs.declared.item.Source.{Source}
-use Rattle.rdl_waits.specs.Waits.{IsDescribedWith}
+use Rattle.regblock.specs.Verdict.{IsDescribedWith}
 use Rattle.machine_run.specs.Runs.{IsBreak}
 use Rattle.machine_run.specs.Runs as machine
 use Rattle.sized_source.specs.Source.{source_of}

@@ -5,10 +5,9 @@ use Rattle.rb_edge.specs.Shelf.{Files}
 use Rattle.sim_run.specs.Simulated.{IsFitTable}
 use Rattle.rb_model.specs.declared.block.Block.{Block}
 use Rattle.rdl_tree.specs.declared.item.Source.{Source}
-use Rattle.rdl_waits.specs.Waits.{IsDescribedWith}
 use Rattle.machine_run.specs.Runs.{IsFitFor}
 use Rattle.sized_source.specs.Source.{source_of}
-use Rattle.regblock.specs.Verdict.{BreaksNone}
+use Rattle.regblock.specs.Verdict.{BreaksNone, IsDescribedWith}
 use Rattle.regblock.specs.declared.status.Status.{Status}
 use Rattle.regblock.specs.declared.status.Status.TheVariants.{Done, NoMemory}
 use Rattle.command_line.specs.Words.{Command, check, compile, map_of, sim, run_of, gen_of, waits_of, Asks}

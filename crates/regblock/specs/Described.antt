@@ -1,7 +1,7 @@
 -- What a source is found to be.
 use Rattle.std.specs.Prelude.{◌≡◌, ℕ, List, Option}
 use Rattle.rdl_tree.specs.declared.item.Source.{Source}
-use Rattle.rdl_waits.specs.Waits.{IsDescribedWith}
+use Rattle.regblock.specs.Verdict.{IsDescribedWith}
 use Rattle.regblock.specs.declared.describing.Described.{Described}
 use Rattle.regblock.specs.declared.describing.Described.TheVariants.{Clean, Stopped}
 use Rattle.regblock.specs.declared.status.Status.TheVariants.{Refused}

@@ -2,7 +2,7 @@
 use Rattle.std.specs.Prelude.{ℕ, None}
 use Rattle.rb_model.specs.declared.block.Block.{Block}
 use Rattle.rdl_tree.specs.declared.item.Source.{Source}
-use Rattle.rdl_waits.specs.Waits.{IsDescribedWith}
+use Rattle.regblock.specs.Verdict.{IsDescribedWith}
 use Rattle.sized_source.specs.Source.{source_of, summary_of}
 use Rattle.regblock.specs.Ends.{Passage, TookAll}
 use Rattle.regblock.specs.Outcome.{IsModuleLength}

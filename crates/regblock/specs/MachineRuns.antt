@@ -3,7 +3,7 @@ use Rattle.std.specs.Prelude.{ℕ, List, [], Option}
 use Rattle.rb_edge.specs.Shelf.{Files, Holds}
 use Rattle.rb_model.specs.declared.block.Block.{Block}
 use Rattle.rdl_tree.specs.declared.item.Source.{Source}
-use Rattle.rdl_waits.specs.Waits.{IsDescribedWith}
+use Rattle.regblock.specs.Verdict.{IsDescribedWith}
 use Rattle.machine_run.specs.Runs.{IsProblem, IsBreak}
 use Rattle.regblock.specs.Outcome.{IsRunText}
 use Rattle.regblock.specs.Text.{stimulus_line, protocol_line}

@@ -8,14 +8,13 @@ use Rattle.rb_model.specs.Agreement.{Agrees}
 use Rattle.rb_base.specs.declared.fault.Fault.{Fault}
 use Rattle.rdl_tree.specs.declared.item.Source.{Source}
 use Rattle.rdl_verdict.specs.Verdict.{IsVerdict}
-use Rattle.rdl_waits.specs.Waits.{IsDescribedWith}
 use Rattle.address_text.specs.Lines.{address_lines}
 use Rattle.verdict_text.specs.Lines.{ok_line, rule_line, verdict_lines}
 use Rattle.command_line.specs.Words.{Command, check, compile, map_of, sim, run_of, gen_of, waits_of, Asks, AsksNothing}
 use Rattle.regblock.specs.declared.status.Status.{Status}
 use Rattle.regblock.specs.declared.status.Status.TheVariants.{Done, Refused, Usage, ReadFault, TooLong, BadVerilog, BadStimulus, Protocol}
 use Rattle.regblock.specs.Text.{cannot_read, too_long, verilog_line, stimulus_line, protocol_line, usage}
-use Rattle.regblock.specs.Verdict.{FailsFirst}
+use Rattle.regblock.specs.Verdict.{FailsFirst, IsDescribedWith}
 use Rattle.sim_run.specs.Simulated.{IsSimulated, IsProblem}
 use Rattle.machine_run.specs.Runs.{IsRunOf, IsBreak}
 use Rattle.machine_run.specs.Runs as machine

@@ -3,9 +3,12 @@ use Rattle.std.specs.Prelude.{ℕ, List, [], ◌∷◌, Option}
 use Rattle.rb_base.specs.declared.fault.Fault.{Fault}
 use Rattle.rb_base.specs.declared.place.Place.{Place}
 use Rattle.rb_base.specs.declared.rule.Rule.{Rule}
+use Rattle.rb_model.specs.declared.block.Block.{Block}
+use Rattle.rb_model.specs.Sound.{IsSound}
 use Rattle.rdl_tree.specs.declared.item.Source.{Source}
 use Rattle.rdl_values.specs.Verdict.{FirstOf}
 use Rattle.rdl_parser.specs.Verdicts.{IsAccepted, Reads}
+use Rattle.rdl_rules.specs.Block.{IsBlockOf}
 use Rattle.rdl_verdict.specs.Verdict.{IsVerdict, tree_phases}
 
 -- The first failure of a source, where the definition of a name is wanted as its top.
@@ -17,3 +20,10 @@ pub record FailsFirst (top : Option (List ℕ)) (source : List ℕ) (place : Pla
 pub record BreaksNone (top : Option (List ℕ)) (source : List ℕ) : Type 0 where
   pub parsed : IsAccepted source
   pub clean : (s : Source) → Reads source s.items.now → FirstOf (tree_phases top s) []
+
+-- The text reads as this tree, which breaks no rule and describes this sound block, with so many wait states.
+pub record IsDescribedWith (top : Option (List ℕ)) (source : List ℕ) (s : Source) (waits : ℕ) (b : Block) : Type 0 where
+  pub reads : Reads source s.items.now
+  pub clean : FirstOf (tree_phases top s) []
+  pub block : IsBlockOf top s waits b
+  pub sound : IsSound b

@@ -13,7 +13,7 @@ use bumpalo::Bump;
 use rb_base::{Fault, NoMemory};
 use rb_model::Block;
 use rdl_verdict::{JudgeError, Judged, judge};
-use rdl_waits::described_with_waits;
+use rdl_waits::blocks_with_waits;
 use std::alloc::Global;
 use verdict_text::push_verdict;
 
@@ -72,7 +72,7 @@ pub(crate) fn describe_source(
     requires waits { IsWaits waits }
     ensures { IfOk result (IsFoundFor (waits_of waits) (option_copied top.entry) file.now source.now) }
 {
-    described_with_waits();
+    blocks_with_waits();
     let arena = Bump::new(alloc);
     match judge(alloc, &arena, source, top) {
         Ok(judged) => Ok(Described::Clean(waiting(judged, waits))),

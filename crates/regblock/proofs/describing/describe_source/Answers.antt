@@ -2,7 +2,8 @@ use Rattle.std.proofs.Common.{ℕ, ◌≤◌, Option, None, Some, option_copied,
 use Rattle.rdl_verdict.specs.Answers.{Refuses}
 use Rattle.rdl_verdict.specs.declared.error.JudgeError.{JudgeError}
 use Rattle.command_line.specs.Words.{IsWaits, waits_of}
-use Rattle.rdl_waits.specs.Waits.{IsDescribedWith}
+use Rattle.regblock.specs.Verdict.{IsDescribedWith}
+use Rattle.rdl_waits.specs.Waits.{with_waits}
 use Rattle.regblock.specs.Answer.{texts_of}
 use Rattle.regblock.proofs.Rows.{first_told}
 use Rattle.regblock.proofs.describing.describe_source.Goals as goal
@@ -18,7 +19,13 @@ returns-in-Ok c =
     let top = option_copied c.args.top in
     let source = c.args.source.now in
     let tree = j.elab.source.now in
-    let described = c.described_with_waits.ensures top source tree j.block n (few c.args.waits c.requires.waits) c.in-Ok.ensures.described in
+    let found = c.in-Ok.ensures.described in
+    let described : IsDescribedWith top source tree n (with_waits n j.block) = record {
+      reads = found.reads;
+      clean = found.clean;
+      block = c.blocks_with_waits.ensures.block top tree j.block n found.block;
+      sound = c.blocks_with_waits.ensures.sound j.block n (few c.args.waits c.requires.waits) found.sound;
+    } in
     (tree, subst (IsDescribedWith top source tree n) (sym c.waiting.ensures) described)
 
 pub returns-in-Err-Faults : goal.returns-in-Err-Faults

@@ -1,6 +1,6 @@
 use Rattle.std.proofs.Common.{[], ◌∷◌, option_copied, subst}
 use Rattle.command_line.specs.Words.{run_of, waits_of}
-use Rattle.rdl_waits.specs.Waits.{IsDescribedWith}
+use Rattle.regblock.specs.Verdict.{IsDescribedWith}
 use Rattle.regblock.specs.Described.{IsFoundFor}
 use Rattle.regblock.specs.Loaded.{IsLoaded}
 use Rattle.regblock.specs.Outcome.{FailedRead, IsRead, IsRefused, source_limit}
