@@ -69,11 +69,6 @@ fn a_wait_state_takes_a_cycle_more(rt: HostRuntime) -> Result<(), Fail> {
     let words = ["run", "--waits", "1", "--top", "one", "one.rdl", "t.csv"];
     let ran = run_over(alloc, &words, &mut shelf)?;
     assert!(rt; shows(alloc, &ran, WAITED)?);
-    let compiled = run_over(alloc, &["compile", "--waits", "1", "one.rdl"], &mut shelf)?;
-    assert_eq!(rt; compiled.status, Status::Done);
-    shelf.put("one.v", compiled.out.bytes())?;
-    let simulated = run_over(alloc, &["sim", "one.v", "t.csv"], &mut shelf)?;
-    assert!(rt; shows(alloc, &simulated, WAITED)?);
     Ok(())
 }
 
