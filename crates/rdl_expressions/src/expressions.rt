@@ -104,14 +104,6 @@ impl<'a> Parser<'a> {
         })
     }
 
-    // An expression in the arena.
-    fn lodged(&self, expr: Expr<'a>) -> Result<&'a Expr<'a>, Stop>
-        ensures is { IfOk result (λ e. e.now ≡ expr.entry) }
-        ensures memory { IfErr result (λ stop. stop ≡ Stop.NoMemory) }
-    {
-        Ok(self.arena.try_alloc(expr)?)
-    }
-
     // An operator with its operands, which lie in the arena.
     fn pair(&self, op: Op, left: Expr<'a>, right: Expr<'a>, place: Place) -> Result<Expr<'a>, Stop>
         ensures is { IfOk result (IsPair op left.entry right.entry place) }

@@ -1,9 +1,10 @@
-//! Room in the arena for the lists of the tree, which is not given back when a list grows.
+//! Room in the arena for the parts and the lists of the tree, which is not given back when a list grows.
 
-ghost use Rattle.std.specs.Prelude.{◌≡◌, []};
+ghost use Rattle.std.specs.Prelude.{◌≡◌, [], IfErr, IfOk};
 
 use crate::parser::Parser;
 use bumpalo::Bump;
+use rb_grammar::Stop;
 use rdl_depth::CompactToken;
 use rdl_tree::{Mark, TokenKind};
 
@@ -89,6 +90,14 @@ fn count(tokens: &[CompactToken<'_>], run: Run) -> usize {
 }
 
 impl<'a> Parser<'a> {
+    /// A part of the tree in the arena. It is an `Err` where the arena has no room for it.
+    pub fn lodged<T: Drop>(&self, one: T) -> Result<&'a T, Stop>
+        ensures is { IfOk result (λ r. r.now ≡ one) }
+        ensures memory { IfErr result (λ stop. stop ≡ Stop.NoMemory) }
+    {
+        Ok(self.arena.try_alloc(one)?)
+    }
+
     /// A list with nothing in it yet, and mostly with room for just what the tokens that are left add to it. It has none
     /// where the arena refuses so much.
     pub fn room<T: Drop>(&self, run: Run) -> Vec<T, &'a Bump>

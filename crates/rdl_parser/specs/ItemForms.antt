@@ -1,6 +1,6 @@
 -- What the functions of items read: the forms that are left in the middle of a rule, and the terminals with which a form that
 -- has been read could have gone on.
-use Rattle.std.specs.Prelude.{◌≡◌, Option, None, List, [], ◌∷◌}
+use Rattle.std.specs.Prelude.{◌≡◌, Option, None, List, [], ◌∷◌, option_copied}
 use Rattle.rb_base.specs.declared.keyword.Keyword.TheVariants as words
 use Rattle.rb_base.specs.declared.place.Place.{Place}
 use Rattle.rb_grammar.specs.Forms.{Form, Non, ◌or◌, Opt, Many, ◌then◌}
@@ -67,7 +67,7 @@ rest_of_enum = name then mark marks.OpenBrace then Many (Non rules.Entry) then m
 
 -- the shape of an instance
 abbrev pub DerivesShapeOf : List Token → List Token → Shape → Type 0
-DerivesShapeOf ts us s = DerivesShape ts us s.dims.now s.range
+DerivesShapeOf ts us s = DerivesShape ts us s.dims.now (option_copied s.range)
 
 -- [ "=" given ] ";" behind a property
 pub record Sets (prop : Name) (place : Place) (ts us : List Token) (set : Set) : Type 0 where

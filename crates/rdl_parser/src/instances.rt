@@ -1,6 +1,6 @@
 //! Instances and parameters (SystemRDL 2.0, annex B).
 
-ghost use Rattle.std.specs.Prelude.{◌≡◌, Err, Some, true, List, [], ◌∷◌, IfOk, OnOk};
+ghost use Rattle.std.specs.Prelude.{◌≡◌, Err, Some, true, List, [], ◌∷◌, IfOk, OnOk, option_copied};
 ghost use Rattle.rb_grammar.specs.Forms.{Non, Opt, Many, ◌then◌};
 ghost use Rattle.rb_grammar.specs.Readings.{Same, Stops};
 ghost use Rattle.rdl_tree.specs.declared.token.Mark.TheVariants as marks;
@@ -23,7 +23,7 @@ use rdl_tree::{Arg, Expr, Inst, Insts, Mark, PType, Param};
 #[derive(Clone, Copy)]
 pub struct Shape<'a> {
     pub dims: &'a [Expr<'a>],
-    pub range: Option<(Expr<'a>, Expr<'a>)>,
+    pub range: Option<&'a (Expr<'a>, Expr<'a>)>,
 }
 
 // What a parameter is.
@@ -49,6 +49,18 @@ pub fn behind<'a>(parser: &mut Parser<'a>, mark: Mark) -> Result<Option<Expr<'a>
     };
     let value = parser.expr()?;
     Ok(Some(value))
+}
+
+// An expression behind the mark, if it is there, in the arena.
+fn lodged_behind<'a>(parser: &mut Parser<'a>, mark: Mark) -> Result<Option<&'a Expr<'a>>, Stop>
+    ensures tree { IfOk result (λ e. DerivesBehind mark parser.old parser.new (option_copied e)) }
+    ensures reads { OnOk result (Same grammar (after_behind mark) (Opt (behind mark) ∷ []) parser.old [] parser.new) }
+    ensures stops { result ≡ Err Stop.Syntax → Stops grammar (after_behind mark) (Opt (behind mark) ∷ []) parser.old parser.new }
+{
+    let Some(value) = behind(parser, mark)? else {
+        return Ok(None);
+    };
+    Ok(Some(parser.lodged(value)?))
 }
 
 // The dimensions behind the first: "]" { "[" expr "]" } .
@@ -85,9 +97,10 @@ fn inst_shape<'a>(parser: &mut Parser<'a>) -> Result<Shape<'a>, Stop>
     };
     let low = parser.expr()?;
     let _close = parser.expect(Mark::CloseBracket)?;
+    let range = parser.lodged((first, low))?;
     Ok(Shape {
         dims: &[],
-        range: Some((first, low)),
+        range: Some(range),
     })
 }
 
@@ -99,10 +112,10 @@ fn inst<'a>(parser: &mut Parser<'a>) -> Result<Inst<'a>, Stop>
 {
     let name = parser.expect_name()?;
     let shape = inst_shape(parser)?;
-    let reset = behind(parser, Mark::Equals)?;
-    let at = behind(parser, Mark::At)?;
-    let stride = behind(parser, Mark::PlusEquals)?;
-    let align = behind(parser, Mark::PercentEquals)?;
+    let reset = lodged_behind(parser, Mark::Equals)?;
+    let at = lodged_behind(parser, Mark::At)?;
+    let stride = lodged_behind(parser, Mark::PlusEquals)?;
+    let align = lodged_behind(parser, Mark::PercentEquals)?;
     Ok(Inst {
         name,
         dims: shape.dims,

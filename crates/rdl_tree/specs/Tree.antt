@@ -1,6 +1,6 @@
 -- Which tree a list of tokens derives: each relation says what stands before the second list in the first.
 use Rattle.std.specs.Borrow.{Bor}
-use Rattle.std.specs.Prelude.{◌≡◌, ℕ, ◌+◌, ◌≤◌, true, false, Option, Some, None, Bool, IsTrue, List, [], ◌∷◌}
+use Rattle.std.specs.Prelude.{◌≡◌, ℕ, ◌+◌, ◌≤◌, true, false, Option, Some, None, Bool, IsTrue, List, [], ◌∷◌, option_copied}
 use Rattle.rb_base.specs.declared.edge.Edge.{Edge}
 use Rattle.rb_base.specs.declared.edge.Edge.TheVariants as edges
 use Rattle.rb_base.specs.declared.keyword.Keyword.{Keyword}
@@ -274,8 +274,8 @@ pub data DerivesShape : List Token → List Token → List Expr → Option (Expr
 
 -- inst = name ( { "[" expr "]" } | "[" expr ":" expr "]" ) [ "=" expr ] [ "@" expr ] [ "+=" expr ] [ "%=" expr ] .
 pub data DerivesInst : List Token → List Token → Inst → Type 0 where
-  inst : {ts us vs ws xs ys zs : List Token} {i : Inst} → IsName ts us i.name → DerivesShape us vs i.dims.now i.range → DerivesBehind marks.Equals vs ws i.reset → DerivesBehind marks.At ws xs i.at
-      → DerivesBehind marks.PlusEquals xs ys i.stride → DerivesBehind marks.PercentEquals ys zs i.align → DerivesInst ts zs i
+  inst : {ts us vs ws xs ys zs : List Token} {i : Inst} → IsName ts us i.name → DerivesShape us vs i.dims.now (option_copied i.range) → DerivesBehind marks.Equals vs ws (option_copied i.reset) → DerivesBehind marks.At ws xs (option_copied i.at)
+      → DerivesBehind marks.PlusEquals xs ys (option_copied i.stride) → DerivesBehind marks.PercentEquals ys zs (option_copied i.align) → DerivesInst ts zs i
 
 -- insts = [ args ] inst { "," inst } .
 pub data DerivesInsts : List Token → List Token → Insts → Type 0 where

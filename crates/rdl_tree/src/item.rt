@@ -52,11 +52,11 @@ pub struct Entry<'a> {
 pub struct Inst<'a> {
     pub name: Name<'a>,
     pub dims: &'a [Expr<'a>],
-    pub range: Option<(Expr<'a>, Expr<'a>)>,
-    pub reset: Option<Expr<'a>>,
-    pub at: Option<Expr<'a>>,
-    pub stride: Option<Expr<'a>>,
-    pub align: Option<Expr<'a>>,
+    pub range: Option<&'a (Expr<'a>, Expr<'a>)>,
+    pub reset: Option<&'a Expr<'a>>,
+    pub at: Option<&'a Expr<'a>>,
+    pub stride: Option<&'a Expr<'a>>,
+    pub align: Option<&'a Expr<'a>>,
 }
 
 /// A parameter's value at a use.

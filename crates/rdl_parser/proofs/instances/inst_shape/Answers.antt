@@ -31,7 +31,7 @@ pub returns-in_err-_close-clause-stops : goal.returns-in_err-_close-clause-stops
 returns-in_err-_close-clause-stops c = λ h. shape_step c.in-Some.ensures ⟫ shape_expr c.in_ok-first.ensures.reads ⟫ taking right c.in-Some-mark.ensures refl ⟫ calling right c.in_ok-low.ensures.reads refl ⟫| halting right c.in_err-_close.ensures.err refl
 
 pub returns-clause-tree : goal.returns-clause-tree
-returns-clause-tree c = tree.range c.in-Some.ensures c.in_ok-first.ensures.tree c.in-Some-mark.ensures c.in_ok-low.ensures.tree c.in_ok-_close.ensures.ok
+returns-clause-tree c = rw c.in_ok-range.ensures.is (tree.range c.in-Some.ensures c.in_ok-first.ensures.tree c.in-Some-mark.ensures c.in_ok-low.ensures.tree c.in_ok-_close.ensures.ok)
 
 pub returns-clause-reads : goal.returns-clause-reads
 returns-clause-reads c = shape_step c.in-Some.ensures ⟫ shape_expr c.in_ok-first.ensures.reads ⟫ taking right c.in-Some-mark.ensures refl ⟫ calling right c.in_ok-low.ensures.reads refl ⟫ taking right c.in_ok-_close.ensures.ok refl
