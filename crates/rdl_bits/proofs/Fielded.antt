@@ -1,5 +1,5 @@
 -- The fields of a register, one by one, and what a field's text and settings say.
-use Rattle.std.proofs.Common.{◌≡◌, ◌∙◌, ℕ, ◌+◌, ◌-◌, ◌||◌, Bool, true, false, cond, List, [], ◌∷◌, ◌++◌, map, flat_map, find, option_to_list, unwrap_or, Option, None, Some, refl, sym, ap, append_assoc}
+use Rattle.std.proofs.Common.{◌≡◌, ◌∙◌, ℕ, ◌+◌, ◌-◌, ◌||◌, Bool, true, false, cond, List, [], ◌∷◌, ◌++◌, map, flat_map, find, option_copied, option_to_list, unwrap_or, Option, None, Some, refl, sym, ap, append_assoc}
 use Rattle.std.specs.List.{list_any}
 use denote.Enum.Bare.{same_true}
 use Rattle.rdl_tree.specs.contracts.item.Kind as of_kind
@@ -43,7 +43,7 @@ ranged n (x ∷ []) e = rw e refl
 ranged n (x ∷ y ∷ []) e = rw e refl
 ranged n (x ∷ y ∷ z ∷ zs) e = rw e refl
 
-pub range-is : (i : Inst) (env : Around) (n : Instance) → IsText i env n → range_of n ≡ range_in env i.range
+pub range-is : (i : Inst) (env : Around) (n : Instance) → IsText i env n → range_of n ≡ range_in env (option_copied i.range)
 range-is i env n is = ranged n _ refl ∙ (λ j. as_range (numbers_in (is.visible j) (flat_map (λ r. r.0 ∷ r.1 ∷ []) (option_to_list (is.form j).range))))
 
 pub dims-are : (i : Inst) (env : Around) (n : Instance) → IsText i env n → numbers_of n n.use_.dims ≡ numbers_in env i.dims.now

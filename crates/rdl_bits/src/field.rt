@@ -29,7 +29,7 @@ fn of_text<'a>(props: &Props<'_>, child: &Node<'a>, inst: &Inst<'a>, env: &Env<'
         tables: &[],
         listed: Some(env),
     };
-    let range = range_given(&inst.range, &visible);
+    let range = range_given(inst.range, &visible);
     let set = number(props, child.id, Prop::Fieldwidth);
     Field {
         place: child.place,

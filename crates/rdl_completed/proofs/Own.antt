@@ -47,7 +47,7 @@ module _ (e : Elab) (tree : OpenTree) (r : Node) (o : Spot) (n : Instance) (h : 
   pub of_text : (i : Bor Inst) → (out-Node r).inst ≡ Some i → IsOfText i.now n
   of_text i some = let p = own_inst i some in record { dims = p.0; range = ap (λ f. f.range) p.1 }
 
-  pub own_reset : (i : Bor Inst) → (out-Node r).inst ≡ Some i → n.use_.form.reset ≡ i.now.reset
+  pub own_reset : (i : Bor Inst) → (out-Node r).inst ≡ Some i → n.use_.form.reset ≡ option_copied i.now.reset
   own_reset i some = ap (λ f. f.reset) (own_inst i some).1
 
   -- what the use sees

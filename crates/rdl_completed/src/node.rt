@@ -46,7 +46,7 @@ fn add_own<'a>(
         tables: tree.walk.bodies.tables(),
         numbers: body.numbers,
     };
-    add_reset(list, &inst.reset, &visible)?;
+    add_reset(list, inst.reset, &visible)?;
     Ok(())
 }
 

@@ -1,6 +1,6 @@
 //! The instance's own value.
 
-ghost use Rattle.std.specs.Prelude.{◌≡◌, ◌++◌, List, OnOk, map};
+ghost use Rattle.std.specs.Prelude.{◌≡◌, ◌++◌, List, OnOk, map, option_copied};
 ghost use Rattle.rdl_props.specs.declared.prop.Prop.TheVariants as props;
 ghost use Rattle.rdl_values.specs.Bodies.{around};
 ghost use Rattle.rdl_values.specs.Instances.{Instance};
@@ -45,10 +45,10 @@ fn add_value<'a>(
 /// 2.0, 9.5). It sees the names of the body that the instance stands in.
 pub fn add_reset<'a>(
     entries: &mut Vec<Entry<'a>>,
-    reset: &Option<Expr<'a>>,
+    reset: Option<&Expr<'a>>,
     visible: &Chain<'_, '_, '_, 'a>,
 ) -> Result<(), NoMemory>
-    ensures { OnOk result ((all : List Instance) (xs : List Applied) (u : Use) → u.form.reset ≡ reset.now → IsShown visible.now (around u.scope)
+    ensures { OnOk result ((all : List Instance) (xs : List Applied) (u : Use) → u.form.reset ≡ option_copied reset.entry → IsShown visible.now (around u.scope)
         → AreEntries all entries.old.items xs → AreEntries all entries.new.items (xs ++ from_instance u)) }
 {
     match reset {

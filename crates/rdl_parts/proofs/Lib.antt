@@ -1,3 +1,4 @@
 mod Bytes
 mod Numbers
 mod Parted
+mod Formed

@@ -1,6 +1,6 @@
 //! The failures of one instance's parts.
 
-ghost use Rattle.std.specs.Prelude.{◌≡◌, ◌||◌, [], ◌∷◌, cond, nat_lt, flat_map, IfOk, IfSome, IsSome, Some, true, is_some, option_to_list, Ok};
+ghost use Rattle.std.specs.Prelude.{◌≡◌, ◌||◌, [], ◌∷◌, cond, nat_lt, flat_map, IfOk, IfSome, IsSome, Some, true, is_some, option_copied, option_to_list, Ok};
 ghost use Rattle.rdl_values.specs.Bodies.{around};
 ghost use Rattle.rdl_values.specs.Parts as spec;
 ghost use Rattle.rdl_values.specs.Paths.{Parent};
@@ -27,11 +27,11 @@ const MOST_DIMS: usize = 8;
 
 // Puts in the failure of a part, and answers whether it has none.
 fn note_part<'a>(
-    part: &Option<Expr<'a>>,
+    part: Option<&Expr<'a>>,
     visible: &Chain<'_, '_, '_, 'a>,
     failures: &mut Failures,
 ) -> Result<bool, NoMemory>
-    ensures { IfOk result (λ clean. (around : Around) → IsShown visible.now around → IsNoted (flat_map (fails_of around) (option_to_list part.now)) clean failures.old failures.new) }
+    ensures { IfOk result (λ clean. (around : Around) → IsShown visible.now around → IsNoted (flat_map (fails_of around) (option_to_list (option_copied part.entry))) clean failures.old failures.new) }
 {
     match part {
         Some(expr) => Ok(failures.value_of(number_seen(expr, visible))?.is_some()),
@@ -41,12 +41,12 @@ fn note_part<'a>(
 
 // Puts in the failures of a range of bits, and answers whether there are none.
 fn note_range<'a>(
-    range: &Option<(Expr<'a>, Expr<'a>)>,
+    range: Option<&(Expr<'a>, Expr<'a>)>,
     visible: &Chain<'_, '_, '_, 'a>,
     failures: &mut Failures,
 ) -> Result<bool, NoMemory>
     ensures { IfOk result (λ clean. (around : Around) → IsShown visible.now around
-        → IsNoted (flat_map (fails_of around) (flat_map (λ r. r.0 ∷ r.1 ∷ []) (option_to_list range.now))) clean failures.old failures.new) }
+        → IsNoted (flat_map (fails_of around) (flat_map (λ r. r.0 ∷ r.1 ∷ []) (option_to_list (option_copied range.entry)))) clean failures.old failures.new) }
 {
     match range {
         Some((high, low)) => {
@@ -67,11 +67,11 @@ fn note_others<'a>(
     ensures { IfOk result (λ clean. (around : Around) → IsShown visible.now around
         → IsNoted (flat_map (fails_of around) (other_parts (form_of inst.now))) clean failures.old failures.new) }
 {
-    let range = note_range(&inst.range, visible, failures)?;
-    let reset = note_part(&inst.reset, visible, failures)?;
-    let at = note_part(&inst.at, visible, failures)?;
-    let stride = note_part(&inst.stride, visible, failures)?;
-    let align = note_part(&inst.align, visible, failures)?;
+    let range = note_range(inst.range, visible, failures)?;
+    let reset = note_part(inst.reset, visible, failures)?;
+    let at = note_part(inst.at, visible, failures)?;
+    let stride = note_part(inst.stride, visible, failures)?;
+    let align = note_part(inst.align, visible, failures)?;
     Ok(range & reset & at & stride & align)
 }
 
@@ -137,8 +137,9 @@ pub fn is_bad_form(inst: &Inst, kind: Kind) -> bool
     ensures { (u : Use) → u.form ≡ form_of inst.now → u.dims ≡ inst.now.dims.now → result ≡ phase.is_bad_form u kind }
 {
     let field = kind == Kind::Field;
-    (!field && (inst.range.is_some() || inst.reset.is_some()))
-        || (is_unit(kind) && (inst.at.is_some() || inst.stride.is_some() || inst.align.is_some()))
-        || (inst.at.is_some() && inst.align.is_some())
-        || (inst.stride.is_some() && inst.dims.is_empty())
+    let bits = !field & (inst.range.is_some() | inst.reset.is_some());
+    let bytes = is_unit(kind) & (inst.at.is_some() | inst.stride.is_some() | inst.align.is_some());
+    let exclusive = inst.at.is_some() & inst.align.is_some();
+    let alone = inst.stride.is_some() & inst.dims.is_empty();
+    bits | bytes | exclusive | alone
 }

@@ -1,5 +1,5 @@
 -- What the text of an instance gives.
-use Rattle.std.specs.Prelude.{◌≡◌, ℕ, List, [], ◌∷◌, length, nat_lt, flat_map, Option, option_to_list}
+use Rattle.std.specs.Prelude.{◌≡◌, ℕ, List, [], ◌∷◌, length, nat_lt, flat_map, Option, option_copied, option_to_list}
 use Rattle.rdl_tree.specs.declared.expr.Expr.{Expr}
 use Rattle.rdl_tree.specs.declared.item.Inst.{Inst}
 use Rattle.rdl_values.specs.Values.{Around, number_of}
@@ -21,7 +21,7 @@ range_in env r = as_range (numbers_in env (flat_map (λ p. p.0 ∷ p.1 ∷ []) (
 
 -- The part has what this text gives, whose expressions see this.
 pub record IsGiven (p : Part) (env : Around) (i : Inst) : Type 0 where
-  pub at_ : option_to_list p.at ≡ numbers_in env (option_to_list i.at)
-  pub stride_ : option_to_list p.stride ≡ numbers_in env (option_to_list i.stride)
-  pub align_ : option_to_list p.align ≡ numbers_in env (option_to_list i.align)
+  pub at_ : option_to_list p.at ≡ numbers_in env (option_to_list (option_copied i.at))
+  pub stride_ : option_to_list p.stride ≡ numbers_in env (option_to_list (option_copied i.stride))
+  pub align_ : option_to_list p.align ≡ numbers_in env (option_to_list (option_copied i.align))
   pub array : p.is_array ≡ nat_lt 0 (length i.dims.now)

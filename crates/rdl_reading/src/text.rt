@@ -1,6 +1,6 @@
 //! What the text of an instance gives.
 
-ghost use Rattle.std.specs.Prelude.{◌≡◌, option_to_list};
+ghost use Rattle.std.specs.Prelude.{◌≡◌, option_copied, option_to_list};
 ghost use Rattle.rdl_values.specs.Tabled.{around_in};
 ghost use Rattle.rdl_reading.specs.Texts as spec;
 
@@ -9,8 +9,8 @@ use rdl_tree::{Expr, Inst};
 use rdl_values::{Visible, number_of_in};
 
 /// The number of an expression, if there is one and it has one.
-fn number_given<'a>(expr: &Option<Expr<'a>>, visible: &Visible<'_, 'a>) -> Option<u64>
-    ensures { option_to_list result ≡ spec.numbers_in (around_in visible.now) (option_to_list expr.now) }
+fn number_given<'a>(expr: Option<&Expr<'a>>, visible: &Visible<'_, 'a>) -> Option<u64>
+    ensures { option_to_list result ≡ spec.numbers_in (around_in visible.now) (option_to_list (option_copied expr.entry)) }
 {
     match expr {
         Some(expr) => number_of_in(expr, visible).ok(),
@@ -20,10 +20,10 @@ fn number_given<'a>(expr: &Option<Expr<'a>>, visible: &Visible<'_, 'a>) -> Optio
 
 /// The range that the text gives, high bit first.
 pub fn range_given<'a>(
-    range: &Option<(Expr<'a>, Expr<'a>)>,
+    range: Option<&(Expr<'a>, Expr<'a>)>,
     visible: &Visible<'_, 'a>,
 ) -> Option<(u64, u64)>
-    ensures { option_to_list result ≡ spec.range_in (around_in visible.now) range.now }
+    ensures { option_to_list result ≡ spec.range_in (around_in visible.now) (option_copied range.entry) }
 {
     let Some((high, low)) = range else {
         return None;
@@ -51,9 +51,9 @@ pub fn part<'a>(
         others,
         size,
         access,
-        at: number_given(&inst.at, visible),
-        stride: number_given(&inst.stride, visible),
-        align: number_given(&inst.align, visible),
+        at: number_given(inst.at, visible),
+        stride: number_given(inst.stride, visible),
+        align: number_given(inst.align, visible),
         is_array: !inst.dims.is_empty(),
     }
 }

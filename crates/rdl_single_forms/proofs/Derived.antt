@@ -1,5 +1,5 @@
 -- The tree that tokens derive: a bracket is one way of a form, and a range another.
-use Rattle.std.proofs.Common.{◌≡◌, zero, suc, true, Option, Some, List, [], ◌∷◌, All, is_some, refl, sym, subst, arith}
+use Rattle.std.proofs.Common.{◌≡◌, zero, suc, true, Option, Some, List, [], ◌∷◌, All, is_some, refl, sym, subst, ◌∙◌, arith}
 use Rattle.rdl_tree.specs.declared.token.Token.{Token}
 use Rattle.rdl_tree.specs.declared.expr.Expr.{Expr}
 use Rattle.rdl_tree.specs.declared.item.Item.{Item}
@@ -8,6 +8,7 @@ use Rattle.rdl_tree.specs.declared.item.Inst.{Inst}
 use Rattle.rdl_tree.specs.declared.item.Insts.{Insts}
 use Rattle.rdl_tree.specs.Tree.{DerivesListed, DerivesShape, DerivesInst, DerivesInsts, DerivesMade, DerivesItem, DerivesDef, DerivesBody, DerivesItems}
 use Rattle.rdl_tree.specs.Tree as tree
+use Rattle.rdl_values.proofs.Copied.{some_copied}
 use Rattle.rdl_single_forms.specs.Single.{HasSingleForm, HaveSingleForms, AreSingle, IsSingle}
 use Rattle.rdl_single_forms.specs.Single as single
 
@@ -16,7 +17,7 @@ shape (tree.dims is) e = cc e
 shape (tree.range o h c l b) e = refl
 
 inst : {ts us : List Token} {i : Inst} → DerivesInst ts us i → HasSingleForm i
-inst (tree.inst n s a b c d) = shape s
+inst {i = i} (tree.inst n s a b c d) = λ e. shape s (some_copied i.range ∙ e)
 
 one_more : (i : Inst) (is : List Inst) → HasSingleForm i → All HasSingleForm is → All HasSingleForm (i ∷ is)
 one_more i is h rest zero d l = h

@@ -1,5 +1,5 @@
 -- The forms of nodes are forms of the tree.
-use Rattle.std.proofs.Common.{◌≡◌, inl, inr, ℕ, zero, suc, Bool, true, false, ◌&&◌, cond, List, [], ◌∷◌, ◌++◌, map, flat_map, reverse, Contains, Option, None, Some, is_some, option_map, option_and_then, option_to_list, refl, sym, subst}
+use Rattle.std.proofs.Common.{◌≡◌, inl, inr, ℕ, zero, suc, Bool, true, false, ◌&&◌, cond, List, [], ◌∷◌, ◌++◌, map, flat_map, reverse, Contains, Option, None, Some, is_some, option_map, option_and_then, option_to_list, refl, sym, subst, ◌∙◌}
 use Rattle.std.specs.List.{AllByRecursion}
 use Rattle.std.specs.Option.{option_or}
 use Rattle.std.proofs.lemmas.List.Elements.{All-from_recursion, recursion_from_All}
@@ -19,6 +19,7 @@ use Rattle.rdl_values.specs.Values.{nearest}
 use Rattle.rdl_values.specs.Views as view
 use Rattle.rdl_values.specs.Views.{ItemIs, item_is, item_is-Def}
 use Rattle.rdl_values.proofs.Clean.{nearest_is, unreversed}
+use Rattle.rdl_values.proofs.Copied.{some_copied}
 use Rattle.rdl_values.proofs.Given.{each-append, each-flat_map, each-imp, given-all}
 use Rattle.rdl_single_forms.specs.Single.{HasSingleForm, HaveSingleForms, AreSingle, IsSingle}
 use Rattle.rdl_single_forms.specs.Single as single
@@ -110,7 +111,7 @@ mapped P Q f [] g h = tt
 mapped P Q f (x ∷ xs) g h = (g x h.0, mapped P Q f xs g h.1)
 
 insts_in : (scope : Scope) (alias : Option Name) (place : Place) (c : Option Closure) (is : Insts) → HaveSingleForms (Some is) → OfClosure c → AllByRecursion OfUse (uses_of_insts scope alias place c is)
-insts_in scope alias place c is w h = mapped HasSingleForm OfUse _ is.list.now (λ i n. (n, h)) (recursion_from_All HasSingleForm is.list.now w)
+insts_in scope alias place c is w h = mapped HasSingleForm OfUse _ is.list.now (λ i n. (λ e. n (sym (some_copied i.range) ∙ e), h)) (recursion_from_All HasSingleForm is.list.now w)
 
 item_in : (scope : Scope) (v : ItemIs) → FormsOf v → InScope scope → AllByRecursion OfUse (uses_of_item scope v)
 item_in scope (view.definition d) w h = go d.insts w.0

@@ -15,6 +15,7 @@ use Rattle.rdl_values.specs.Parts.{bad_array, bad_parts, is_empty, long_path}
 use Rattle.rdl_values.specs.Phase3.{bad_form, is_bad_form, many_parameters, of_use}
 use Rattle.rdl_values.specs.Uses.{Seen, Use}
 use Rattle.rdl_values.specs.declared.chain.Chain.{Chain}
+use Rattle.rdl_values.proofs.Copied.{none_copied}
 use Rattle.rdl_judging.specs.Noted.{Holds, IsNoted, with_all}
 use Rattle.rdl_judging.proofs.Noting.{both_noted, held_noted, noted_as}
 use Rattle.rdl_judging.proofs.Sets.{kept}
@@ -58,7 +59,7 @@ module _ (i : Inst) (d : Def) (alias : Option Name) (parent : Parent) (v : Chain
   single-is =
       let kinds : is_reg d.kind ≡ is_reg k = ap (λ d. is_reg d.kind) (sym seen.def) in
       let one : is_reg k ≡ list_any (λ c. is_reg c.def.kind) (option_to_list u.closure) = sym (ap (λ o. list_any (λ c. is_reg c.def.kind) (option_to_list o)) seen.closure ∙ or-false (is_reg k)) in
-      (λ j. is_empty (sym seen.use_is.dims j) && is_none (sym seen.use_is.form j).range && (kinds ∙ one) j)
+      (λ j. is_empty i.dims.now && sym (none_copied i.range) j && is_reg d.kind) ∙ (λ j. is_empty (sym seen.use_is.dims j) && is_none (sym seen.use_is.form j).range && (kinds ∙ one) j)
     where
       or-false : (b : Bool) → (b || false) ≡ b
       or-false true = refl

@@ -12,6 +12,7 @@ use Rattle.rdl_values.specs.Parts.{dims_of, is_empty}
 use Rattle.rdl_values.specs.Phase3.{of_use}
 use Rattle.rdl_values.specs.Uses.{Seen, Use}
 use Rattle.rdl_values.specs.declared.chain.Chain.{Chain}
+use Rattle.rdl_values.proofs.Copied.{none_copied}
 use Rattle.rdl_judging.specs.Noted.{Holds, with_all}
 use Rattle.rdl_judging.proofs.Noting.{standing_from-push}
 use Rattle.rdl_judging.proofs.Sets.{kept, with_all-append}
@@ -64,7 +65,7 @@ module _ (t : TypeUsed) (us : List Use) where
     pub primary-is : (i : Inst) (none single : Bool) → none ≡ is_none v.alias → single ≡ (is_empty i.dims.now && is_none i.range && is_reg v.def.now.kind) → is_primary (use_by t i) ≡ (none && single)
     primary-is i none single n q =
         let kinds : (is_reg t.closure.def.kind || false) ≡ is_reg v.def.now.kind = or-false (is_reg t.closure.def.kind) ∙ ap (λ d. is_reg d.kind) ty.def in
-        (λ j. is_none (ty.alias_is j) && (is_empty i.dims.now && is_none i.range && kinds j)) ∙ (λ j. sym n j && sym q j)
+        (λ j. is_none (ty.alias_is j) && (is_empty i.dims.now && none_copied i.range j && kinds j)) ∙ (λ j. sym n j && sym q j)
       where
         or-false : (b : Bool) → (b || false) ≡ b
         or-false true = refl

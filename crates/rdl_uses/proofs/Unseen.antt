@@ -1,5 +1,5 @@
 -- The uses of a type that is not visible, one by one.
-use Rattle.std.proofs.Common.{◌≡◌, ◌∙◌, ℕ, ◌+◌, ◌<◌, Bool, true, false, ◌&&◌, List, [], ◌∷◌, ◌++◌, length, get_or, take, map, flat_map, is_none, refl, sym, ap, subst, append_assoc, append-nil}
+use Rattle.std.proofs.Common.{◌≡◌, ◌∙◌, ℕ, ◌+◌, ◌<◌, Bool, true, false, ◌&&◌, List, [], ◌∷◌, ◌++◌, length, get_or, take, map, flat_map, is_none, option_copied, refl, sym, ap, subst, append_assoc, append-nil}
 use Rattle.std.specs.List.{list_any}
 use Rattle.std.proofs.lemmas.Grind.{flat_map-append}
 use Rattle.std.proofs.lemmas.List.{map-append, take_more}
@@ -41,7 +41,7 @@ module _ (t : UnknownType) (us : List Use) where
   both-false false b c = refl
 
   no-primary : (i : Inst) → is_primary (unknown_by t i) ≡ false
-  no-primary i = both-false (is_none t.alias) (is_empty i.dims.now) (is_none i.range)
+  no-primary i = both-false (is_none t.alias) (is_empty i.dims.now) (is_none (option_copied i.range))
 
   pub unseen_more : (is : List Inst) (k : ℕ) → k < length is → (e e' : Earlier) (l0 l1 l2 l3 : List Fault) (i : Inst) (place : Place) (x a b : Bool) → t.place ≡ place → i ≡ get_or is k i → DoneUnseen t us (take k is) e l0 l1
       → ((us : List Use) → AreEarlier e us → x ≡ list_any (λ u. same_name u.name i.name) us) → IsNoted (when x (at_ rules.E4 i.name.place)) a l1 l2 → IsNoted (when true (at_ rules.E3 place)) b l2 l3

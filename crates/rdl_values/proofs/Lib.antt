@@ -5,6 +5,7 @@ pub mod Given
 pub mod Numbered
 pub mod Sorted
 pub mod Clean
+pub mod Copied
 mod Around
 mod Rows
 mod Primary

@@ -1,5 +1,5 @@
 -- The uses of definitions in a body.
-use Rattle.std.specs.Prelude.{ℕ, List, [], ◌∷◌, map, flat_map, Option, None, Some, option_to_list, Ok}
+use Rattle.std.specs.Prelude.{ℕ, List, [], ◌∷◌, map, flat_map, Option, None, Some, option_copied, option_to_list, Ok}
 use Rattle.rb_base.specs.declared.place.Place.{Place}
 use Rattle.rdl_tree.specs.declared.expr.Expr.{Expr}
 use Rattle.rdl_tree.specs.declared.expr.Name.{Name}
@@ -25,7 +25,7 @@ pub record Form : Type 0 where
   pub align : Option Expr
 
 abbrev pub form_of : Inst → Form
-form_of i = record { range = i.range; reset = i.reset; at = i.at; stride = i.stride; align = i.align }
+form_of i = record { range = option_copied i.range; reset = option_copied i.reset; at = option_copied i.at; stride = option_copied i.stride; align = option_copied i.align }
 
 -- One use of a definition, where its text stands. The top's has no instance, and no part of one but the name.
 pub record Use : Type 0 where

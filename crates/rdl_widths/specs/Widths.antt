@@ -1,5 +1,5 @@
 -- The widths of an instance.
-use Rattle.std.specs.Prelude.{◌≡◌, ℕ, Bool, not, ◌||◌, List, [], ◌∷◌, ◌++◌, nat_lt, ◌==◌, Ok}
+use Rattle.std.specs.Prelude.{◌≡◌, ℕ, Bool, not, ◌||◌, List, [], ◌∷◌, ◌++◌, nat_lt, ◌==◌, Ok, option_copied}
 use Rattle.std.specs.List.{list_any}
 use Rattle.rdl_tree.specs.declared.item.Inst.{Inst}
 use Rattle.rdl_values.specs.Instances.{Instance}
@@ -9,7 +9,7 @@ use Rattle.rdl_layers.specs.Phase4.{first_or}
 -- The dimensions and the range of an instance are those of this text.
 pub record IsOfText (i : Inst) (n : Instance) : Type 0 where
   pub dims : n.use_.dims ≡ i.dims.now
-  pub range : n.use_.form.range ≡ i.range
+  pub range : n.use_.form.range ≡ option_copied i.range
 
 -- P11 by the widths of the text, the ranges, and the assigned widths
 abbrev pub is_bad : List ℕ → List (ℕ × ℕ) → List ℕ → Bool

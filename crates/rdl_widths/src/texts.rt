@@ -1,6 +1,6 @@
 //! Widths that the text of an instance gives.
 
-ghost use Rattle.std.specs.Prelude.{◌≡◌, ◌+◌, ◌-◌, ◌++◌, IfOk, OnOk, flat_map, map, option_to_list};
+ghost use Rattle.std.specs.Prelude.{◌≡◌, ◌+◌, ◌-◌, ◌++◌, IfOk, OnOk, flat_map, map, option_copied, option_to_list};
 ghost use Rattle.rdl_values.specs.Bodies.{around};
 ghost use Rattle.rdl_values.specs.Instances.{Instance};
 ghost use Rattle.rdl_values.specs.Values.{Around, number_of};
@@ -34,10 +34,10 @@ fn both_seen<'a>(
 
 /// The range of bits that the text gives, the high one first, if both have a number.
 pub(crate) fn range_seen<'a>(
-    range: &Option<(Expr<'a>, Expr<'a>)>,
+    range: Option<&(Expr<'a>, Expr<'a>)>,
     visible: &Chain<'_, '_, '_, 'a>,
 ) -> Option<(u64, u64)>
-    ensures { (n : Instance) → n.use_.form.range ≡ range.now → IsShown visible.now (around n.use_.scope) → option_to_list result ≡ phase.range_of n }
+    ensures { (n : Instance) → n.use_.form.range ≡ option_copied range.entry → IsShown visible.now (around n.use_.scope) → option_to_list result ≡ phase.range_of n }
 {
     match range {
         Some(bits) => both_seen(&bits.0, &bits.1, visible),

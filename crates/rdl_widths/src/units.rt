@@ -85,7 +85,7 @@ pub fn judge_unit<'a>(
     ensures { OnOk result ((all : List Instance) (n : Instance) → AreEntries all entries.now (applied_to n) → kind_of n ≡ kind → (kind ≡ kinds.Field) ⊎ (kind ≡ kinds.Signal) → n.use_.name.place ≡ place → IsOfText inst.now n → IsShown visible.now (around n.use_.scope)
         → failures.new ≡ with_all (phase.of_node n) failures.old) }
 {
-    let range = range_seen(&inst.range, visible);
+    let range = range_seen(inst.range, visible);
     let widths = form_widths(alloc, inst.dims, range, visible)?;
     let assigned = assigned_number(entries, width_prop(kind));
     failures.note(is_bad_width(&widths, range, assigned), Rule::P11, place)?;
@@ -112,7 +112,7 @@ pub fn unit_width<'a>(
     ensures narrow { IfOk result (λ width. width ≤ 64) }
     ensures width { IfOk result (λ width. (all : List Instance) (n : Instance) → AreEntries all entries.now (applied_to n) → kind_of n ≡ kind → IsOfText inst.now n → IsShown visible.now (around n.use_.scope) → phase.width_of n ≤ 64 → width ≡ phase.width_of n) }
 {
-    let range = range_seen(&inst.range, visible);
+    let range = range_seen(inst.range, visible);
     let widths = form_widths(alloc, inst.dims, range, visible)?;
     let assigned = assigned_number(entries, width_prop(kind));
     Ok(narrow(first_width(&widths, assigned)))
