@@ -20,8 +20,8 @@ compact_map = source (
     item.Def (component kind.Field None [] 81 [] (Some (insts_of [] ((record (inst (name (codes "f") 90)) { dims = lend ((expr.Number 8 (at 92)) ∷ []) }) ∷ [])))) ∷ []) None) ∷
     item.Def (component kind.Regfile (Some (name (codes "G") 107)) [] 107 (
     item.Made None (name (codes "W") 111) (insts_of [] ((record (inst (name (codes "p") 113)) { dims = lend ((expr.Number 3 (at 115)) ∷ []) }) ∷ [])) ∷ []) None) ∷
-    item.Made None (name (codes "W") 122) (insts_of [] ((record (inst (name (codes "ra") 124)) { dims = lend ((expr.Number 3 (at 127)) ∷ []); at = Some (expr.Number 16 (at 131)); stride = Some (expr.Number 12 (at 139)) }) ∷ [])) ∷
-    item.Made None (name (codes "W") 144) (insts_of [] ((record (inst (name (codes "s") 146)) { align = Some (expr.Number 32 (at 151)) }) ∷ [])) ∷
+    item.Made None (name (codes "W") 122) (insts_of [] ((record (inst (name (codes "ra") 124)) { dims = lend ((expr.Number 3 (at 127)) ∷ []); at = Some (lend (expr.Number 16 (at 131))); stride = Some (lend (expr.Number 12 (at 139))) }) ∷ [])) ∷
+    item.Made None (name (codes "W") 144) (insts_of [] ((record (inst (name (codes "s") 146)) { align = Some (lend (expr.Number 32 (at 151))) }) ∷ [])) ∷
     item.Made None (name (codes "B") 157) (insts_of [] ((inst (name (codes "t") 159)) ∷ [])) ∷
     item.Made None (name (codes "G") 162) (insts_of [] ((record (inst (name (codes "u") 164)) { dims = lend ((expr.Number 2 (at 166)) ∷ []) }) ∷ [])) ∷ []) None) ∷ [])
 
@@ -36,8 +36,8 @@ regalign_map = source (
     item.Def (component kind.Field None [] 59 [] (Some (insts_of [] ((record (inst (name (codes "f") 68)) { dims = lend ((expr.Number 8 (at 70)) ∷ []) }) ∷ [])))) ∷ []) None) ∷
     item.Def (component kind.Regfile (Some (name (codes "G") 85)) [] 85 (
     item.Made None (name (codes "W") 89) (insts_of [] ((record (inst (name (codes "p") 91)) { dims = lend ((expr.Number 3 (at 93)) ∷ []) }) ∷ [])) ∷ []) None) ∷
-    item.Made None (name (codes "W") 100) (insts_of [] ((record (inst (name (codes "ra") 102)) { dims = lend ((expr.Number 3 (at 105)) ∷ []); at = Some (expr.Number 16 (at 109)); stride = Some (expr.Number 12 (at 117)) }) ∷ [])) ∷
-    item.Made None (name (codes "W") 122) (insts_of [] ((record (inst (name (codes "s") 124)) { align = Some (expr.Number 32 (at 129)) }) ∷ [])) ∷
+    item.Made None (name (codes "W") 100) (insts_of [] ((record (inst (name (codes "ra") 102)) { dims = lend ((expr.Number 3 (at 105)) ∷ []); at = Some (lend (expr.Number 16 (at 109))); stride = Some (lend (expr.Number 12 (at 117))) }) ∷ [])) ∷
+    item.Made None (name (codes "W") 122) (insts_of [] ((record (inst (name (codes "s") 124)) { align = Some (lend (expr.Number 32 (at 129))) }) ∷ [])) ∷
     item.Made None (name (codes "B") 135) (insts_of [] ((inst (name (codes "t") 137)) ∷ [])) ∷
     item.Made None (name (codes "G") 140) (insts_of [] ((record (inst (name (codes "u") 142)) { dims = lend ((expr.Number 2 (at 144)) ∷ []) }) ∷ [])) ∷ []) None) ∷ [])
 
@@ -53,8 +53,8 @@ fullalign_map = source (
     item.Def (component kind.Field None [] 83 [] (Some (insts_of [] ((record (inst (name (codes "f") 92)) { dims = lend ((expr.Number 8 (at 94)) ∷ []) }) ∷ [])))) ∷ []) None) ∷
     item.Def (component kind.Regfile (Some (name (codes "G") 109)) [] 109 (
     item.Made None (name (codes "W") 113) (insts_of [] ((record (inst (name (codes "p") 115)) { dims = lend ((expr.Number 3 (at 117)) ∷ []) }) ∷ [])) ∷ []) None) ∷
-    item.Made None (name (codes "W") 124) (insts_of [] ((record (inst (name (codes "ra") 126)) { dims = lend ((expr.Number 3 (at 129)) ∷ []); at = Some (expr.Number 16 (at 133)); stride = Some (expr.Number 12 (at 141)) }) ∷ [])) ∷
-    item.Made None (name (codes "W") 146) (insts_of [] ((record (inst (name (codes "s") 148)) { align = Some (expr.Number 32 (at 153)) }) ∷ [])) ∷
+    item.Made None (name (codes "W") 124) (insts_of [] ((record (inst (name (codes "ra") 126)) { dims = lend ((expr.Number 3 (at 129)) ∷ []); at = Some (lend (expr.Number 16 (at 133))); stride = Some (lend (expr.Number 12 (at 141))) }) ∷ [])) ∷
+    item.Made None (name (codes "W") 146) (insts_of [] ((record (inst (name (codes "s") 148)) { align = Some (lend (expr.Number 32 (at 153))) }) ∷ [])) ∷
     item.Made None (name (codes "B") 159) (insts_of [] ((inst (name (codes "t") 161)) ∷ [])) ∷
     item.Made None (name (codes "G") 164) (insts_of [] ((record (inst (name (codes "u") 166)) { dims = lend ((expr.Number 2 (at 168)) ∷ []) }) ∷ [])) ∷ []) None) ∷ [])
 
@@ -63,9 +63,9 @@ abbrev pub odd_address : Source
 odd_address = source (
     item.Def (component kind.Addrmap (Some (name (codes "o") 8)) [] 8 (
     item.Def (component kind.Reg None [] 12 (
-    item.Def (component kind.Field None [] 18 [] (Some (insts_of [] ((inst (name (codes "f") 27)) ∷ [])))) ∷ []) (Some (insts_of [] ((record (inst (name (codes "a") 32)) { at = Some (expr.Number 0 (at 35)) }) ∷ [])))) ∷
+    item.Def (component kind.Field None [] 18 [] (Some (insts_of [] ((inst (name (codes "f") 27)) ∷ [])))) ∷ []) (Some (insts_of [] ((record (inst (name (codes "a") 32)) { at = Some (lend (expr.Number 0 (at 35))) }) ∷ [])))) ∷
     item.Def (component kind.Reg None [] 40 (
-    item.Def (component kind.Field None [] 46 [] (Some (insts_of [] ((inst (name (codes "f") 55)) ∷ [])))) ∷ []) (Some (insts_of [] ((record (inst (name (codes "b") 60)) { at = Some (expr.Number 2 (at 63)) }) ∷ [])))) ∷ []) None) ∷ [])
+    item.Def (component kind.Field None [] 46 [] (Some (insts_of [] ((inst (name (codes "f") 55)) ∷ [])))) ∷ []) (Some (insts_of [] ((record (inst (name (codes "b") 60)) { at = Some (lend (expr.Number 2 (at 63))) }) ∷ [])))) ∷ []) None) ∷ [])
 
 -- addrmap e { reg { field {} f[8]; } a[2]; a[0]->regwidth = 16; reg { field {} f[8]; } b; };
 abbrev pub one_element_narrower : Source
@@ -100,16 +100,16 @@ abbrev pub small_stride : Source
 small_stride = source (
     item.Def (component kind.Addrmap (Some (name (codes "a") 8)) [] 8 (
     item.Def (component kind.Reg None [] 12 (
-    item.Def (component kind.Field None [] 18 [] (Some (insts_of [] ((record (inst (name (codes "f") 27)) { dims = lend ((expr.Number 32 (at 29)) ∷ []) }) ∷ [])))) ∷ []) (Some (insts_of [] ((record (inst (name (codes "r") 36)) { dims = lend ((expr.Number 2 (at 38)) ∷ []); stride = Some (expr.Number 2 (at 44)) }) ∷ [])))) ∷
+    item.Def (component kind.Field None [] 18 [] (Some (insts_of [] ((record (inst (name (codes "f") 27)) { dims = lend ((expr.Number 32 (at 29)) ∷ []) }) ∷ [])))) ∷ []) (Some (insts_of [] ((record (inst (name (codes "r") 36)) { dims = lend ((expr.Number 2 (at 38)) ∷ []); stride = Some (lend (expr.Number 2 (at 44))) }) ∷ [])))) ∷
     item.Def (component kind.Reg None [] 47 (
-    item.Def (component kind.Field None [] 53 [] (Some (insts_of [] ((record (inst (name (codes "f") 62)) { dims = lend ((expr.Number 32 (at 64)) ∷ []) }) ∷ [])))) ∷ []) (Some (insts_of [] ((record (inst (name (codes "s") 71)) { align = Some (expr.Number 0 (at 76)) }) ∷ [])))) ∷ []) None) ∷ [])
+    item.Def (component kind.Field None [] 53 [] (Some (insts_of [] ((record (inst (name (codes "f") 62)) { dims = lend ((expr.Number 32 (at 64)) ∷ []) }) ∷ [])))) ∷ []) (Some (insts_of [] ((record (inst (name (codes "s") 71)) { align = Some (lend (expr.Number 0 (at 76))) }) ∷ [])))) ∷ []) None) ∷ [])
 
 -- addrmap a { reg { field {} f; } q[2] += 2**63; };
 abbrev pub far_stride : Source
 far_stride = source (
     item.Def (component kind.Addrmap (Some (name (codes "a") 8)) [] 8 (
     item.Def (component kind.Reg None [] 12 (
-    item.Def (component kind.Field None [] 18 [] (Some (insts_of [] ((inst (name (codes "f") 27)) ∷ [])))) ∷ []) (Some (insts_of [] ((record (inst (name (codes "q") 32)) { dims = lend ((expr.Number 2 (at 34)) ∷ []); stride = Some (expr.Binary op.Pow (lend (expr.Number 2 (at 40))) (lend (expr.Number 63 (at 43))) (at 41)) }) ∷ [])))) ∷ []) None) ∷ [])
+    item.Def (component kind.Field None [] 18 [] (Some (insts_of [] ((inst (name (codes "f") 27)) ∷ [])))) ∷ []) (Some (insts_of [] ((record (inst (name (codes "q") 32)) { dims = lend ((expr.Number 2 (at 34)) ∷ []); stride = Some (lend (expr.Binary op.Pow (lend (expr.Number 2 (at 40))) (lend (expr.Number 63 (at 43))) (at 41))) }) ∷ [])))) ∷ []) None) ∷ [])
 
 -- addrmap s { reg { field { sw=r; hw=w; } st[32]; } a @0x0; reg { field { sw=w; hw=r; } cmd[32] = 0; } b @0x0; };
 abbrev pub read_and_write : Source
@@ -118,11 +118,11 @@ read_and_write = source (
     item.Def (component kind.Reg None [] 12 (
     item.Def (component kind.Field None [] 18 (
     item.Local (assign (name (codes "sw") 26) None (word keyword.R) 26) ∷
-    item.Local (assign (name (codes "hw") 32) None (word keyword.W) 32) ∷ []) (Some (insts_of [] ((record (inst (name (codes "st") 40)) { dims = lend ((expr.Number 32 (at 43)) ∷ []) }) ∷ [])))) ∷ []) (Some (insts_of [] ((record (inst (name (codes "a") 50)) { at = Some (expr.Number 0 (at 53)) }) ∷ [])))) ∷
+    item.Local (assign (name (codes "hw") 32) None (word keyword.W) 32) ∷ []) (Some (insts_of [] ((record (inst (name (codes "st") 40)) { dims = lend ((expr.Number 32 (at 43)) ∷ []) }) ∷ [])))) ∷ []) (Some (insts_of [] ((record (inst (name (codes "a") 50)) { at = Some (lend (expr.Number 0 (at 53))) }) ∷ [])))) ∷
     item.Def (component kind.Reg None [] 58 (
     item.Def (component kind.Field None [] 64 (
     item.Local (assign (name (codes "sw") 72) None (word keyword.W) 72) ∷
-    item.Local (assign (name (codes "hw") 78) None (word keyword.R) 78) ∷ []) (Some (insts_of [] ((record (inst (name (codes "cmd") 86)) { dims = lend ((expr.Number 32 (at 90)) ∷ []); reset = Some (expr.Number 0 (at 96)) }) ∷ [])))) ∷ []) (Some (insts_of [] ((record (inst (name (codes "b") 101)) { at = Some (expr.Number 0 (at 104)) }) ∷ [])))) ∷ []) None) ∷ [])
+    item.Local (assign (name (codes "hw") 78) None (word keyword.R) 78) ∷ []) (Some (insts_of [] ((record (inst (name (codes "cmd") 86)) { dims = lend ((expr.Number 32 (at 90)) ∷ []); reset = Some (lend (expr.Number 0 (at 96))) }) ∷ [])))) ∷ []) (Some (insts_of [] ((record (inst (name (codes "b") 101)) { at = Some (lend (expr.Number 0 (at 104))) }) ∷ [])))) ∷ []) None) ∷ [])
 
 -- addrmap s { reg { field { sw=r; hw=w; } st[32]; } a @0x0; reg { field { sw=rw; hw=r; } cmd[32] = 0; } b @0x0; };
 abbrev pub read_and_read_write : Source
@@ -131,11 +131,11 @@ read_and_read_write = source (
     item.Def (component kind.Reg None [] 12 (
     item.Def (component kind.Field None [] 18 (
     item.Local (assign (name (codes "sw") 26) None (word keyword.R) 26) ∷
-    item.Local (assign (name (codes "hw") 32) None (word keyword.W) 32) ∷ []) (Some (insts_of [] ((record (inst (name (codes "st") 40)) { dims = lend ((expr.Number 32 (at 43)) ∷ []) }) ∷ [])))) ∷ []) (Some (insts_of [] ((record (inst (name (codes "a") 50)) { at = Some (expr.Number 0 (at 53)) }) ∷ [])))) ∷
+    item.Local (assign (name (codes "hw") 32) None (word keyword.W) 32) ∷ []) (Some (insts_of [] ((record (inst (name (codes "st") 40)) { dims = lend ((expr.Number 32 (at 43)) ∷ []) }) ∷ [])))) ∷ []) (Some (insts_of [] ((record (inst (name (codes "a") 50)) { at = Some (lend (expr.Number 0 (at 53))) }) ∷ [])))) ∷
     item.Def (component kind.Reg None [] 58 (
     item.Def (component kind.Field None [] 64 (
     item.Local (assign (name (codes "sw") 72) None (word keyword.Rw) 72) ∷
-    item.Local (assign (name (codes "hw") 79) None (word keyword.R) 79) ∷ []) (Some (insts_of [] ((record (inst (name (codes "cmd") 87)) { dims = lend ((expr.Number 32 (at 91)) ∷ []); reset = Some (expr.Number 0 (at 97)) }) ∷ [])))) ∷ []) (Some (insts_of [] ((record (inst (name (codes "b") 102)) { at = Some (expr.Number 0 (at 105)) }) ∷ [])))) ∷ []) None) ∷ [])
+    item.Local (assign (name (codes "hw") 79) None (word keyword.R) 79) ∷ []) (Some (insts_of [] ((record (inst (name (codes "cmd") 87)) { dims = lend ((expr.Number 32 (at 91)) ∷ []); reset = Some (lend (expr.Number 0 (at 97))) }) ∷ [])))) ∷ []) (Some (insts_of [] ((record (inst (name (codes "b") 102)) { at = Some (lend (expr.Number 0 (at 105))) }) ∷ [])))) ∷ []) None) ∷ [])
 
 -- addrmap s { reg { field { sw=r; hw=w; } st[32]; } a @0x0; reg { regwidth=16; field { sw=w; hw=r; } cmd[16] = 0; } b @0x0; };
 abbrev pub read_and_narrow_write : Source
@@ -144,12 +144,12 @@ read_and_narrow_write = source (
     item.Def (component kind.Reg None [] 12 (
     item.Def (component kind.Field None [] 18 (
     item.Local (assign (name (codes "sw") 26) None (word keyword.R) 26) ∷
-    item.Local (assign (name (codes "hw") 32) None (word keyword.W) 32) ∷ []) (Some (insts_of [] ((record (inst (name (codes "st") 40)) { dims = lend ((expr.Number 32 (at 43)) ∷ []) }) ∷ [])))) ∷ []) (Some (insts_of [] ((record (inst (name (codes "a") 50)) { at = Some (expr.Number 0 (at 53)) }) ∷ [])))) ∷
+    item.Local (assign (name (codes "hw") 32) None (word keyword.W) 32) ∷ []) (Some (insts_of [] ((record (inst (name (codes "st") 40)) { dims = lend ((expr.Number 32 (at 43)) ∷ []) }) ∷ [])))) ∷ []) (Some (insts_of [] ((record (inst (name (codes "a") 50)) { at = Some (lend (expr.Number 0 (at 53))) }) ∷ [])))) ∷
     item.Def (component kind.Reg None [] 58 (
     item.Local (assign (name (codes "regwidth") 64) None (value (expr.Number 16 (at 73))) 64) ∷
     item.Def (component kind.Field None [] 77 (
     item.Local (assign (name (codes "sw") 85) None (word keyword.W) 85) ∷
-    item.Local (assign (name (codes "hw") 91) None (word keyword.R) 91) ∷ []) (Some (insts_of [] ((record (inst (name (codes "cmd") 99)) { dims = lend ((expr.Number 16 (at 103)) ∷ []); reset = Some (expr.Number 0 (at 109)) }) ∷ [])))) ∷ []) (Some (insts_of [] ((record (inst (name (codes "b") 114)) { at = Some (expr.Number 0 (at 117)) }) ∷ [])))) ∷ []) None) ∷ [])
+    item.Local (assign (name (codes "hw") 91) None (word keyword.R) 91) ∷ []) (Some (insts_of [] ((record (inst (name (codes "cmd") 99)) { dims = lend ((expr.Number 16 (at 103)) ∷ []); reset = Some (lend (expr.Number 0 (at 109))) }) ∷ [])))) ∷ []) (Some (insts_of [] ((record (inst (name (codes "b") 114)) { at = Some (lend (expr.Number 0 (at 117))) }) ∷ [])))) ∷ []) None) ∷ [])
 
 -- addrmap s { reg { field { sw=r; hw=w; } st[7:0]; field { sw=w; hw=r; } cmd[7:4]; field {} more[9:8]; field {} last[3]; field {} over[8:8]; field {} high[32:32]; } a; };
 abbrev pub shared_bits : Source
@@ -158,14 +158,14 @@ shared_bits = source (
     item.Def (component kind.Reg None [] 12 (
     item.Def (component kind.Field None [] 18 (
     item.Local (assign (name (codes "sw") 26) None (word keyword.R) 26) ∷
-    item.Local (assign (name (codes "hw") 32) None (word keyword.W) 32) ∷ []) (Some (insts_of [] ((record (inst (name (codes "st") 40)) { range = (Some ((expr.Number 7 (at 43)), (expr.Number 0 (at 45)))) }) ∷ [])))) ∷
+    item.Local (assign (name (codes "hw") 32) None (word keyword.W) 32) ∷ []) (Some (insts_of [] ((record (inst (name (codes "st") 40)) { range = (Some (lend ((expr.Number 7 (at 43)), (expr.Number 0 (at 45))))) }) ∷ [])))) ∷
     item.Def (component kind.Field None [] 49 (
     item.Local (assign (name (codes "sw") 57) None (word keyword.W) 57) ∷
-    item.Local (assign (name (codes "hw") 63) None (word keyword.R) 63) ∷ []) (Some (insts_of [] ((record (inst (name (codes "cmd") 71)) { range = (Some ((expr.Number 7 (at 75)), (expr.Number 4 (at 77)))) }) ∷ [])))) ∷
-    item.Def (component kind.Field None [] 81 [] (Some (insts_of [] ((record (inst (name (codes "more") 90)) { range = (Some ((expr.Number 9 (at 95)), (expr.Number 8 (at 97)))) }) ∷ [])))) ∷
+    item.Local (assign (name (codes "hw") 63) None (word keyword.R) 63) ∷ []) (Some (insts_of [] ((record (inst (name (codes "cmd") 71)) { range = (Some (lend ((expr.Number 7 (at 75)), (expr.Number 4 (at 77))))) }) ∷ [])))) ∷
+    item.Def (component kind.Field None [] 81 [] (Some (insts_of [] ((record (inst (name (codes "more") 90)) { range = (Some (lend ((expr.Number 9 (at 95)), (expr.Number 8 (at 97))))) }) ∷ [])))) ∷
     item.Def (component kind.Field None [] 101 [] (Some (insts_of [] ((record (inst (name (codes "last") 110)) { dims = lend ((expr.Number 3 (at 115)) ∷ []) }) ∷ [])))) ∷
-    item.Def (component kind.Field None [] 119 [] (Some (insts_of [] ((record (inst (name (codes "over") 128)) { range = (Some ((expr.Number 8 (at 133)), (expr.Number 8 (at 135)))) }) ∷ [])))) ∷
-    item.Def (component kind.Field None [] 139 [] (Some (insts_of [] ((record (inst (name (codes "high") 148)) { range = (Some ((expr.Number 32 (at 153)), (expr.Number 32 (at 156)))) }) ∷ [])))) ∷ []) (Some (insts_of [] ((inst (name (codes "a") 163)) ∷ [])))) ∷ []) None) ∷ [])
+    item.Def (component kind.Field None [] 119 [] (Some (insts_of [] ((record (inst (name (codes "over") 128)) { range = (Some (lend ((expr.Number 8 (at 133)), (expr.Number 8 (at 135))))) }) ∷ [])))) ∷
+    item.Def (component kind.Field None [] 139 [] (Some (insts_of [] ((record (inst (name (codes "high") 148)) { range = (Some (lend ((expr.Number 32 (at 153)), (expr.Number 32 (at 156))))) }) ∷ [])))) ∷ []) (Some (insts_of [] ((inst (name (codes "a") 163)) ∷ [])))) ∷ []) None) ∷ [])
 
 -- addrmap m { reg { field {} f[8]; } a; a->regwidth = 8; reg { regwidth=8; field {} f[8]; } b; };
 abbrev pub width_from_outside : Source
@@ -186,11 +186,11 @@ access_from_outside = source (
     item.Def (component kind.Reg None [] 22 (
     item.Def (component kind.Field None [] 28 (
     item.Local (assign (name (codes "sw") 36) None (word keyword.Rw) 36) ∷
-    item.Local (assign (name (codes "hw") 43) None (word keyword.W) 43) ∷ []) (Some (insts_of [] ((inst (name (codes "f") 51)) ∷ [])))) ∷ []) (Some (insts_of [] ((record (inst (name (codes "a") 56)) { at = Some (expr.Number 0 (at 59)) }) ∷ [])))) ∷
+    item.Local (assign (name (codes "hw") 43) None (word keyword.W) 43) ∷ []) (Some (insts_of [] ((inst (name (codes "f") 51)) ∷ [])))) ∷ []) (Some (insts_of [] ((record (inst (name (codes "a") 56)) { at = Some (lend (expr.Number 0 (at 59))) }) ∷ [])))) ∷
     item.Def (component kind.Reg None [] 62 (
     item.Def (component kind.Field None [] 68 (
     item.Local (assign (name (codes "sw") 76) None (word keyword.W) 76) ∷
-    item.Local (assign (name (codes "hw") 82) None (word keyword.R) 82) ∷ []) (Some (insts_of [] ((inst (name (codes "g") 90)) ∷ [])))) ∷ []) (Some (insts_of [] ((record (inst (name (codes "b") 95)) { at = Some (expr.Number 0 (at 98)) }) ∷ [])))) ∷ []) (Some (insts_of [] ((inst (name (codes "x") 103)) ∷ [])))) ∷
+    item.Local (assign (name (codes "hw") 82) None (word keyword.R) 82) ∷ []) (Some (insts_of [] ((inst (name (codes "g") 90)) ∷ [])))) ∷ []) (Some (insts_of [] ((record (inst (name (codes "b") 95)) { at = Some (lend (expr.Number 0 (at 98))) }) ∷ [])))) ∷ []) (Some (insts_of [] ((inst (name (codes "x") 103)) ∷ [])))) ∷
     item.Dynamic (path_of ((step_to (name (codes "x") 106) []) ∷ (step_to (name (codes "a") 108) []) ∷ (step_to (name (codes "f") 110) []) ∷ [])) (assign (name (codes "sw") 113) None (word keyword.R) 106) ∷ []) None) ∷ [])
 
 -- addrmap e { regfile { reg { regwidth = 8; field {} f[8]; } a, b; a->regwidth = 16; } g; g.b->regwidth = 32; addrmap { reg { regwidth = 8; field {} f[8]; } x; reg { field {} f[8]; accesswidth = 8; } y; } m; m->addressing = compact; reg { regwidth = 8; field {} f[8]; } z; };

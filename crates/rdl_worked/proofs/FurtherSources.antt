@@ -20,9 +20,9 @@ far_registers = source (
     item.Def (component kind.Addrmap (Some (name (codes "x") 8)) [] 8 (
     item.Def (component kind.Regfile None [] 12 (
     item.Def (component kind.Reg None [] 22 (
-    item.Def (component kind.Field None [] 28 [] (Some (insts_of [] ((inst (name (codes "f") 37)) ∷ [])))) ∷ []) (Some (insts_of [] ((record (inst (name (codes "q") 42)) { at = Some (expr.Number 18446744073709551614 (at 45)) }) ∷ [])))) ∷
+    item.Def (component kind.Field None [] 28 [] (Some (insts_of [] ((inst (name (codes "f") 37)) ∷ [])))) ∷ []) (Some (insts_of [] ((record (inst (name (codes "q") 42)) { at = Some (lend (expr.Number 18446744073709551614 (at 45))) }) ∷ [])))) ∷
     item.Def (component kind.Reg None [] 67 (
-    item.Def (component kind.Field None [] 73 [] (Some (insts_of [] ((inst (name (codes "f") 82)) ∷ [])))) ∷ []) (Some (insts_of [] ((inst (name (codes "s") 87)) ∷ [])))) ∷ []) (Some (insts_of [] ((record (inst (name (codes "a") 92)) { at = Some (expr.Number 18446744073709551614 (at 95)) }) ∷ [])))) ∷ []) None) ∷ [])
+    item.Def (component kind.Field None [] 73 [] (Some (insts_of [] ((inst (name (codes "f") 82)) ∷ [])))) ∷ []) (Some (insts_of [] ((inst (name (codes "s") 87)) ∷ [])))) ∷ []) (Some (insts_of [] ((record (inst (name (codes "a") 92)) { at = Some (lend (expr.Number 18446744073709551614 (at 95))) }) ∷ [])))) ∷ []) None) ∷ [])
 
 -- addrmap x { reg A #(longint n) { field {} f; }; reg B { field {} f; }; A p; alias p B s; };
 abbrev pub alias_of_no_node : Source

@@ -24,7 +24,7 @@ one = source (
     item.Def (component kind.Reg None [] 14 (
     item.Def (component kind.Field None [] 20 (
     item.Local (assign (name (codes "sw") 28) None (word keyword.Rw) 28) ∷
-    item.Local (assign (name (codes "hw") 35) None (word keyword.R) 35) ∷ []) (Some (insts_of [] ((record (inst (name (codes "f") 43)) { dims = lend ((expr.Number 32 (at 45)) ∷ []); reset = Some (expr.Number 5 (at 51)) }) ∷ [])))) ∷ []) (Some (insts_of [] ((record (inst (name (codes "a") 60)) { at = Some (expr.Number 0 (at 63)) }) ∷ [])))) ∷ []) None) ∷ [])
+    item.Local (assign (name (codes "hw") 35) None (word keyword.R) 35) ∷ []) (Some (insts_of [] ((record (inst (name (codes "f") 43)) { dims = lend ((expr.Number 32 (at 45)) ∷ []); reset = Some (lend (expr.Number 5 (at 51))) }) ∷ [])))) ∷ []) (Some (insts_of [] ((record (inst (name (codes "a") 60)) { at = Some (lend (expr.Number 0 (at 63))) }) ∷ [])))) ∷ []) None) ∷ [])
 
 -- addrmap v { reg { field {} f[4 / 0]; } a; };
 abbrev pub division_in_a_width : Source
@@ -181,7 +181,7 @@ abbrev pub unknown_type : Source
 unknown_type = source (
     item.Def (component kind.Addrmap (Some (name (codes "t") 8)) [] 8 (
     item.Def (component kind.Reg None [] 12 [] (Some (insts_of [] ((inst (name (codes "x") 19)) ∷ [])))) ∷
-    item.Made None (name (codes "T") 22) (insts_of ((record { name = (name (codes "x") 27); value = (expr.Binary op.Div (lend (expr.Number 1 (at 29))) (lend (expr.Number 0 (at 33))) (at 31)) }) ∷ []) ((record (inst (name (codes "y") 37)) { dims = lend ((expr.Binary op.Div (lend (expr.Number 1 (at 39))) (lend (expr.Number 0 (at 43))) (at 41)) ∷ (expr.Number 0 (at 46)) ∷ []); reset = Some (expr.Binary op.Div (lend (expr.Number 1 (at 51))) (lend (expr.Number 0 (at 55))) (at 53)); at = Some (expr.Binary op.Div (lend (expr.Number 1 (at 58))) (lend (expr.Number 0 (at 62))) (at 60)); align = Some (expr.Number 0 (at 67)) }) ∷ [])) ∷
+    item.Made None (name (codes "T") 22) (insts_of ((record { name = (name (codes "x") 27); value = (expr.Binary op.Div (lend (expr.Number 1 (at 29))) (lend (expr.Number 0 (at 33))) (at 31)) }) ∷ []) ((record (inst (name (codes "y") 37)) { dims = lend ((expr.Binary op.Div (lend (expr.Number 1 (at 39))) (lend (expr.Number 0 (at 43))) (at 41)) ∷ (expr.Number 0 (at 46)) ∷ []); reset = Some (lend (expr.Binary op.Div (lend (expr.Number 1 (at 51))) (lend (expr.Number 0 (at 55))) (at 53))); at = Some (lend (expr.Binary op.Div (lend (expr.Number 1 (at 58))) (lend (expr.Number 0 (at 62))) (at 60))); align = Some (lend (expr.Number 0 (at 67))) }) ∷ [])) ∷
     item.Made None (name (codes "T") 70) (insts_of [] ((inst (name (codes "x") 72)) ∷ [])) ∷
     item.Def (component kind.Reg None [] 75 [] (Some (insts_of [] ((inst (name (codes "y") 82)) ∷ [])))) ∷ []) None) ∷ [])
 
@@ -205,22 +205,22 @@ bad_arrays = source (
 abbrev pub bad_forms : Source
 bad_forms = source (
     item.Def (component kind.Addrmap (Some (name (codes "t") 8)) [] 8 (
-    item.Def (component kind.Reg None [] 12 [] (Some (insts_of [] ((record (inst (name (codes "a") 19)) { range = (Some ((expr.Number 3 (at 21)), (expr.Number 0 (at 23)))) }) ∷ [])))) ∷
-    item.Def (component kind.Reg None [] 27 [] (Some (insts_of [] ((record (inst (name (codes "b") 34)) { reset = Some (expr.Number 1 (at 38)) }) ∷ [])))) ∷
+    item.Def (component kind.Reg None [] 12 [] (Some (insts_of [] ((record (inst (name (codes "a") 19)) { range = (Some (lend ((expr.Number 3 (at 21)), (expr.Number 0 (at 23))))) }) ∷ [])))) ∷
+    item.Def (component kind.Reg None [] 27 [] (Some (insts_of [] ((record (inst (name (codes "b") 34)) { reset = Some (lend (expr.Number 1 (at 38))) }) ∷ [])))) ∷
     item.Def (component kind.Reg None [] 41 (
-    item.Def (component kind.Field None [] 47 [] (Some (insts_of [] ((record (inst (name (codes "a") 56)) { at = Some (expr.Number 0 (at 59)) }) ∷ [])))) ∷
-    item.Def (component kind.Field None [] 62 [] (Some (insts_of [] ((record (inst (name (codes "b") 71)) { stride = Some (expr.Number 4 (at 76)) }) ∷ [])))) ∷
-    item.Def (component kind.Field None [] 79 [] (Some (insts_of [] ((record (inst (name (codes "c") 88)) { dims = lend ((expr.Number 2 (at 90)) ∷ []); stride = Some (expr.Number 4 (at 96)) }) ∷ [])))) ∷
-    item.Def (component kind.Field None [] 99 [] (Some (insts_of [] ((record (inst (name (codes "d") 108)) { align = Some (expr.Number 4 (at 113)) }) ∷ [])))) ∷
-    item.Def (component kind.Signal None [] 116 [] (Some (insts_of [] ((record (inst (name (codes "e") 126)) { reset = Some (expr.Number 1 (at 130)) }) ∷ [])))) ∷
-    item.Def (component kind.Signal None [] 133 [] (Some (insts_of [] ((record (inst (name (codes "f") 143)) { range = (Some ((expr.Number 3 (at 145)), (expr.Number 0 (at 147)))) }) ∷ [])))) ∷
-    item.Def (component kind.Signal None [] 151 [] (Some (insts_of [] ((record (inst (name (codes "g") 161)) { at = Some (expr.Number 0 (at 164)) }) ∷ [])))) ∷
-    item.Def (component kind.Field None [] 167 [] (Some (insts_of [] ((record (inst (name (codes "h") 176)) { range = (Some ((expr.Number 7 (at 178)), (expr.Number 4 (at 180)))); reset = Some (expr.Number 1 (at 185)) }) ∷ [])))) ∷
-    item.Def (component kind.Field None [] 188 [] (Some (insts_of [] ((record (inst (name (codes "i") 197)) { dims = lend ((expr.Number 2 (at 199)) ∷ []); reset = Some (expr.Number 1 (at 204)) }) ∷ [])))) ∷ []) (Some (insts_of [] ((inst (name (codes "c") 209)) ∷ [])))) ∷
-    item.Def (component kind.Reg None [] 212 [] (Some (insts_of [] ((record (inst (name (codes "d") 219)) { at = Some (expr.Number 0 (at 222)); align = Some (expr.Number 4 (at 227)) }) ∷ [])))) ∷
-    item.Def (component kind.Reg None [] 230 [] (Some (insts_of [] ((record (inst (name (codes "e") 237)) { stride = Some (expr.Number 4 (at 242)) }) ∷ [])))) ∷
-    item.Def (component kind.Reg None [] 245 [] (Some (insts_of [] ((record (inst (name (codes "f") 252)) { dims = lend ((expr.Number 2 (at 254)) ∷ []); at = Some (expr.Number 0 (at 258)); stride = Some (expr.Number 4 (at 263)) }) ∷ [])))) ∷
-    item.Def (component kind.Reg None [] 266 [] (Some (insts_of [] ((record (inst (name (codes "g") 273)) { dims = lend ((expr.Number 1 (at 275)) ∷ []); stride = Some (expr.Number 4 (at 281)); align = Some (expr.Number 8 (at 286)) }) ∷ [])))) ∷ []) None) ∷ [])
+    item.Def (component kind.Field None [] 47 [] (Some (insts_of [] ((record (inst (name (codes "a") 56)) { at = Some (lend (expr.Number 0 (at 59))) }) ∷ [])))) ∷
+    item.Def (component kind.Field None [] 62 [] (Some (insts_of [] ((record (inst (name (codes "b") 71)) { stride = Some (lend (expr.Number 4 (at 76))) }) ∷ [])))) ∷
+    item.Def (component kind.Field None [] 79 [] (Some (insts_of [] ((record (inst (name (codes "c") 88)) { dims = lend ((expr.Number 2 (at 90)) ∷ []); stride = Some (lend (expr.Number 4 (at 96))) }) ∷ [])))) ∷
+    item.Def (component kind.Field None [] 99 [] (Some (insts_of [] ((record (inst (name (codes "d") 108)) { align = Some (lend (expr.Number 4 (at 113))) }) ∷ [])))) ∷
+    item.Def (component kind.Signal None [] 116 [] (Some (insts_of [] ((record (inst (name (codes "e") 126)) { reset = Some (lend (expr.Number 1 (at 130))) }) ∷ [])))) ∷
+    item.Def (component kind.Signal None [] 133 [] (Some (insts_of [] ((record (inst (name (codes "f") 143)) { range = (Some (lend ((expr.Number 3 (at 145)), (expr.Number 0 (at 147))))) }) ∷ [])))) ∷
+    item.Def (component kind.Signal None [] 151 [] (Some (insts_of [] ((record (inst (name (codes "g") 161)) { at = Some (lend (expr.Number 0 (at 164))) }) ∷ [])))) ∷
+    item.Def (component kind.Field None [] 167 [] (Some (insts_of [] ((record (inst (name (codes "h") 176)) { range = (Some (lend ((expr.Number 7 (at 178)), (expr.Number 4 (at 180))))); reset = Some (lend (expr.Number 1 (at 185))) }) ∷ [])))) ∷
+    item.Def (component kind.Field None [] 188 [] (Some (insts_of [] ((record (inst (name (codes "i") 197)) { dims = lend ((expr.Number 2 (at 199)) ∷ []); reset = Some (lend (expr.Number 1 (at 204))) }) ∷ [])))) ∷ []) (Some (insts_of [] ((inst (name (codes "c") 209)) ∷ [])))) ∷
+    item.Def (component kind.Reg None [] 212 [] (Some (insts_of [] ((record (inst (name (codes "d") 219)) { at = Some (lend (expr.Number 0 (at 222))); align = Some (lend (expr.Number 4 (at 227))) }) ∷ [])))) ∷
+    item.Def (component kind.Reg None [] 230 [] (Some (insts_of [] ((record (inst (name (codes "e") 237)) { stride = Some (lend (expr.Number 4 (at 242))) }) ∷ [])))) ∷
+    item.Def (component kind.Reg None [] 245 [] (Some (insts_of [] ((record (inst (name (codes "f") 252)) { dims = lend ((expr.Number 2 (at 254)) ∷ []); at = Some (lend (expr.Number 0 (at 258))); stride = Some (lend (expr.Number 4 (at 263))) }) ∷ [])))) ∷
+    item.Def (component kind.Reg None [] 266 [] (Some (insts_of [] ((record (inst (name (codes "g") 273)) { dims = lend ((expr.Number 1 (at 275)) ∷ []); stride = Some (lend (expr.Number 4 (at 281))); align = Some (lend (expr.Number 8 (at 286))) }) ∷ [])))) ∷ []) None) ∷ [])
 
 -- addrmap t { reg P { field {} f; }; regfile G { P a; }; alias q P a; alias p P b; P p; P v[1]; alias v P c; alias p P d; alias d P e; G g; alias g P h; alias p P i[1]; alias p G j; alias p P k, l; P m[3:0]; alias m P n; };
 abbrev pub bad_aliases : Source
@@ -242,7 +242,7 @@ bad_aliases = source (
     item.Made (Some (name (codes "p") 157)) (name (codes "P") 159) (insts_of [] ((record (inst (name (codes "i") 161)) { dims = lend ((expr.Number 1 (at 163)) ∷ []) }) ∷ [])) ∷
     item.Made (Some (name (codes "p") 173)) (name (codes "G") 175) (insts_of [] ((inst (name (codes "j") 177)) ∷ [])) ∷
     item.Made (Some (name (codes "p") 186)) (name (codes "P") 188) (insts_of [] ((inst (name (codes "k") 190)) ∷ (inst (name (codes "l") 193)) ∷ [])) ∷
-    item.Made None (name (codes "P") 196) (insts_of [] ((record (inst (name (codes "m") 198)) { range = (Some ((expr.Number 3 (at 200)), (expr.Number 0 (at 202)))) }) ∷ [])) ∷
+    item.Made None (name (codes "P") 196) (insts_of [] ((record (inst (name (codes "m") 198)) { range = (Some (lend ((expr.Number 3 (at 200)), (expr.Number 0 (at 202))))) }) ∷ [])) ∷
     item.Made (Some (name (codes "m") 212)) (name (codes "P") 214) (insts_of [] ((inst (name (codes "n") 216)) ∷ [])) ∷ []) None) ∷ [])
 
 -- addrmap t { reg P { field {} f; }; regfile G { P a; }; G p; P p; alias p P a; P #(.x(1)) q; alias q P b; };
@@ -289,9 +289,9 @@ abbrev pub values_in_other_parts : Source
 values_in_other_parts = source (
     item.Def (component kind.Addrmap (Some (name (codes "t") 8)) [] 8 (
     item.Def (component kind.Reg None [] 12 (
-    item.Def (component kind.Field None [] 18 [] (Some (insts_of [] ((record (inst (name (codes "f") 27)) { range = (Some ((expr.Ref (path_of ((step_to (name (codes "x") 29) []) ∷ [])) None), (expr.Binary op.Sub (lend (expr.Number 1 (at 31))) (lend (expr.Number 2 (at 35))) (at 33)))); reset = Some (expr.Binary op.Div (lend (expr.Number 1 (at 40))) (lend (expr.Number 0 (at 44))) (at 42)) }) ∷ [])))) ∷ []) (Some (insts_of [] ((inst (name (codes "r") 49)) ∷ [])))) ∷
-    item.Def (component kind.Reg None [] 52 [] (Some (insts_of [] ((record (inst (name (codes "a") 59)) { dims = lend ((expr.Number 2 (at 61)) ∷ []); at = Some (expr.Ref (path_of ((step_to (name (codes "y") 65) []) ∷ [])) None); stride = Some (expr.Binary op.Div (lend (expr.Number 1 (at 70))) (lend (expr.Number 0 (at 74))) (at 72)) }) ∷ [])))) ∷
-    item.Def (component kind.Reg None [] 77 [] (Some (insts_of [] ((record (inst (name (codes "b") 84)) { align = Some (expr.Str (lend (codes "s")) (at 89)) }) ∷ [])))) ∷ []) None) ∷ [])
+    item.Def (component kind.Field None [] 18 [] (Some (insts_of [] ((record (inst (name (codes "f") 27)) { range = (Some (lend ((expr.Ref (path_of ((step_to (name (codes "x") 29) []) ∷ [])) None), (expr.Binary op.Sub (lend (expr.Number 1 (at 31))) (lend (expr.Number 2 (at 35))) (at 33))))); reset = Some (lend (expr.Binary op.Div (lend (expr.Number 1 (at 40))) (lend (expr.Number 0 (at 44))) (at 42))) }) ∷ [])))) ∷ []) (Some (insts_of [] ((inst (name (codes "r") 49)) ∷ [])))) ∷
+    item.Def (component kind.Reg None [] 52 [] (Some (insts_of [] ((record (inst (name (codes "a") 59)) { dims = lend ((expr.Number 2 (at 61)) ∷ []); at = Some (lend (expr.Ref (path_of ((step_to (name (codes "y") 65) []) ∷ [])) None)); stride = Some (lend (expr.Binary op.Div (lend (expr.Number 1 (at 70))) (lend (expr.Number 0 (at 74))) (at 72))) }) ∷ [])))) ∷
+    item.Def (component kind.Reg None [] 77 [] (Some (insts_of [] ((record (inst (name (codes "b") 84)) { align = Some (lend (expr.Str (lend (codes "s")) (at 89))) }) ∷ [])))) ∷ []) None) ∷ [])
 
 -- reg Q #(longint n) {}; addrmap t { Q #(.n(x)) a; Q #(.n("s")) b; Q #(.n(1 - 2)) c; Q #(.n(1 / 0)) d; };
 abbrev pub values_in_arguments : Source

@@ -31,7 +31,7 @@ field_rules = source (
     item.Local (assign (name (codes "hw") 58) None (word keyword.Na) 58) ∷ []) (Some (insts_of [] ((inst (name (codes "a") 67)) ∷ [])))) ∷
     item.Def (component kind.Field None [] 70 (
     item.Local (assign (name (codes "sw") 78) None (word keyword.W1) 78) ∷
-    item.Local (assign (name (codes "hw") 85) None (word keyword.Na) 85) ∷ []) (Some (insts_of [] ((record (inst (name (codes "b") 94)) { reset = Some (expr.Number 0 (at 98)) }) ∷ [])))) ∷
+    item.Local (assign (name (codes "hw") 85) None (word keyword.Na) 85) ∷ []) (Some (insts_of [] ((record (inst (name (codes "b") 94)) { reset = Some (lend (expr.Number 0 (at 98))) }) ∷ [])))) ∷
     item.Def (component kind.Field None [] 101 (
     item.Local (assign (name (codes "sw") 109) None (word keyword.R) 109) ∷
     item.Local (assign (name (codes "hw") 115) None (word keyword.W) 115) ∷
@@ -73,7 +73,7 @@ field_rules = source (
     item.Local (assign (name (codes "singlepulse") 426) None None 426) ∷ []) (Some (insts_of [] ((inst (name (codes "k") 441)) ∷ [])))) ∷
     item.Def (component kind.Field None [] 444 (
     item.Local (assign (name (codes "sw") 452) None (word keyword.Rw) 452) ∷
-    item.Local (assign (name (codes "hw") 459) None (word keyword.R) 459) ∷ []) (Some (insts_of [] ((record (inst (name (codes "l") 467)) { dims = lend ((expr.Number 2 (at 469)) ∷ []); reset = Some (expr.Number 4 (at 474)) }) ∷ [])))) ∷
+    item.Local (assign (name (codes "hw") 459) None (word keyword.R) 459) ∷ []) (Some (insts_of [] ((record (inst (name (codes "l") 467)) { dims = lend ((expr.Number 2 (at 469)) ∷ []); reset = Some (lend (expr.Number 4 (at 474))) }) ∷ [])))) ∷
     item.Def (component kind.Field None [] 477 (
     item.Local (assign (name (codes "sw") 485) None (word keyword.Rw1) 485) ∷
     item.Local (assign (name (codes "hw") 493) None (word keyword.R) 493) ∷ []) (Some (insts_of [] ((inst (name (codes "n") 501)) ∷ [])))) ∷
@@ -81,13 +81,13 @@ field_rules = source (
     item.Local (assign (name (codes "sw") 516) None (word keyword.R) 516) ∷
     item.Local (assign (name (codes "hw") 522) None (word keyword.R) 522) ∷
     item.Local (assign (name (codes "counter") 528) None None 528) ∷
-    item.Local (assign (name (codes "incrwidth") 537) None (value (expr.Number 9 (at 547))) 537) ∷ []) (Some (insts_of [] ((record (inst (name (codes "o") 552)) { dims = lend ((expr.Number 8 (at 554)) ∷ []); reset = Some (expr.Number 0 (at 559)) }) ∷ [])))) ∷ []) (Some (insts_of [] ((inst (name (codes "x") 566)) ∷ [])))) ∷
+    item.Local (assign (name (codes "incrwidth") 537) None (value (expr.Number 9 (at 547))) 537) ∷ []) (Some (insts_of [] ((record (inst (name (codes "o") 552)) { dims = lend ((expr.Number 8 (at 554)) ∷ []); reset = Some (lend (expr.Number 0 (at 559))) }) ∷ [])))) ∷ []) (Some (insts_of [] ((inst (name (codes "x") 566)) ∷ [])))) ∷
     item.Def (component kind.Reg None [] 571 (
     item.Local (assign (name (codes "accesswidth") 577) None (value (expr.Number 8 (at 589))) 577) ∷
-    item.Def (component kind.Field None [] 592 [] (Some (insts_of [] ((record (inst (name (codes "p") 601)) { range = (Some ((expr.Number 11 (at 603)), (expr.Number 4 (at 606)))) }) ∷ [])))) ∷
+    item.Def (component kind.Field None [] 592 [] (Some (insts_of [] ((record (inst (name (codes "p") 601)) { range = (Some (lend ((expr.Number 11 (at 603)), (expr.Number 4 (at 606))))) }) ∷ [])))) ∷
     item.Def (component kind.Field None [] 610 (
     item.Local (assign (name (codes "sw") 618) None (word keyword.R) 618) ∷
-    item.Local (assign (name (codes "hw") 624) None (word keyword.W) 624) ∷ []) (Some (insts_of [] ((record (inst (name (codes "q") 632)) { range = (Some ((expr.Number 23 (at 634)), (expr.Number 12 (at 637)))) }) ∷ [])))) ∷ []) (Some (insts_of [] ((inst (name (codes "y") 644)) ∷ [])))) ∷
+    item.Local (assign (name (codes "hw") 624) None (word keyword.W) 624) ∷ []) (Some (insts_of [] ((record (inst (name (codes "q") 632)) { range = (Some (lend ((expr.Number 23 (at 634)), (expr.Number 12 (at 637))))) }) ∷ [])))) ∷ []) (Some (insts_of [] ((inst (name (codes "y") 644)) ∷ [])))) ∷
     item.Def (component kind.Reg None [] 649 (
     item.Def (component kind.Field None [] 655 (
     item.Local (assign (name (codes "encode") 663) None (value (expr.Ref (path_of ((step_to (name (codes "e3") 670) []) ∷ [])) None)) 663) ∷ []) (Some (insts_of [] ((record (inst (name (codes "t") 676)) { dims = lend ((expr.Number 2 (at 678)) ∷ []) }) ∷ [])))) ∷ []) (Some (insts_of [] ((inst (name (codes "z") 684)) ∷ [])))) ∷
@@ -127,7 +127,7 @@ reference_rules = source (
     item.Local (assign (name (codes "hw") 245) None (word keyword.R) 245) ∷
     item.Local (assign (name (codes "counter") 251) None None 251) ∷ []) (Some (insts_of [] ((record (inst (name (codes "e") 262)) { dims = lend ((expr.Number 4 (at 264)) ∷ []) }) ∷ [])))) ∷
     item.Dynamic (path_of ((step_to (name (codes "e") 268) []) ∷ [])) (assign (name (codes "incrvalue") 271) None (value (expr.Ref (path_of ((step_to (name (codes "a") 283) []) ∷ [])) None)) 268) ∷
-    item.Def (component kind.Field None [] 290 [] (Some (insts_of [] ((record (inst (name (codes "f") 299)) { reset = Some (expr.Number 0 (at 303)) }) ∷ [])))) ∷
+    item.Def (component kind.Field None [] 290 [] (Some (insts_of [] ((record (inst (name (codes "f") 299)) { reset = Some (lend (expr.Number 0 (at 303))) }) ∷ [])))) ∷
     item.Dynamic (path_of ((step_to (name (codes "f") 306) []) ∷ [])) (assign (name (codes "resetsignal") 309) None (value (expr.Ref (path_of ((step_to (name (codes "s4") 323) []) ∷ [])) None)) 306) ∷
     item.Def (component kind.Field None [] 327 [] (Some (insts_of [] ((inst (name (codes "g") 336)) ∷ [])))) ∷
     item.Dynamic (path_of ((step_to (name (codes "g") 339) []) ∷ [])) (assign (name (codes "we") 342) None (value (expr.Ref (path_of ((step_to (name (codes "a") 347) []) ∷ [])) (Some (name (codes "overflow") 350)))) 339) ∷
@@ -143,7 +143,7 @@ alias_of_its_fields = source (
     item.Local (assign (name (codes "hw") 28) None (word keyword.W) 28) ∷
     item.Local (assign (name (codes "sw") 34) None (word keyword.Rw) 34) ∷
     item.Local (assign (name (codes "intr") 41) None None 41) ∷
-    item.Local (assign (name (codes "woclr") 47) None None 47) ∷ []) (Some (insts_of [] ((record (inst (name (codes "e") 56)) { dims = lend ((expr.Number 4 (at 58)) ∷ []); reset = Some (expr.Number 0 (at 63)) }) ∷ [])))) ∷ []) None) ∷
+    item.Local (assign (name (codes "woclr") 47) None None 47) ∷ []) (Some (insts_of [] ((record (inst (name (codes "e") 56)) { dims = lend ((expr.Number 4 (at 58)) ∷ []); reset = Some (lend (expr.Number 0 (at 63))) }) ∷ [])))) ∷ []) None) ∷
     item.Def (component kind.Reg (Some (name (codes "Q") 73)) [] 73 (
     item.Def (component kind.Field None [] 77 (
     item.Local (assign (name (codes "hw") 85) None (word keyword.W) 85) ∷
@@ -161,7 +161,7 @@ alias_of_others = source (
     item.Local (assign (name (codes "hw") 28) None (word keyword.W) 28) ∷
     item.Local (assign (name (codes "sw") 34) None (word keyword.Rw) 34) ∷
     item.Local (assign (name (codes "intr") 41) None None 41) ∷
-    item.Local (assign (name (codes "woclr") 47) None None 47) ∷ []) (Some (insts_of [] ((record (inst (name (codes "e") 56)) { dims = lend ((expr.Number 4 (at 58)) ∷ []); reset = Some (expr.Number 0 (at 63)) }) ∷ [])))) ∷ []) None) ∷
+    item.Local (assign (name (codes "woclr") 47) None None 47) ∷ []) (Some (insts_of [] ((record (inst (name (codes "e") 56)) { dims = lend ((expr.Number 4 (at 58)) ∷ []); reset = Some (lend (expr.Number 0 (at 63))) }) ∷ [])))) ∷ []) None) ∷
     item.Def (component kind.Reg (Some (name (codes "Q") 73)) [] 73 (
     item.Local (assign (name (codes "accesswidth") 77) None (value (expr.Number 16 (at 89))) 77) ∷
     item.Def (component kind.Field None [] 93 (

@@ -103,11 +103,11 @@ many_items = source (
     item.Def (component kind.Reg None [] 12 (
     item.Def (component kind.Field None [] 18 (
     item.Local (assign (name (codes "sw") 26) None (word keyword.Rw) 26) ∷
-    item.Local (assign (name (codes "hw") 33) None (word keyword.R) 33) ∷ []) (Some (insts_of [] ((record (inst (name (codes "en") 41)) { dims = lend ((expr.Number 2 (at 44)) ∷ []); reset = Some (expr.Number 0 (at 49)) }) ∷ [])))) ∷
+    item.Local (assign (name (codes "hw") 33) None (word keyword.R) 33) ∷ []) (Some (insts_of [] ((record (inst (name (codes "en") 41)) { dims = lend ((expr.Number 2 (at 44)) ∷ []); reset = Some (lend (expr.Number 0 (at 49))) }) ∷ [])))) ∷
     item.Def (component kind.Field None [] 52 (
     item.Local (assign (name (codes "sw") 60) None (word keyword.Rw) 60) ∷
     item.Local (assign (name (codes "hw") 67) None (word keyword.W) 67) ∷
-    item.Local (assign (name (codes "intr") 73) None None 73) ∷ []) (Some (insts_of [] ((record (inst (name (codes "ev") 81)) { dims = lend ((expr.Number 2 (at 84)) ∷ []); reset = Some (expr.Number 0 (at 89)) }) ∷ [])))) ∷
+    item.Local (assign (name (codes "intr") 73) None None 73) ∷ []) (Some (insts_of [] ((record (inst (name (codes "ev") 81)) { dims = lend ((expr.Number 2 (at 84)) ∷ []); reset = Some (lend (expr.Number 0 (at 89))) }) ∷ [])))) ∷
     item.Dynamic (path_of ((step_to (name (codes "ev") 92) []) ∷ [])) (assign (name (codes "enable") 96) None (value (expr.Ref (path_of ((step_to (name (codes "en") 105) []) ∷ [])) None)) 92) ∷
     item.Dynamic (path_of ((step_to (name (codes "ev") 109) []) ∷ [])) (assign (name (codes "haltmask") 113) None (value (expr.Ref (path_of ((step_to (name (codes "en") 124) []) ∷ [])) None)) 109) ∷
     item.Def (component kind.Field None [] 128 (
@@ -121,7 +121,7 @@ many_items = source (
     item.Def (component kind.Field None [] 221 (
     item.Local (assign (name (codes "sw") 229) None (word keyword.R) 229) ∷
     item.Local (assign (name (codes "hw") 235) None (word keyword.R) 235) ∷
-    item.Local (assign (name (codes "counter") 241) None None 241) ∷ []) (Some (insts_of [] ((record (inst (name (codes "c") 252)) { dims = lend ((expr.Number 4 (at 254)) ∷ []); reset = Some (expr.Number 0 (at 259)) }) ∷ [])))) ∷
+    item.Local (assign (name (codes "counter") 241) None None 241) ∷ []) (Some (insts_of [] ((record (inst (name (codes "c") 252)) { dims = lend ((expr.Number 4 (at 254)) ∷ []); reset = Some (lend (expr.Number 0 (at 259))) }) ∷ [])))) ∷
     item.Dynamic (path_of ((step_to (name (codes "c") 262) []) ∷ [])) (assign (name (codes "incr") 265) None (value (expr.Ref (path_of ((step_to (name (codes "ev") 272) []) ∷ [])) (Some (name (codes "ored") 276)))) 262) ∷
     item.Dynamic (path_of ((step_to (name (codes "c") 282) []) ∷ [])) (assign (name (codes "incrthreshold") 285) None (value (expr.Ref (path_of ((step_to (name (codes "n") 301) []) ∷ [])) None)) 282) ∷
     item.Dynamic (path_of ((step_to (name (codes "c") 304) []) ∷ [])) (assign (name (codes "decrvalue") 307) None (value (expr.Ref (path_of ((step_to (name (codes "n") 319) []) ∷ [])) None)) 304) ∷ []) (Some (insts_of [] ((inst (name (codes "a") 324)) ∷ [])))) ∷ []) None) ∷ [])
@@ -135,7 +135,7 @@ alias_items = source (
     item.Local (assign (name (codes "hw") 28) None (word keyword.W) 28) ∷
     item.Local (assign (name (codes "sw") 34) None (word keyword.Rw) 34) ∷
     item.Local (assign (name (codes "intr") 41) None None 41) ∷
-    item.Local (assign (name (codes "woclr") 47) None None 47) ∷ []) (Some (insts_of [] ((record (inst (name (codes "e") 56)) { dims = lend ((expr.Number 4 (at 58)) ∷ []); reset = Some (expr.Number 0 (at 63)) }) ∷ [])))) ∷ []) None) ∷
+    item.Local (assign (name (codes "woclr") 47) None None 47) ∷ []) (Some (insts_of [] ((record (inst (name (codes "e") 56)) { dims = lend ((expr.Number 4 (at 58)) ∷ []); reset = Some (lend (expr.Number 0 (at 63))) }) ∷ [])))) ∷ []) None) ∷
     item.Def (component kind.Reg (Some (name (codes "Q") 73)) [] 73 (
     item.Def (component kind.Field None [] 77 (
     item.Local (assign (name (codes "sw") 85) None (word keyword.Rw) 85) ∷

@@ -97,13 +97,13 @@ instance_value = source (
     item.Default (assign (name (codes "reset") 20) None (value (expr.Number 9 (at 28))) 12) ∷
     item.Def (component kind.Reg None [] 31 (
     item.Def (component kind.Field None [] 37 (
-    item.Local (assign (name (codes "reset") 45) None (value (expr.Number 1 (at 53))) 45) ∷ []) (Some (insts_of [] ((record (inst (name (codes "f") 58)) { reset = Some (expr.Number 2 (at 62)) }) ∷ [])))) ∷
+    item.Local (assign (name (codes "reset") 45) None (value (expr.Number 1 (at 53))) 45) ∷ []) (Some (insts_of [] ((record (inst (name (codes "f") 58)) { reset = Some (lend (expr.Number 2 (at 62))) }) ∷ [])))) ∷
     item.Def (component kind.Field None [] 65 (
     item.Local (assign (name (codes "reset") 73) None (value (expr.Number 1 (at 81))) 73) ∷ []) (Some (insts_of [] ((inst (name (codes "g") 86)) ∷ [])))) ∷
     item.Def (component kind.Field None [] 89 (
-    item.Local (assign (name (codes "reset") 97) None (value (expr.Number 1 (at 105))) 97) ∷ []) (Some (insts_of [] ((record (inst (name (codes "h") 110)) { reset = Some (expr.Number 2 (at 114)) }) ∷ [])))) ∷
+    item.Local (assign (name (codes "reset") 97) None (value (expr.Number 1 (at 105))) 97) ∷ []) (Some (insts_of [] ((record (inst (name (codes "h") 110)) { reset = Some (lend (expr.Number 2 (at 114))) }) ∷ [])))) ∷
     item.Def (component kind.Field None [] 117 [] (Some (insts_of [] ((inst (name (codes "k") 126)) ∷ [])))) ∷
-    item.Def (component kind.Field None [] 129 [] (Some (insts_of [] ((record (inst (name (codes "l") 138)) { reset = Some (expr.Flag true (at 142)) }) ∷ [])))) ∷
+    item.Def (component kind.Field None [] 129 [] (Some (insts_of [] ((record (inst (name (codes "l") 138)) { reset = Some (lend (expr.Flag true (at 142))) }) ∷ [])))) ∷
     item.Dynamic (path_of ((step_to (name (codes "h") 148) []) ∷ [])) (assign (name (codes "reset") 151) None (value (expr.Number 3 (at 159))) 148) ∷ []) (Some (insts_of [] ((inst (name (codes "a") 164)) ∷ [])))) ∷ []) None) ∷ [])
 
 -- addrmap d { regfile G #(longint unsigned W = 8) { default regwidth = W; reg { field {} f; } a; }; G x; G #(.W(16)) y; };
@@ -607,7 +607,7 @@ field_widths = source (
     item.Def (component kind.Field None [] 51 [] (Some (insts_of [] ((record (inst (name (codes "f") 60)) { dims = lend ((expr.Number 0 (at 62)) ∷ []) }) ∷ [])))) ∷
     item.Def (component kind.Field None [] 66 [] (Some (insts_of [] ((record (inst (name (codes "g") 75)) { dims = lend ((expr.Number 65 (at 77)) ∷ []) }) ∷ [])))) ∷
     item.Def (component kind.Field None [] 82 [] (Some (insts_of [] ((record (inst (name (codes "h") 91)) { dims = lend ((expr.Number 64 (at 93)) ∷ []) }) ∷ [])))) ∷
-    item.Def (component kind.Field None [] 98 [] (Some (insts_of [] ((record (inst (name (codes "i") 107)) { range = (Some ((expr.Number 3 (at 109)), (expr.Number 5 (at 111)))) }) ∷ [])))) ∷
+    item.Def (component kind.Field None [] 98 [] (Some (insts_of [] ((record (inst (name (codes "i") 107)) { range = (Some (lend ((expr.Number 3 (at 109)), (expr.Number 5 (at 111))))) }) ∷ [])))) ∷
     item.Def (component kind.Field None [] 115 (
     item.Local (assign (name (codes "fieldwidth") 123) None (value (expr.Number 4 (at 136))) 123) ∷ []) (Some (insts_of [] ((record (inst (name (codes "j") 141)) { dims = lend ((expr.Number 8 (at 143)) ∷ []) }) ∷ [])))) ∷
     item.Def (component kind.Field None [] 147 (
@@ -615,8 +615,8 @@ field_widths = source (
     item.Def (component kind.Field None [] 176 (
     item.Local (assign (name (codes "fieldwidth") 184) None (value (expr.Number 0 (at 197))) 184) ∷ []) (Some (insts_of [] ((inst (name (codes "l") 202)) ∷ [])))) ∷
     item.Def (component kind.Field None [] 205 (
-    item.Local (assign (name (codes "fieldwidth") 213) None (value (expr.Number 3 (at 226))) 213) ∷ []) (Some (insts_of [] ((record (inst (name (codes "m") 231)) { range = (Some ((expr.Number 4 (at 233)), (expr.Number 2 (at 235)))) }) ∷ [])))) ∷
-    item.Def (component kind.Field None [] 239 [] (Some (insts_of [] ((record (inst (name (codes "n") 248)) { range = (Some ((expr.Number 6 (at 250)), (expr.Number 6 (at 252)))) }) ∷ [])))) ∷ []) (Some (insts_of [] ((inst (name (codes "a") 258)) ∷ [])))) ∷ []) None) ∷ [])
+    item.Local (assign (name (codes "fieldwidth") 213) None (value (expr.Number 3 (at 226))) 213) ∷ []) (Some (insts_of [] ((record (inst (name (codes "m") 231)) { range = (Some (lend ((expr.Number 4 (at 233)), (expr.Number 2 (at 235))))) }) ∷ [])))) ∷
+    item.Def (component kind.Field None [] 239 [] (Some (insts_of [] ((record (inst (name (codes "n") 248)) { range = (Some (lend ((expr.Number 6 (at 250)), (expr.Number 6 (at 252))))) }) ∷ [])))) ∷ []) (Some (insts_of [] ((inst (name (codes "a") 258)) ∷ [])))) ∷ []) None) ∷ [])
 
 -- addrmap d { default fieldwidth = 4; default signalwidth = 2; signal {} s[8]; signal {} t; signal { signalwidth = 8; } u[8]; reg { field {} f; field {} g[8]; field { fieldwidth = 8; } h[8]; } a; };
 abbrev pub widths_by_default : Source
