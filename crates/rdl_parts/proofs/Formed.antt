@@ -1,5 +1,5 @@
 -- The form of a use, from the parts that its instance has.
-use Rattle.std.proofs.Common.{◌≡◌, ◌∙◌, Bool, List, [], ◌∷◌, length, not, ◌&&◌, ◌||◌, ◌==◌, is_some, refl, sym, arith}
+use Rattle.std.proofs.Common.{◌≡◌, ◌∙◌, Bool, List, [], ◌∷◌, length, not, ◌&&◌, ◌||◌, ◌==◌, is_some, refl, arith}
 use Rattle.std.proofs.lemmas.Bool.Decides.{nat_tests}
 use denote.Enum.Bare.{sameb}
 use Rattle.rdl_tree.specs.contracts.item.Kind as of_kind
