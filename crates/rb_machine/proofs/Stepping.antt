@@ -1,5 +1,5 @@
 -- What an edge of a block makes, from what was computed.
-use Rattle.std.proofs.Common.{◌≡◌, ℕ, ◌<◌, ◌≤◌, Bool, true, false, ◌&&◌, ◌||◌, if◌then◌else◌, Option, Some, None, unwrap_or, List, [], ◌∷◌, length, map, slice_get, refl, ap, ◌∙◌, subst, arith, inl, inr, ◌⊎◌}
+use Rattle.std.proofs.Common.{◌≡◌, ℕ, ◌<◌, ◌≤◌, Bool, true, false, ◌&&◌, if◌then◌else◌, Option, Some, None, unwrap_or, List, [], ◌∷◌, length, map, slice_get, refl, ap, ◌∙◌, subst, arith, inl, inr, ◌⊎◌}
 use Rattle.std.specs.Option.{option_map_or}
 use Rattle.v_design.specs.Expr.{bit_of}
 use Rattle.rb_model.specs.declared.kinds.RefItem.{RefItem}
@@ -41,14 +41,6 @@ map-map v (o ∷ os) = ap (λ xs. v o.item ∷ xs) (map-map v os)
 value_ordered : (c : Bool) (h s : ℕ → ℕ) (x : ℕ) → (if c then h (s (if c then x else h x)) else s (if c then x else h x)) ≡ (if c then h (s x) else s (h x))
 value_ordered true h s x = refl
 value_ordered false h s x = refl
-
-done_kept : (once asserted d u : Bool) → bit_of (once && (if asserted then false else (d || u))) ≡ (if once then (if asserted then 0 else (if u then 1 else bit_of d)) else 0)
-done_kept false asserted d u = refl
-done_kept true true d u = refl
-done_kept true false true true = refl
-done_kept true false true false = refl
-done_kept true false false true = refl
-done_kept true false false false = refl
 
 bit_kept : (w c : Bool) → bit_of (w && c) ≡ (if w then bit_of c else 0)
 bit_kept true c = refl
@@ -115,16 +107,16 @@ module _ (b : Block) (x : List ℕ) (h : Held) (t : Transfer) (v : ItemValues) (
             let made : ℕ → ℕ = λ y. if keeps_last f.latch then (if is_asserted b n.pins f.reset_by then 0 else y) else 0 in
             ap (λ s. s.last) (moved k f here) ∙ ap made (software_last b n v k f here access s)
 
-    done_next : (k : ℕ) → bit_of (state_at states k).done ≡ only_kept b (kept_next b n v) (Done k)
+    done_next : (k : ℕ) → (state_at states k).done ≡ only_kept b (kept_next b n v) (Done k)
     done_next k = by (slice_get b.fields k) refl
       where
         by : (o : Option Field) → slice_get b.fields k ≡ o
-            → bit_of (state_at states k).done ≡ (if option_map_or (λ f. f.once) o false then option_map_or (λ f. if is_asserted b n.pins f.reset_by then 0 else (if uses_up b n v access k then 1 else bit_of (state_at h.fields.items k).done)) o (if uses_up b n v access k then 1 else bit_of (state_at h.fields.items k).done) else 0)
-        by None here = ap (λ s. bit_of s.done) (past_none k here)
+            → (state_at states k).done ≡ (if option_map_or (λ f. f.once) o false then option_map_or (λ f. if is_asserted b n.pins f.reset_by then 0 else (if uses_up b n v access k then 1 else (state_at h.fields.items k).done)) o (if uses_up b n v access k then 1 else (state_at h.fields.items k).done) else 0)
+        by None here = ap (λ s. s.done) (past_none k here)
         by (Some f) here =
             let s = started_state n v k f (state_at h.fields.items k) in
-            let made : Bool → ℕ = λ y. bit_of (f.once && (if is_asserted b n.pins f.reset_by then false else y)) in
-            ap (λ s. bit_of s.done) (moved k f here) ∙ (ap made (software_done b n v k f here access s) ∙ done_kept f.once (is_asserted b n.pins f.reset_by) (state_at h.fields.items k).done (uses_up b n v access k))
+            let made : ℕ → ℕ = λ y. if f.once then (if is_asserted b n.pins f.reset_by then 0 else y) else 0 in
+            ap (λ s. s.done) (moved k f here) ∙ ap made (software_done b n v k f here access s)
 
     -- what is held after the edge
     pub held_is : (h' : Held) (given : ℕ) → h'.fields.items ≡ states → h'.waited ≡ (has_wait b && t.carries) → h'.«data» ≡ (if has_wait b then given else 0) → h'.error ≡ (has_wait b && (t.carries && t.unmapped))
@@ -134,7 +126,7 @@ module _ (b : Block) (x : List ℕ) (h : Held) (t : Transfer) (v : ItemValues) (
         each : (k : Kept) → map_of h' k ≡ only_kept b (kept_next b n v) k
         each (Val k) = ap (λ ss. (state_at ss k).value) f ∙ value_next k
         each (Last k) = ap (λ ss. (state_at ss k).last) f ∙ last_next k
-        each (Done k) = ap (λ ss. bit_of (state_at ss k).done) f ∙ done_next k
+        each (Done k) = ap (λ ss. (state_at ss k).done) f ∙ done_next k
         each Waited = ap bit_of w ∙ (bit_kept (has_wait b) t.carries ∙ ap (λ z. if has_wait b then bit_of z else 0) tr.carries)
         each Data = d ∙ ap (λ z. if has_wait b then z else 0) g
         each Error = ap bit_of e ∙ (bit_kept (has_wait b) (t.carries && t.unmapped)

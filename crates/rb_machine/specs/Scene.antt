@@ -19,7 +19,7 @@ use Rattle.rb_machine.specs.Sight.{Sees}
 
 -- what is kept of a field that there isn't
 abbrev pub no_state : FieldState
-no_state = record { value = 0; last = 0; done = false }
+no_state = record { value = 0; last = 0; done = 0 }
 
 abbrev pub state_at : List FieldState → ℕ → FieldState
 state_at states k = get_or states k no_state
@@ -28,7 +28,7 @@ state_at states k = get_or states k no_state
 abbrev pub map_of : Held → Map
 map_of h (Val k) = (state_at h.fields.items k).value
 map_of h (Last k) = (state_at h.fields.items k).last
-map_of h (Done k) = bit_of (state_at h.fields.items k).done
+map_of h (Done k) = (state_at h.fields.items k).done
 map_of h Waited = bit_of h.waited
 map_of h Data = h.«data»
 map_of h Error = bit_of h.error

@@ -135,7 +135,7 @@ impl<'b> Machine<'b> {
         let state = FieldState {
             value: 0,
             last: 0,
-            done: false,
+            done: 0,
         };
         let mark = Mark {
             modified: false,

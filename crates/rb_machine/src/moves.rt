@@ -85,7 +85,7 @@ fn started(scene: &Scene, table: &[u64], number: usize) -> FieldState
         None => FieldState {
             value: 0,
             last: 0,
-            done: false,
+            done: 0,
         },
         Some(at) => at.started(),
     }

@@ -64,7 +64,7 @@ pub(crate) fn reset_state(field: &Field, asserted: bool, state: FieldState) -> F
         FieldState {
             value: field.reset.unwrap_or(state.value),
             last: 0,
-            done: false,
+            done: 0,
         }
     } else {
         state
@@ -101,6 +101,6 @@ pub(crate) fn kept_state(field: &Field, state: FieldState) -> FieldState
         } else {
             0
         },
-        done: field.once && state.done,
+        done: if field.once { state.done } else { 0 },
     }
 }

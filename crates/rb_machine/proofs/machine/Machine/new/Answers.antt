@@ -14,7 +14,7 @@ get_or-replicate (suc n) x (suc k) = get_or-replicate n x k
 zeros : (h : Held) (n : ℕ) → h.fields.items ≡ replicate n no_state → h.waited ≡ false → h.«data» ≡ 0 → h.error ≡ false → (k : Kept) → map_of h k ≡ 0
 zeros h n f w d e (Val k) = ap (λ ss. (state_at ss k).value) f ∙ ap (λ s. s.value) (get_or-replicate n no_state k)
 zeros h n f w d e (Last k) = ap (λ ss. (state_at ss k).last) f ∙ ap (λ s. s.last) (get_or-replicate n no_state k)
-zeros h n f w d e (Done k) = ap (λ ss. bit_of (state_at ss k).done) f ∙ ap (λ s. bit_of s.done) (get_or-replicate n no_state k)
+zeros h n f w d e (Done k) = ap (λ ss. (state_at ss k).done) f ∙ ap (λ s. s.done) (get_or-replicate n no_state k)
 zeros h n f w d e Waited = ap bit_of w
 zeros h n f w d e Data = d
 zeros h n f w d e Error = ap bit_of e
