@@ -9,3 +9,4 @@ mod Accessing
 mod Narrow
 mod Stepping
 mod Placing
+mod Resetting

@@ -146,24 +146,24 @@ edge_is b x m h h' t v outs same tr vals seen moved =
     }
 
 -- the edge, where the pins, the table and the states were lent in turn
-pub edge_made : (b : Block) (m : Map) (x x1 x2 table t4 t5 t7 : List ℕ) (states lent : List FieldState) (h h' : Held) (t : Transfer) (given : ℕ) (bus : BusOuts) (items : List RefItem) (outs : List ℕ)
-    → x1 ≡ x → x2 ≡ x → t4 ≡ table → t5 ≡ table → t7 ≡ table → lent ≡ states → length states ≡ length b.fields
+pub edge_made : (b : Block) (m : Map) (x x1 table t4 t5 t7 : List ℕ) (states lent : List FieldState) (h h' : Held) (t : Transfer) (given : ℕ) (bus : BusOuts) (items : List RefItem) (outs : List ℕ)
+    → x1 ≡ x → t4 ≡ table → t5 ≡ table → t7 ≡ table → lent ≡ states → length states ≡ length b.fields
     → ((k : Kept) → map_of h k ≡ bus_held b (bus_of (pins_of b x)) (held b (pins_of b x) m) k)
     → IsTransfer b (bus_of (pins_of b x)) (map_of h) t
     → AreItemValues b (at_edge b x1 h (access_seen t.access)) (values_of table)
     → ((k : ℕ) (f : Field) → slice_get b.fields k ≡ Some f
-    → state_at states k ≡ next_state b (at_edge b x2 h NoAccess) (values_of t4) k f (access_state b (at_edge b x2 h NoAccess) (values_of t4) (access_seen t.access) k (started_state (at_edge b x2 h NoAccess) (values_of t4) k f (state_at h.fields.items k))))
+    → state_at states k ≡ next_state b (at_edge b x1 h NoAccess) (values_of t4) k f (access_state b (at_edge b x1 h NoAccess) (values_of t4) (access_seen t.access) k (started_state (at_edge b x1 h NoAccess) (values_of t4) k f (state_at h.fields.items k))))
     → given ≡ read_data b (values_of t5) (access_seen t.access) → bus ≡ outs_shown b t h given → items ≡ map (λ o. o.item) (outlets b)
     → outs ≡ bus.ready ∷ bus.«data» ∷ bus.error ∷ map (values_of t7) items
     → h'.fields.items ≡ lent → h'.waited ≡ (has_wait b && t.carries) → h'.«data» ≡ (if has_wait b then given else 0) → h'.error ≡ (has_wait b && (t.carries && t.unmapped))
     → ClockEdge b m x outs (map_of h')
-edge_made b m x x1 x2 table t4 t5 t7 states lent h h' t given bus items outs ex1 ex2 e4 e5 e7 el sized same tr vals moved g s i o f w d e =
+edge_made b m x x1 table t4 t5 t7 states lent h h' t given bus items outs ex e4 e5 e7 el sized same tr vals moved g s i o f w d e =
     let v = values_of table in
     let a = access_seen t.access in
     let Q : List ℕ → List ℕ → Type 0 = λ y z. (k : ℕ) (f : Field) → slice_get b.fields k ≡ Some f
     → state_at states k ≡ next_state b (at_edge b y h NoAccess) (values_of z) k f (access_state b (at_edge b y h NoAccess) (values_of z) a k (started_state (at_edge b y h NoAccess) (values_of z) k f (state_at h.fields.items k))) in
-    let moved' : Q x table = subst (λ y. Q y table) ex2 (subst (λ z. Q x2 z) e4 moved) in
-    let vals' : AreItemValues b (at_edge b x h a) v = subst (λ y. AreItemValues b (at_edge b y h a) v) ex1 vals in
+    let moved' : Q x table = subst (λ y. Q y table) ex (subst (λ z. Q x1 z) e4 moved) in
+    let vals' : AreItemValues b (at_edge b x h a) v = subst (λ y. AreItemValues b (at_edge b y h a) v) ex vals in
     let g' : given ≡ read_data b v a = g ∙ ap (λ z. read_data b (values_of z) a) e5 in
     let o' : outs ≡ bus.ready ∷ bus.«data» ∷ bus.error ∷ map v items = o ∙ ap (λ z. bus.ready ∷ bus.«data» ∷ bus.error ∷ map (values_of z) items) e7 in
     edge_is b x m h h' t v outs same tr vals' (shown_is b x h t v tr given bus items outs g' s i o') (held_is b x h t v tr states sized moved' h' given (f ∙ el) w d e g')

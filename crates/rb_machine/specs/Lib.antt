@@ -1,5 +1,6 @@
 pub mod Table
 pub mod Sight
+pub mod Resets
 pub mod Scene
 pub mod Slots
 pub mod Moves

@@ -10,6 +10,7 @@ use Rattle.rb_model.specs.Ports.{input_pins}
 use Rattle.rb_model.specs.Sound.{IsSound}
 use Rattle.rb_machine.specs.declared.machine.Machine.{Machine}
 use Rattle.rb_plan.specs.Plan.{IsPlanOf}
+use Rattle.rb_machine.specs.Resets.{AreWays}
 use Rattle.rb_machine.specs.Scene.{map_of}
 use Rattle.rb_plan.specs.Table.{item_place}
 
@@ -22,6 +23,7 @@ pub record IsReady (m : Machine) : Type 0 where
   pub sound : IsSound m.block.now
   pub planned : IsPlanOf m.block.now m.plan
   pub held : length m.held.fields.items ≡ length m.block.now.fields
+  pub resets : AreWays m.block.now.fields m.resets.items
   pub pins : length m.pins.items ≡ length (input_pins m.block.now)
   pub marks : length m.marks.items ≡ length m.block.now.fields
   pub states : length m.states.items ≡ length m.block.now.fields

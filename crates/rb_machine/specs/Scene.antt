@@ -15,6 +15,7 @@ use Rattle.rb_machine.specs.declared.scene.Held.{Held}
 use Rattle.rb_machine.specs.declared.scene.Mark.{Mark}
 use Rattle.rb_machine.specs.declared.scene.Scene.{Scene}
 use Rattle.rb_plan.specs.Plan.{IsPlanOf}
+use Rattle.rb_machine.specs.Resets.{NoneReset}
 use Rattle.rb_machine.specs.Sight.{Sees}
 
 -- what is kept of a field that there isn't
@@ -55,6 +56,7 @@ pub record IsScene (s : Scene) : Type 0 where
   pub planned : IsPlanOf s.block.now s.plan.now
   pub pins : length s.pins.now ≡ length (input_pins s.block.now)
   pub held : length s.held.now.fields.items ≡ length s.block.now.fields
+  pub calm : s.is_reset ≡ false → NoneReset s.block.now (pins_of s.block.now s.pins.now)
 
 -- a field at an edge
 pub record IsAt (s : Scene) (values : List ℕ) (k : ℕ) (f : FieldNow) : Type 0 where

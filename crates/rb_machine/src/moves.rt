@@ -3,6 +3,7 @@ ghost use Rattle.std.specs.Prelude.{◌≡◌, ◌<◌, ℕ, Some, length, slice
 ghost use Rattle.rb_model.specs.declared.block.Field.{Field};
 ghost use Rattle.rb_model.specs.Items.{NoAccess};
 ghost use Rattle.rb_model.specs.Machine as spec;
+ghost use Rattle.rb_model.specs.Run.{pins_of};
 ghost use Rattle.rb_model.specs.Sound.{IsSound};
 ghost use Rattle.rb_machine.specs.Moves.{next_state, started_state};
 ghost use Rattle.rb_machine.specs.Scene.{AreMarks, IsScene, no_mark, now_in, mark_at, state_at};
@@ -15,7 +16,7 @@ use crate::reset::{is_asserted, kept_state, reset_state};
 use crate::scene::{Mark, Scene};
 use crate::sight::FieldState;
 use crate::slots::{mark_read, mark_write, read_states, word_value, write_states};
-use rb_model::Block;
+use rb_model::{Block, Field};
 
 /// Takes all marks away.
 fn clear(marks: &mut [Mark])
@@ -91,6 +92,18 @@ fn started(scene: &Scene, table: &[u64], number: usize) -> FieldState
     }
 }
 
+/// Whether a field is under reset.
+fn is_under_reset(scene: &Scene, field: &Field) -> bool
+    requires scene { IsScene scene.now }
+    ensures { (k : ℕ) → slice_get scene.now.block.now.fields k ≡ Some field.now
+        → result ≡ spec.is_asserted scene.now.block.now (pins_of scene.now.block.now scene.now.pins.now) field.now.reset_by }
+{
+    if !scene.is_reset {
+        return false;
+    }
+    is_asserted(scene.block, scene.plan, scene.pins, field.reset_by)
+}
+
 /// What the field of a number keeps after the edge, of what software left.
 fn next(scene: &Scene, table: &[u64], number: usize, state: FieldState) -> FieldState
     requires scene { IsScene scene.now }
@@ -100,7 +113,7 @@ fn next(scene: &Scene, table: &[u64], number: usize, state: FieldState) -> Field
     match scene.at(table, number) {
         None => state,
         Some(at) => {
-            let asserted = is_asserted(scene.block, scene.plan, scene.pins, at.field.reset_by);
+            let asserted = is_under_reset(scene, at.field);
             kept_state(at.field, reset_state(at.field, asserted, at.ended(state)))
         }
     }

@@ -25,7 +25,7 @@ pub(crate) struct Mark {
     pub accessed: bool,
 }
 
-/// A block at an edge, with the pins, what it holds, and the marks of the access.
+/// A block at an edge, with the pins, what it holds, the marks of the access, and whether some reset of a field is asserted.
 #[derive(Clone, Copy)]
 pub(crate) struct Scene<'a> {
     pub block: &'a Block,
@@ -33,6 +33,7 @@ pub(crate) struct Scene<'a> {
     pub pins: &'a [u64],
     pub held: &'a Held,
     pub marks: &'a [Mark],
+    pub is_reset: bool,
 }
 
 impl<'a> Scene<'a> {

@@ -1,9 +1,11 @@
-use Rattle.std.proofs.Common.{◌≡◌, ℕ, zero, suc, false, ap, ◌∙◌, get_or, refl}
+use Rattle.std.proofs.Common.{◌≡◌, List, rules, subst, ℕ, zero, suc, false, ap, ◌∙◌, get_or, refl}
 use lib.ListN.{replicate}
 use Rattle.rb_model.specs.Kept.{Kept, Val, Last, Done, Waited, Data, Error}
 use Rattle.v_design.specs.Expr.{bit_of}
 use Rattle.rb_machine.specs.declared.scene.Held.{Held}
 use Rattle.rb_machine.specs.Scene.{map_of, no_state, state_at}
+use Rattle.rb_model.specs.declared.block.Field.{Field}
+use Rattle.rb_machine.specs.Resets.{AreWays}
 use Rattle.rb_machine.proofs.machine.Machine.new.Goals as goal
 
 get_or-replicate : {X : Type 0} (n : ℕ) (x : X) (k : ℕ) → get_or (replicate n x) k x ≡ x
@@ -21,3 +23,18 @@ zeros h n f w d e Error = ap bit_of e
 
 pub returns-clause-zeros : goal.returns-clause-zeros
 returns-clause-zeros c = zeros (record { fields = c.in_ok-vec.field-0; waited = false; «data» = 0; error = false }) c.len-fields.result (c.in_ok-vec.ensures.items_if_clones_equal (λ y e. e)) refl refl refl
+
+pub returns-clause-ready : goal.returns-clause-ready
+returns-clause-ready c =
+    let b = c.args.block.now in
+    let fields : c.deref.result.now ≡ b.fields = c.deref.ensures.value ∙ ap (λ b. b.fields) c.block.view_is in
+    record {
+      sound = c.requires;
+      planned = c.in_ok-plan.ensures;
+      held = search rules;
+      resets = subst (λ (fs : List Field). AreWays fs c.in_ok-resets.resets.items) fields c.in_ok-resets.ensures;
+      pins = search rules;
+      marks = search rules;
+      states = search rules;
+      room = search rules;
+    }
