@@ -10,3 +10,4 @@ mod Narrow
 mod Stepping
 mod Placing
 mod Resetting
+mod Resting

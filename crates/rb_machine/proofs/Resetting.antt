@@ -12,7 +12,7 @@ use Rattle.rb_model.specs.Machine.{is_asserted}
 use Rattle.rb_machine.specs.Resets.{AreWays, NoneReset}
 
 -- a test that no element passes
-fails : {X : Type 0} (p : X → Bool) (xs : List X) (x : X) → list_any p xs ≡ false → Contains xs x → p x ≡ false
+pub fails : {X : Type 0} (p : X → Bool) (xs : List X) (x : X) → list_any p xs ≡ false → Contains xs x → p x ≡ false
 fails p xs x none (j, low, is) = by (p x) refl
   where
     by : (c : Bool) → p x ≡ c → c ≡ false

@@ -171,6 +171,7 @@ pub(crate) fn hold(
     requires calm { is_reset ≡ false → NoneReset block.now (pins_of block.now pins.now) }
     ensures map { (k : Kept) → map_of held.new k ≡ run.bus_held block.now (bus_seen bus.now) (spec.held block.now (pins_of block.now pins.now) (map_of held.old)) k }
     ensures fields { length held.new.fields.items ≡ length block.now.fields }
+    ensures still { is_reset ≡ false → held.new.fields.items ≡ held.old.fields.items }
 {
     hold_fields(block, plan, pins, is_reset, &mut held.fields);
     if bus.resetn == 0 {

@@ -14,6 +14,7 @@ ghost use Rattle.rb_machine.specs.Table.{values_of};
 
 use crate::bus::{BusOuts, Transfer, bus_at, commit, hold, outs_shown, transfer_of};
 use crate::moves::{answer, mark_access, move_fields};
+use crate::quiet::quiet_fields;
 use crate::reset::{reset_ways, some_asserted};
 use crate::scene::{Held, Mark, Scene};
 use crate::sight::FieldState;
@@ -29,6 +30,7 @@ pub struct Machine<'b> {
     block: &'b Block,
     plan: Plan,
     resets: Vec<ResetBy>,
+    quiet: Vec<bool>,
     held: Held,
     pins: Vec<u64>,
     marks: Vec<Mark>,
@@ -75,6 +77,7 @@ fn observe(
         ≡ bus_held block.now (bus_of (pins_of block.now from.now)) (spec.held block.now (pins_of block.now from.now) (map_of held.old)) k }
     ensures fields { length held.new.fields.items ≡ length block.now.fields }
     ensures calm { result.is_reset ≡ false → NoneReset block.now (pins_of block.now from.now) }
+    ensures still { result.is_reset ≡ false → held.new.fields.items ≡ held.old.fields.items }
     ensures transfer { IsTransfer block.now (bus_of (pins_of block.now from.now)) (map_of held.new) result.transfer }
 {
     read_pins(from, pins);
@@ -120,6 +123,7 @@ impl<'b> Machine<'b> {
     {
         let plan = Plan::new(alloc, block)?;
         let resets = reset_ways(alloc, &block.fields.items)?;
+        let quiet = quiet_fields(alloc, &block.fields.items)?;
         let inputs = plan.inputs;
         let fields = block.fields.items.len();
         let state = FieldState {
@@ -135,6 +139,7 @@ impl<'b> Machine<'b> {
             block,
             plan,
             resets,
+            quiet,
             held: Held {
                 fields: vec![in alloc; state; fields]?,
                 waited: false,
@@ -177,6 +182,7 @@ impl<'b> Machine<'b> {
             pins: &self.pins,
             held: &self.held,
             marks: &self.marks,
+            quiet: &self.quiet,
             is_reset: vector.is_reset,
         };
         scene.settle(&mut self.table);

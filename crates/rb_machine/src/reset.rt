@@ -128,7 +128,8 @@ pub(crate) fn hold_fields(
     requires sized { length pins.now ≡ length (input_pins block.now) }
     requires states { length states.old ≡ length block.now.fields }
     requires calm { is_reset ≡ false → NoneReset block.now (pins_of block.now pins.now) }
-    ensures { (k : ℕ) (f : Field) → slice_get block.now.fields k ≡ Some f
+    ensures still { is_reset ≡ false → states.new ≡ states.old }
+    ensures reset { (k : ℕ) (f : Field) → slice_get block.now.fields k ≡ Some f
         → state_at states.new k ≡ moves.reset_state f (spec.is_asserted block.now (pins_of block.now pins.now) f.reset_by && not f.reset_by.sync) (state_at states.old k) }
 {
     if !is_reset {

@@ -25,7 +25,8 @@ pub(crate) struct Mark {
     pub accessed: bool,
 }
 
-/// A block at an edge, with the pins, what it holds, the marks of the access, and whether some reset of a field is asserted.
+/// A block at an edge, with the pins, what it holds, the marks of the access, of each field whether it is quiet, and whether some
+/// reset of a field is asserted.
 #[derive(Clone, Copy)]
 pub(crate) struct Scene<'a> {
     pub block: &'a Block,
@@ -33,6 +34,7 @@ pub(crate) struct Scene<'a> {
     pub pins: &'a [u64],
     pub held: &'a Held,
     pub marks: &'a [Mark],
+    pub quiet: &'a [bool],
     pub is_reset: bool,
 }
 
@@ -48,6 +50,8 @@ impl<'a> Scene<'a> {
     ghost use Rattle.rb_model.specs.Run.{pins_of};
     ghost use Rattle.rb_plan.specs.Table as places;
     ghost use Rattle.rb_machine.specs.Table.{values_of};
+    ghost use Rattle.rb_model.specs.declared.block.Field.{Field};
+    ghost use Rattle.rb_machine.specs.Quiet.{rests};
     ghost use Rattle.rb_machine.specs.Scene.{AreMarks, IsAt, IsScene, mark_at, now_in, raises_line};
 
     /// The field of a number, if there is one.
@@ -66,6 +70,17 @@ impl<'a> Scene<'a> {
             table,
             state: *state,
         })
+    }
+
+    /// Whether the field of a number keeps what software leaves of what it held.
+    pub fn rests(&self, number: usize) -> bool
+        requires { IsScene self.now }
+        ensures { (f : Field) → slice_get self.now.block.now.fields number ≡ Some f → result ≡ rests self.now.is_reset f }
+    {
+        match self.quiet.get(number) {
+            None => false,
+            Some(quiet) => !self.is_reset && *quiet,
+        }
     }
 
     /// What the access does to the field of a number.

@@ -1,11 +1,15 @@
-use Rattle.std.proofs.Common.{◌≡◌, List, rules, subst, ℕ, zero, suc, false, ap, ◌∙◌, get_or, refl}
+use Rattle.std.proofs.Common.{◌≡◌, List, map, rules, subst, sym, ℕ, zero, suc, false, ap, ◌∙◌, get_or, refl}
 use lib.ListN.{replicate}
 use Rattle.rb_model.specs.Kept.{Kept, Val, Last, Done, Waited, Data, Error}
 use Rattle.v_design.specs.Expr.{bit_of}
 use Rattle.rb_machine.specs.declared.scene.Held.{Held}
 use Rattle.rb_machine.specs.Scene.{map_of, no_state, state_at}
 use Rattle.rb_model.specs.declared.block.Field.{Field}
+use Rattle.rb_machine.specs.declared.sight.FieldState.{FieldState}
+use Rattle.rb_machine.specs.Moves.{kept_state}
+use Rattle.rb_machine.specs.Quiet.{is_quiet}
 use Rattle.rb_machine.specs.Resets.{AreWays}
+use Rattle.rb_machine.proofs.Resting.{none_kept}
 use Rattle.rb_machine.proofs.machine.Machine.new.Goals as goal
 
 get_or-replicate : {X : Type 0} (n : ℕ) (x : X) (k : ℕ) → get_or (replicate n x) k x ≡ x
@@ -24,17 +28,24 @@ zeros h n f w d e Error = ap bit_of e
 pub returns-clause-zeros : goal.returns-clause-zeros
 returns-clause-zeros c = zeros (record { fields = c.in_ok-vec.field-0; waited = false; «data» = 0; error = false }) c.len-fields.result (c.in_ok-vec.ensures.items_if_clones_equal (λ y e. e)) refl refl refl
 
+-- where nothing is held
+held_none : (states : List FieldState) (n : ℕ) → states ≡ replicate n no_state → (f : Field) (k : ℕ) → kept_state f (state_at states k) ≡ state_at states k
+held_none states n e f k = let at : state_at states k ≡ no_state = ap (λ ss. state_at ss k) e ∙ get_or-replicate n no_state k in rw at (none_kept f)
+
 pub returns-clause-ready : goal.returns-clause-ready
 returns-clause-ready c =
     let b = c.args.block.now in
     let fields : c.deref.result.now ≡ b.fields = c.deref.ensures.value ∙ ap (λ b. b.fields) c.block.view_is in
+    let quiet : c.deref-2.result.now ≡ b.fields = c.deref-2.ensures.value ∙ ap (λ b. b.fields) c.block.view_is in
     record {
       sound = c.requires;
       planned = c.in_ok-plan.ensures;
       held = search rules;
       resets = subst (λ (fs : List Field). AreWays fs c.in_ok-resets.resets.items) fields c.in_ok-resets.ensures;
+      quiet = c.in_ok-quiet.ensures ∙ ap (map is_quiet) quiet;
+      kept = λ k f here. held_none c.in_ok-vec.field-0.items c.len-fields.result (c.in_ok-vec.ensures.items_if_clones_equal (λ y e. e)) f k;
       pins = search rules;
       marks = search rules;
-      states = search rules;
+      states = c.in_ok-vec-5.ensures.items_if_clones_equal (λ y e. e) ∙ sym (c.in_ok-vec.ensures.items_if_clones_equal (λ y e. e));
       room = search rules;
     }
