@@ -11,3 +11,4 @@ mod Stepping
 mod Placing
 mod Resetting
 mod Resting
+mod Briefs

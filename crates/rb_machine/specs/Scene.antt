@@ -16,7 +16,7 @@ use Rattle.rb_machine.specs.declared.scene.Mark.{Mark}
 use Rattle.rb_machine.specs.declared.scene.Scene.{Scene}
 use Rattle.rb_plan.specs.Plan.{IsPlanOf}
 use Rattle.rb_machine.specs.Moves.{kept_state}
-use Rattle.rb_machine.specs.Quiet.{is_quiet}
+use Rattle.rb_machine.specs.Quiet.{brief_of}
 use Rattle.rb_machine.specs.Resets.{NoneReset}
 use Rattle.rb_machine.specs.Sight.{Sees}
 
@@ -62,7 +62,7 @@ pub record IsScene (s : Scene) : Type 0 where
   pub planned : IsPlanOf s.block.now s.plan.now
   pub pins : length s.pins.now ≡ length (input_pins s.block.now)
   pub held : length s.held.now.fields.items ≡ length s.block.now.fields
-  pub quiet : s.quiet.now ≡ map is_quiet s.block.now.fields
+  pub briefs : s.briefs.now ≡ map brief_of s.block.now.fields
   pub kept : s.is_reset ≡ false → HoldsKept s.block.now.fields s.held.now.fields.items
   pub calm : s.is_reset ≡ false → NoneReset s.block.now (pins_of s.block.now s.pins.now)
 

@@ -14,7 +14,7 @@ ghost use Rattle.rb_machine.specs.Table.{values_of};
 
 use crate::bus::{BusOuts, Transfer, bus_at, commit, hold, outs_shown, transfer_of};
 use crate::moves::{answer, mark_access, move_fields};
-use crate::quiet::quiet_fields;
+use crate::quiet::{Brief, briefs};
 use crate::reset::{reset_ways, some_asserted};
 use crate::scene::{Held, Mark, Scene};
 use crate::sight::FieldState;
@@ -30,7 +30,7 @@ pub struct Machine<'b> {
     block: &'b Block,
     plan: Plan,
     resets: Vec<ResetBy>,
-    quiet: Vec<bool>,
+    briefs: Vec<Brief>,
     held: Held,
     pins: Vec<u64>,
     marks: Vec<Mark>,
@@ -123,7 +123,7 @@ impl<'b> Machine<'b> {
     {
         let plan = Plan::new(alloc, block)?;
         let resets = reset_ways(alloc, &block.fields.items)?;
-        let quiet = quiet_fields(alloc, &block.fields.items)?;
+        let briefs = briefs(alloc, &block.fields.items)?;
         let inputs = plan.inputs;
         let fields = block.fields.items.len();
         let state = FieldState {
@@ -139,7 +139,7 @@ impl<'b> Machine<'b> {
             block,
             plan,
             resets,
-            quiet,
+            briefs,
             held: Held {
                 fields: vec![in alloc; state; fields]?,
                 waited: false,
@@ -182,7 +182,7 @@ impl<'b> Machine<'b> {
             pins: &self.pins,
             held: &self.held,
             marks: &self.marks,
-            quiet: &self.quiet,
+            briefs: &self.briefs,
             is_reset: vector.is_reset,
         };
         scene.settle(&mut self.table);

@@ -1,4 +1,4 @@
-//! The fields on which no hardware acts.
+//! What is looked at of each field at an edge, so that the field itself seldom is.
 ghost use Rattle.std.specs.Prelude.{◌≡◌, IfOk, map};
 ghost use Rattle.rb_model.specs.SoundField as sound;
 ghost use Rattle.rb_machine.specs.Quiet as spec;
@@ -7,6 +7,15 @@ use rb_base::NoMemory;
 use rb_effects::{is_interrupt, is_on, is_storage, loads};
 use rb_model::{Feed, Field};
 use std::alloc::Global;
+
+/// What is looked at of a field at an edge: its width in bits, whether it keeps a value, and whether hardware leaves that as it
+/// is.
+#[derive(Clone, Copy)]
+pub(crate) struct Brief {
+    pub width: u8,
+    pub stores: bool,
+    pub is_quiet: bool,
+}
 
 /// Whether a feed gives numbers.
 fn is_fed(from: Feed) -> bool
@@ -33,13 +42,17 @@ fn is_quiet(field: &Field) -> bool
         && !is_on(field.keep)
 }
 
-/// Of each field whether hardware leaves its kept value as it is.
-pub(crate) fn quiet_fields(alloc: Global, fields: &[Field]) -> Result<Vec<bool>, NoMemory>
-    ensures { IfOk result (λ quiet. quiet.items ≡ map spec.is_quiet fields.now) }
+/// What is looked at of each field.
+pub(crate) fn briefs(alloc: Global, fields: &[Field]) -> Result<Vec<Brief>, NoMemory>
+    ensures { IfOk result (λ all. all.items ≡ map spec.brief_of fields.now) }
 {
-    let mut quiet = Vec::new(alloc);
+    let mut all = Vec::new(alloc);
     for field in fields {
-        quiet.push(is_quiet(field))?;
+        all.push(Brief {
+            width: field.width,
+            stores: is_storage(field.class),
+            is_quiet: is_quiet(field),
+        })?;
     }
-    Ok(quiet)
+    Ok(all)
 }

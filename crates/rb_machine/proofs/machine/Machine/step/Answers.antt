@@ -15,7 +15,7 @@ use Rattle.rb_plan.specs.Plan.{IsPlanOf}
 use Rattle.rb_machine.specs.declared.scene.Scene.{Scene}
 use Rattle.rb_machine.specs.declared.sight.FieldState.{FieldState}
 use Rattle.rb_machine.specs.Moves.{kept_state}
-use Rattle.rb_machine.specs.Quiet.{is_quiet}
+use Rattle.rb_machine.specs.Quiet.{brief_of}
 use Rattle.rb_machine.specs.Resets.{NoneReset}
 use Rattle.rb_machine.proofs.Resting.{kept_twice}
 use Rattle.rb_machine.specs.Scene.{AreMarks, HoldsKept, IsScene}
@@ -44,14 +44,14 @@ show-requires c =
     omega (arith, c.requires.outs, o, length-map (outlets b) outlet_pin, i)
 
 is_scene : (s : Scene) (x : List ℕ) → IsSound s.block.now → IsPlanOf s.block.now s.plan.now → s.pins.now ≡ x → length x ≡ length (input_pins s.block.now) → length s.held.now.fields.items ≡ length s.block.now.fields
-    → s.quiet.now ≡ map is_quiet s.block.now.fields → (held : List FieldState) → HoldsKept s.block.now.fields held → (s.is_reset ≡ false → s.held.now.fields.items ≡ held)
+    → s.briefs.now ≡ map brief_of s.block.now.fields → (held : List FieldState) → HoldsKept s.block.now.fields held → (s.is_reset ≡ false → s.held.now.fields.items ≡ held)
     → (s.is_reset ≡ false → NoneReset s.block.now (pins_of s.block.now x)) → IsScene s
-is_scene s x sound planned pins long sized quiet held kept still calm = record {
+is_scene s x sound planned pins long sized briefs held kept still calm = record {
   sound = sound;
   planned = planned;
   pins = ap length pins ∙ long;
   held = sized;
-  quiet = quiet;
+  briefs = briefs;
   kept = λ e. subst (HoldsKept s.block.now.fields) (sym (still e)) kept;
   calm = λ e. subst (λ (y : List ℕ). NoneReset s.block.now (pins_of s.block.now y)) (sym pins) (calm e);
 }
@@ -61,14 +61,14 @@ settle-requires-clause-scene c =
     let s = c.args.self.now in
     let pins = with_items_is s.pins c.observe-vector.new.pins (c.observe-vector.auto.pins ∙ c.deref_mut.ensures.len) ∙ c.observe-vector.ensures.pins in
     is_scene _ c.args.pins.now c.requires.ready.sound c.requires.ready.planned (c.deref-2.ensures.value ∙ pins) (fits_length (input_pins s.block.now) c.args.pins.now c.requires.pins)
-    c.observe-vector.ensures.fields (c.deref-4.ensures.value ∙ c.requires.ready.quiet) s.held.fields.items c.requires.ready.kept c.observe-vector.ensures.still c.observe-vector.ensures.calm
+    c.observe-vector.ensures.fields (c.deref-4.ensures.value ∙ c.requires.ready.briefs) s.held.fields.items c.requires.ready.kept c.observe-vector.ensures.still c.observe-vector.ensures.calm
 
 pub move_fields-requires-clause-scene : goal.move_fields-requires-clause-scene
 move_fields-requires-clause-scene c =
     let s = c.args.self.now in
     let pins = with_items_is s.pins c.observe-vector.new.pins (c.observe-vector.auto.pins ∙ c.deref_mut.ensures.len) ∙ c.observe-vector.ensures.pins in
     is_scene _ c.args.pins.now c.requires.ready.sound c.requires.ready.planned (c.deref-2.ensures.value ∙ pins) (fits_length (input_pins s.block.now) c.args.pins.now c.requires.pins)
-    c.observe-vector.ensures.fields (c.deref-4.ensures.value ∙ c.requires.ready.quiet) s.held.fields.items c.requires.ready.kept c.observe-vector.ensures.still c.observe-vector.ensures.calm
+    c.observe-vector.ensures.fields (c.deref-4.ensures.value ∙ c.requires.ready.briefs) s.held.fields.items c.requires.ready.kept c.observe-vector.ensures.still c.observe-vector.ensures.calm
 
 pub returns-clause-edge : goal.returns-clause-edge
 returns-clause-edge c =
@@ -105,7 +105,7 @@ returns-clause-ready c =
       planned = ready.planned;
       held = search rules;
       resets = ready.resets;
-      quiet = ready.quiet;
+      briefs = ready.briefs;
       kept = subst (HoldsKept s.block.now.fields) (sym (c.commit.ensures.fields ∙ (c.deref-9.ensures.value ∙ states))) kept;
       pins = search rules;
       marks = search rules;
