@@ -21,9 +21,9 @@ use Rattle.rb_model.specs.SoundField.{FieldIsSoundIn, is_fed}
 use Rattle.rb_model.proofs.Eachs.{Each-from_zero}
 use Rattle.rb_model.proofs.OwnViews.{both_true, not_true}
 use Rattle.rb_machine.specs.declared.sight.FieldState.{FieldState}
-use Rattle.rb_machine.specs.Moves.{kept_state, next_state, started_state}
+use Rattle.rb_machine.specs.Moves.{ended_state, kept_state, next_state, reset_state, started_state}
 use Rattle.rb_machine.specs.Quiet.{is_quiet, rests}
-use Rattle.rb_machine.specs.Scene.{no_state}
+use Rattle.rb_machine.specs.Scene.{HoldsKept, no_state, state_at}
 use Rattle.rb_machine.specs.Slots.{access_state}
 use Rattle.std.proofs.lemmas.Option.{get_or_from_slice_get, slice_get_within}
 use Rattle.rb_machine.proofs.Resetting.{fails}
@@ -218,8 +218,13 @@ if_twice : (c : Bool) (x : ℕ) → (if c then (if c then x else 0) else 0) ≡ 
 if_twice true x = refl
 if_twice false x = refl
 
-pub kept_twice : (f : Field) (x : FieldState) → kept_state f (kept_state f x) ≡ kept_state f x
+kept_twice : (f : Field) (x : FieldState) → kept_state f (kept_state f x) ≡ kept_state f x
 kept_twice f x = same_state _ _ (if_twice (is_storage f.class) x.value) (if_twice (keeps_last f.latch) x.last) (if_twice f.once x.done)
+
+pub next_kept : (b : Block) (n : Now) (v : ItemValues) (left : ℕ → Field → FieldState) (states : List FieldState) → ((k : ℕ) (f : Field) → slice_get b.fields k ≡ Some f → state_at states k ≡ next_state b n v k f (left k f)) → HoldsKept b.fields states
+next_kept b n v left states h k f here =
+    let e = h k f here in
+    ap (kept_state f) e ∙ (kept_twice f (reset_state f (is_asserted b n.pins f.reset_by) (ended_state n v k f (left k f))) ∙ sym e)
 
 -- nor is anything kept of nothing
 if_same : (c : Bool) (x : ℕ) → (if c then x else x) ≡ x

@@ -277,8 +277,9 @@ impl<'a> Scene<'a> {
     {
         let block = self.block;
         for item in &block.order.items {
-            let value = self.made(table, *item);
-            table[item_place(*item)] = value;
+            let item = *item;
+            let value = self.made(table, item);
+            table[item_place(item)] = value;
         }
     }
 }

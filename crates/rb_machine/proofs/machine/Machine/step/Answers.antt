@@ -1,8 +1,10 @@
 use Rattle.std.proofs.Common.{◌≡◌, ◌∙◌, ℕ, false, List, [], ◌∷◌, refl, sym, ap, subst, length, map, arith, rules}
 use Rattle.std.proofs.lemmas.List.{length-map, with_items_is}
+use Rattle.rb_model.specs.declared.block.Field.{Field}
+use Rattle.rb_model.specs.Items.{NoAccess}
 use Rattle.rb_model.specs.Ports.{input_pins, outlets}
 use Rattle.rb_model.proofs.EdgeWidths.{after_fits}
-use Rattle.rb_machine.specs.Machines.{held_map}
+use Rattle.rb_machine.specs.Machines.{at_edge, held_map}
 use Rattle.rb_model.proofs.InputPins.{outlet_pin, output_pins_are}
 use Rattle.rb_machine.proofs.Stepping.{edge_made}
 use Rattle.rb_machine.proofs.Narrow.{fits_length, narrow_pins}
@@ -14,11 +16,12 @@ use Rattle.rb_model.specs.Sound.{IsSound}
 use Rattle.rb_plan.specs.Plan.{IsPlanOf}
 use Rattle.rb_machine.specs.declared.scene.Scene.{Scene}
 use Rattle.rb_machine.specs.declared.sight.FieldState.{FieldState}
-use Rattle.rb_machine.specs.Moves.{kept_state}
+use Rattle.rb_machine.specs.Moves.{started_state}
 use Rattle.rb_machine.specs.Quiet.{brief_of}
 use Rattle.rb_machine.specs.Resets.{NoneReset}
-use Rattle.rb_machine.proofs.Resting.{kept_twice}
-use Rattle.rb_machine.specs.Scene.{AreMarks, HoldsKept, IsScene}
+use Rattle.rb_machine.proofs.Resting.{next_kept}
+use Rattle.rb_machine.specs.Scene.{AreMarks, HoldsKept, IsScene, state_at}
+use Rattle.rb_machine.specs.Slots.{access_state}
 use Rattle.rb_machine.specs.Table.{values_of}
 use Rattle.rb_machine.specs.Transfers.{access_seen}
 use Rattle.rb_machine.proofs.machine.Machine.step.Goals as goal
@@ -98,8 +101,11 @@ returns-clause-ready c =
     let s = c.args.self.now in
     let ready = c.requires.ready in
     let states = with_items_is s.states c.move_fields.new.states (c.move_fields.auto.states ∙ c.deref_mut-4.ensures.len) in
-    let kept : HoldsKept s.block.now.fields c.move_fields.new.states
-    = λ k f here. ap (kept_state f) (c.move_fields.ensures k f here) ∙ (kept_twice f _ ∙ sym (c.move_fields.ensures k f here)) in
+    let held = c.observe-vector.new.held in
+    let n = at_edge s.block.now c.deref-2.result.now held NoAccess in
+    let v = values_of c.deref-5.result.now in
+    let left : ℕ → Field → FieldState = λ k f. access_state s.block.now n v (access_seen c.observe-vector.result.transfer.access) k (started_state n v k f (state_at held.fields.items k)) in
+    let kept : HoldsKept s.block.now.fields c.move_fields.new.states = next_kept s.block.now n v left c.move_fields.new.states c.move_fields.ensures in
     record {
       sound = ready.sound;
       planned = ready.planned;
