@@ -12,3 +12,4 @@ mod Placing
 mod Resetting
 mod Resting
 mod Briefs
+mod Agreeing
