@@ -1,5 +1,5 @@
 -- What an edge makes depends on the values of the wanted items alone.
-use Rattle.std.proofs.Common.{◌≡◌, ℕ, suc, ◌+◌, ◌-◌, ◌*◌, ◌^◌, ◌==◌, Bool, true, false, ◌&&◌, ◌||◌, if◌then◌else◌, Option, Some, None, List, [], ◌∷◌, ◌++◌, codes, slice_get, map, fold, length, refl, ap, sym, ◌∙◌, subst, arith}
+use Rattle.std.proofs.Common.{◌≡◌, ℕ, suc, ◌+◌, ◌-◌, ◌*◌, ◌^◌, ◌==◌, Bool, true, if◌then◌else◌, Option, Some, None, List, [], ◌∷◌, ◌++◌, codes, slice_get, map, fold, refl, ap, ◌∙◌}
 use Rattle.std.specs.Prelude.{Contains, bit_or}
 use Rattle.std.specs.Option.{option_map, option_map_or}
 use Rattle.std.proofs.lemmas.Option.{get_or_from_slice_get, slice_get_within}
@@ -16,15 +16,18 @@ use Rattle.rb_model.specs.declared.block.View.{View}
 use Rattle.rb_model.specs.declared.block.Slot.{Slot}
 use Rattle.rb_model.specs.Effects.{counted, finished, latched, loaded}
 use Rattle.rb_model.specs.Items.{Access, NoAccess, Read, Write, Now, ItemValues, fed, gated, items, level_value, mask_value, source_value, up, down, slots_of}
-use Rattle.rb_model.specs.Kept.{Last}
+use Rattle.rb_model.specs.Kept.{Done, Last}
 use Rattle.rb_model.specs.Machine.{counts, hardware, read_data, slot_value, view_gate}
 use Rattle.rb_model.specs.Ports.{Outlet, outlets}
-use Rattle.rb_model.specs.References.{Each, count_refs, feed_refs, gate_refs, level_refs, mask_refs}
+use Rattle.rb_model.specs.References.{Each, count_refs, feed_refs, gate_refs, mask_refs}
 use Rattle.rb_model.specs.Sound.{IsSound, ViewIsSound}
 use Rattle.rb_model.proofs.Eachs.{Each-at, Each-both, Each-from_zero, Each-left, Each-right}
 use Rattle.rb_model.proofs.Made.{Agree, fed_same, level_same, mask_same, parts_same}
 use Rattle.rb_wanted.specs.Needs.{hardware_refs, limit_refs, limits_refs}
 use Rattle.rb_wanted.specs.Wanted.{AreInOrder, IsAllWanted, is_wanted}
+use Rattle.rb_machine.specs.declared.sight.FieldState.{FieldState}
+use Rattle.rb_machine.specs.Moves.{next_state, started_state}
+use Rattle.rb_machine.specs.Slots.{access_state, touched, width_at, write_state, written_by}
 use Rattle.rb_wanted.proofs.Among.{outlets_among, value_among}
 use Rattle.rb_wanted.proofs.Wanting.{field_sound, hardware_own, view_own}
 
@@ -116,6 +119,12 @@ module _ (n : Now) (u v : ItemValues) where
         let q : counts n u f y ≡ counts n v f y = counts_same f y (Each-right P (feed_refs f.source ++ gate_refs f.gate) (count_refs f.count) to_count) (Each-right P (feed_refs f.source ++ gate_refs f.gate ++ count_refs f.count) (limits_refs f.count) to_limits) in
         rw (source_same, g, t, c, m) (ap (λ z. finished f x (latched f.latch f.width z (source_value n v f) (n.kept (Last k))) (fed n v f.set (codes "hwset$" ++ f.path)) (fed n v f.clear (codes "hwclr$" ++ f.path)) (mask_value v f.keep)) q)
 
+    pub started_same : (x : FieldState) → started_state n u k f x ≡ started_state n v k f x
+    started_same x = let h : hardware n u k f x.value ≡ hardware n v k f x.value = hardware_same x.value in rw (h, source_same) refl
+
+    pub next_same : (b : Block) (x : FieldState) → next_state b n u k f x ≡ next_state b n v k f x
+    next_same b x = let h : hardware n u k f x.value ≡ hardware n v k f x.value = hardware_same x.value in rw h refl
+
 module _ (b : Block) (sound : IsSound b) (n : Now) (u v : ItemValues) (alike : AreAlike b u v) where
   pub view_same : (i : ℕ) (w : View) → slice_get b.views i ≡ Some w → view_gate n u w ≡ view_gate n v w
   view_same i w here = gate_same n u v w.gate (codes "swwe$") (codes "swwel$") w.path (alike.views i w here)
@@ -135,6 +144,26 @@ module _ (b : Block) (sound : IsSound b) (n : Now) (u v : ItemValues) (alike : A
       by (Some w) here =
           let q : ViewIsSound b (s.view, w) = Each-from_zero (ViewIsSound b) b.views s.view w sound.views here in
           ap (λ x. if w.reads then part x (s.from + s.bits - 1) s.from * 2 ^ s.low else 0) (alike.values w.field q.of.0 q.of.1)
+
+  access_same : (a : Access) (k : ℕ) (x : FieldState) → access_state b n u a k x ≡ access_state b n v a k x
+  access_same NoAccess k x = refl
+  access_same (Read i) k x = refl
+  access_same (Write i d) k x = fold_same (touched b k (write_state b n u d)) (touched b k (write_state b n v d)) one x (slots_of b.writes i)
+    where
+      one : (x : FieldState) (s : Slot) → touched b k (write_state b n u d) x s ≡ touched b k (write_state b n v d) x s
+      one x s = by (slice_get b.views s.view) refl
+        where
+          by : (o : Option View) → slice_get b.views s.view ≡ o → option_map_or (λ w. if w.field == k then write_state b n u d w s x else x) o x ≡ option_map_or (λ w. if w.field == k then write_state b n v d w s x else x) o x
+          by None here = refl
+          by (Some w) here = ap (λ g. if w.field == k then written_by (width_at b w.field) g (n.kept (Done w.field)) d w s x else x) (view_same s.view w here)
+
+  -- what a field keeps
+  pub moved_same : (a : Access) (k : ℕ) (f : Field) (x : FieldState) → slice_get b.fields k ≡ Some f
+      → next_state b n u k f (access_state b n u a k (started_state n u k f x)) ≡ next_state b n v k f (access_state b n v a k (started_state n v k f x))
+  moved_same a k f x here =
+      let agree = alike.fields k f here in
+      next_same n u v k f agree b (access_state b n u a k (started_state n u k f x))
+      ∙ ap (next_state b n v k f) (access_same a k (started_state n u k f x) ∙ ap (access_state b n v a k) (started_same n u v k f agree x))
 
   pub read_same : (a : Access) → read_data b u a ≡ read_data b v a
   read_same NoAccess = refl

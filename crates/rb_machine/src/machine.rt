@@ -20,8 +20,9 @@ use crate::scene::{Held, Mark, Scene};
 use crate::sight::FieldState;
 use crate::table::item_value;
 use rb_base::NoMemory;
-use rb_model::{Block, ResetBy};
+use rb_model::{Block, RefItem, ResetBy};
 use rb_plan::{Outlet, Plan, table_len};
+use rb_wanted::{wanted, wanted_items};
 use std::alloc::Global;
 
 /// A register machine of a sound block: what it looked up, what it holds from one clock edge to the next, and room for an edge.
@@ -29,6 +30,7 @@ use std::alloc::Global;
 pub struct Machine<'b> {
     block: &'b Block,
     plan: Plan,
+    order: Vec<RefItem>,
     resets: Vec<ResetBy>,
     briefs: Vec<Brief>,
     held: Held,
@@ -122,6 +124,9 @@ impl<'b> Machine<'b> {
         ensures zeros { IfOk result (λ m. (k : Kept) → held_map m k ≡ 0) }
     {
         let plan = Plan::new(alloc, block)?;
+        let needed = wanted(alloc, block, &plan)?;
+        let order = wanted_items(alloc, block, &needed)?;
+        let items = table_len(&order);
         let resets = reset_ways(alloc, &block.fields.items)?;
         let briefs = briefs(alloc, &block.fields.items)?;
         let inputs = plan.inputs;
@@ -138,6 +143,7 @@ impl<'b> Machine<'b> {
         Ok(Machine {
             block,
             plan,
+            order,
             resets,
             briefs,
             held: Held {
@@ -148,7 +154,7 @@ impl<'b> Machine<'b> {
             },
             pins: vec![in alloc; 0; inputs]?,
             marks: vec![in alloc; mark; fields]?,
-            table: vec![in alloc; 0; table_len(&block.order.items)]?,
+            table: vec![in alloc; 0; items]?,
             states: vec![in alloc; state; fields]?,
         })
     }
@@ -185,7 +191,7 @@ impl<'b> Machine<'b> {
             briefs: &self.briefs,
             is_reset: vector.is_reset,
         };
-        scene.settle(&mut self.table);
+        scene.settle(&self.order, &mut self.table);
         move_fields(&scene, &self.table, transfer.access, &mut self.states);
         let answered = answer(block, &self.table, transfer.access);
         let bus_outs = outs_shown(block, transfer, &self.held, answered);

@@ -40,13 +40,14 @@ pub(crate) struct Scene<'a> {
 }
 
 impl<'a> Scene<'a> {
-    ghost use Rattle.std.specs.Prelude.{◌≡◌, ◌<◌, ℕ, false, None, Some, MatchOption, length, slice_get};
+    ghost use Rattle.std.specs.Prelude.{◌≡◌, ◌<◌, ℕ, false, None, Some, Contains, MatchOption, length, slice_get};
     ghost use Rattle.rb_plan.specs.Plan.{members_of};
     ghost use Rattle.std.specs.List.{enumerate_from, list_any};
     ghost use Rattle.std.specs.Option.{option_map, option_map_or};
     ghost use Rattle.rb_model.specs.declared.kinds.RefItem.{RefItem};
     ghost use Rattle.rb_model.specs.Items as spec;
-    ghost use Rattle.rb_model.specs.Items.{Access, AreItemValues};
+    ghost use Rattle.rb_model.specs.Items.{Access, AreItemValues, ItemValues, items};
+    ghost use Rattle.rb_model.specs.References.{IsOrdered};
     ghost use Rattle.rb_model.specs.Ports.{signal_name};
     ghost use Rattle.rb_model.specs.Run.{pins_of};
     ghost use Rattle.rb_plan.specs.Table as places;
@@ -268,15 +269,16 @@ impl<'a> Scene<'a> {
         }
     }
 
-    /// Computes each item once, behind those that it refers to.
-    pub fn settle(&self, table: &mut [u64])
+    /// Computes the values of items, each behind those that it refers to. What is in the table of others is no matter.
+    pub fn settle(&self, order: &[RefItem], table: &mut [u64])
         requires scene { IsScene self.now }
-        requires room { (k : ℕ) (i : RefItem) → slice_get self.now.block.now.order k ≡ Some i → places.item_place i < length table.old }
-        ensures { (a : Access) → AreMarks self.now.block.now a self.now.marks.now
-            → AreItemValues self.now.block.now (now_in self.now a) (values_of table.new) }
+        requires ordered { IsOrdered self.now.block.now order.now }
+        requires own { (k : ℕ) (i : RefItem) → slice_get order.now k ≡ Some i → Contains (items self.now.block.now) i }
+        requires room { (k : ℕ) (i : RefItem) → slice_get order.now k ≡ Some i → places.item_place i < length table.old }
+        ensures { (a : Access) (v : ItemValues) → AreMarks self.now.block.now a self.now.marks.now → AreItemValues self.now.block.now (now_in self.now a) v
+            → (i : RefItem) → Contains order.now i → values_of table.new i ≡ v i }
     {
-        let block = self.block;
-        for item in &block.order.items {
+        for item in order {
             let item = *item;
             let value = self.made(table, item);
             table[item_place(item)] = value;

@@ -8,6 +8,7 @@ use Rattle.rb_model.specs.declared.block.Field.{Field}
 use Rattle.rb_machine.specs.declared.sight.FieldState.{FieldState}
 use Rattle.rb_machine.specs.Moves.{kept_state}
 use Rattle.rb_machine.specs.Quiet.{brief_of}
+use Rattle.rb_wanted.specs.Wanted.{AreInOrder}
 use Rattle.rb_machine.specs.Resets.{AreWays}
 use Rattle.rb_machine.proofs.Resting.{none_kept}
 use Rattle.rb_machine.proofs.machine.Machine.new.Goals as goal
@@ -35,8 +36,8 @@ held_none states n e f k = let at : state_at states k ≡ no_state = ap (λ ss. 
 pub returns-clause-ready : goal.returns-clause-ready
 returns-clause-ready c =
     let b = c.args.block.now in
-    let fields : c.deref.result.now ≡ b.fields = c.deref.ensures.value ∙ ap (λ b. b.fields) c.block.view_is in
-    let again : c.deref-2.result.now ≡ b.fields = c.deref-2.ensures.value ∙ ap (λ b. b.fields) c.block.view_is in
+    let fields : c.deref-3.result.now ≡ b.fields = c.deref-3.ensures.value ∙ ap (λ b. b.fields) c.block.view_is in
+    let again : c.deref-4.result.now ≡ b.fields = c.deref-4.ensures.value ∙ ap (λ b. b.fields) c.block.view_is in
     record {
       sound = c.requires;
       planned = c.in_ok-plan.ensures;
@@ -47,5 +48,8 @@ returns-clause-ready c =
       pins = search rules;
       marks = search rules;
       states = c.in_ok-vec-5.ensures.items_if_clones_equal (λ y e. e) ∙ sym (c.in_ok-vec.ensures.items_if_clones_equal (λ y e. e));
+      wanted = c.in_ok-needed.needed.items;
+      needs = c.in_ok-needed.ensures.all;
+      listed = subst (λ w. AreInOrder b w c.in_ok-order.order.items) c.deref.ensures.value c.in_ok-order.ensures;
       room = search rules;
     }

@@ -22,6 +22,7 @@ use Rattle.rb_machine.specs.Resets.{NoneReset}
 use Rattle.rb_machine.proofs.Resting.{next_kept}
 use Rattle.rb_machine.specs.Scene.{AreMarks, HoldsKept, IsScene, state_at}
 use Rattle.rb_machine.specs.Slots.{access_state}
+use Rattle.rb_wanted.specs.Wanted.{AreInOrder}
 use Rattle.rb_machine.specs.Table.{values_of}
 use Rattle.rb_machine.specs.Transfers.{access_seen}
 use Rattle.rb_machine.proofs.machine.Machine.step.Goals as goal
@@ -43,7 +44,7 @@ pub show-requires : goal.show-requires
 show-requires c =
     let b = c.args.self.now.block.now in
     let o = ap length (output_pins_are b) in
-    let i : length c.deref-7.result.now ≡ length (outlets b) = ap length c.deref-7.ensures.value ∙ (sym (length-map c.args.self.now.plan.outlets.items outlet_seen) ∙ ap length c.requires.ready.planned.outlets) in
+    let i : length c.deref-8.result.now ≡ length (outlets b) = ap length c.deref-8.ensures.value ∙ (sym (length-map c.args.self.now.plan.outlets.items outlet_seen) ∙ ap length c.requires.ready.planned.outlets) in
     omega (arith, c.requires.outs, o, length-map (outlets b) outlet_pin, i)
 
 is_scene : (s : Scene) (x : List ℕ) → IsSound s.block.now → IsPlanOf s.block.now s.plan.now → s.pins.now ≡ x → length x ≡ length (input_pins s.block.now) → length s.held.now.fields.items ≡ length s.block.now.fields
@@ -83,12 +84,14 @@ returns-clause-edge c =
     let marks : AreMarks b a c.deref-3.result.now = subst (AreMarks b a) (sym (c.deref-3.ensures.value ∙ marked)) c.mark_access.ensures in
     let table = with_items_is s.table c.settle.new.table (c.settle.auto.table ∙ c.deref_mut-3.ensures.len) in
     let states = with_items_is s.states c.move_fields.new.states (c.move_fields.auto.states ∙ c.deref_mut-4.ensures.len) in
-    edge_made b (held_map s) c.args.pins.now c.deref-2.result.now c.settle.new.table c.deref-5.result.now c.deref-6.result.now c.deref-8.result.now c.move_fields.new.states c.deref-9.result.now
-    c.observe-vector.new.held c.commit.new.held c.observe-vector.result.transfer c.answer-answered.result c.outs_shown-bus_outs.result (map (λ o. o.item) c.deref-7.result.now) c.show.new.outs
-    (c.deref-2.ensures.value ∙ pins) (c.deref-5.ensures.value ∙ table) (c.deref-6.ensures.value ∙ table) (c.deref-8.ensures.value ∙ table) (c.deref-9.ensures.value ∙ states)
+    let listed = subst (AreInOrder b c.requires.ready.wanted) (sym c.deref-5.ensures.value) c.requires.ready.listed in
+    edge_made b (held_map s) c.args.pins.now c.deref-2.result.now c.settle.new.table c.deref-6.result.now c.deref-7.result.now c.deref-9.result.now c.requires.ready.wanted c.deref-5.result.now c.move_fields.new.states c.deref-10.result.now
+    c.observe-vector.new.held c.commit.new.held c.observe-vector.result.transfer c.answer-answered.result c.outs_shown-bus_outs.result (map (λ o. o.item) c.deref-8.result.now) c.show.new.outs
+    c.requires.ready.sound c.requires.ready.needs listed
+    (c.deref-2.ensures.value ∙ pins) (c.deref-6.ensures.value ∙ table) (c.deref-7.ensures.value ∙ table) (c.deref-9.ensures.value ∙ table) (c.deref-10.ensures.value ∙ states)
     (c.move_fields.auto.states ∙ (ap length c.deref_mut-4.ensures.value ∙ (ap length c.requires.ready.states ∙ c.requires.ready.held)))
-    c.observe-vector.ensures.held c.observe-vector.ensures.transfer (c.settle.ensures a marks) c.move_fields.ensures c.answer-answered.ensures c.outs_shown-bus_outs.ensures
-    (items_seen b c.deref-7.result.now (ap (map outlet_seen) c.deref-7.ensures.value ∙ c.requires.ready.planned.outlets)) (c.show.ensures ∙ ap (λ xs. c.outs_shown-bus_outs.result.ready ∷ c.outs_shown-bus_outs.result.«data» ∷ c.outs_shown-bus_outs.result.error ∷ xs) (sym (mapped (values_of c.deref-8.result.now) (λ o. o.item) c.deref-7.result.now))) c.commit.ensures.fields c.commit.ensures.waited c.commit.ensures.answer c.commit.ensures.error
+    c.observe-vector.ensures.held c.observe-vector.ensures.transfer (λ v vals. c.settle.ensures a v marks vals) c.move_fields.ensures c.answer-answered.ensures c.outs_shown-bus_outs.ensures
+    (items_seen b c.deref-8.result.now (ap (map outlet_seen) c.deref-8.ensures.value ∙ c.requires.ready.planned.outlets)) (c.show.ensures ∙ ap (λ xs. c.outs_shown-bus_outs.result.ready ∷ c.outs_shown-bus_outs.result.«data» ∷ c.outs_shown-bus_outs.result.error ∷ xs) (sym (mapped (values_of c.deref-9.result.now) (λ o. o.item) c.deref-8.result.now))) c.commit.ensures.fields c.commit.ensures.waited c.commit.ensures.answer c.commit.ensures.error
 
 pub returns-clause-fits : goal.returns-clause-fits
 returns-clause-fits c fits = after_fits c.args.self.now.block.now c.requires.ready.sound (held_map c.args.self.now) fits c.args.pins.now c.requires.pins c.show.new.outs _ (returns-clause-edge c)
@@ -103,7 +106,7 @@ returns-clause-ready c =
     let states = with_items_is s.states c.move_fields.new.states (c.move_fields.auto.states ∙ c.deref_mut-4.ensures.len) in
     let held = c.observe-vector.new.held in
     let n = at_edge s.block.now c.deref-2.result.now held NoAccess in
-    let v = values_of c.deref-5.result.now in
+    let v = values_of c.deref-6.result.now in
     let left : ℕ → Field → FieldState = λ k f. access_state s.block.now n v (access_seen c.observe-vector.result.transfer.access) k (started_state n v k f (state_at held.fields.items k)) in
     let kept : HoldsKept s.block.now.fields c.move_fields.new.states = next_kept s.block.now n v left c.move_fields.new.states c.move_fields.ensures in
     record {
@@ -112,9 +115,12 @@ returns-clause-ready c =
       held = search rules;
       resets = ready.resets;
       briefs = ready.briefs;
-      kept = subst (HoldsKept s.block.now.fields) (sym (c.commit.ensures.fields ∙ (c.deref-9.ensures.value ∙ states))) kept;
+      kept = subst (HoldsKept s.block.now.fields) (sym (c.commit.ensures.fields ∙ (c.deref-10.ensures.value ∙ states))) kept;
       pins = search rules;
       marks = search rules;
-      states = sym (c.commit.ensures.fields ∙ c.deref-9.ensures.value);
+      states = sym (c.commit.ensures.fields ∙ c.deref-10.ensures.value);
+      wanted = ready.wanted;
+      needs = ready.needs;
+      listed = ready.listed;
       room = search rules;
     }
