@@ -1,28 +1,31 @@
 -- What a field keeps on which no hardware acts.
-use Rattle.std.proofs.Common.{◌≡◌, ℕ, ◌==◌, Bool, true, false, not, ◌&&◌, ◌||◌, if◌then◌else◌, Option, Some, None, is_some, unwrap_or, List, [], ◌∷◌, codes, ◌++◌, slice_get, refl, sym, ap, ◌∙◌}
+use Rattle.std.proofs.Common.{◌≡◌, ℕ, ◌==◌, Bool, true, false, not, ◌&&◌, ◌||◌, if◌then◌else◌, Option, Some, None, is_some, unwrap_or, List, [], ◌∷◌, codes, ◌++◌, slice_get, fold, refl, sym, ap, ◌∙◌}
 use Rattle.std.specs.List.{list_any}
 use Rattle.std.specs.Option.{option_map_or, option_map}
 use Rattle.rb_model.specs.declared.kinds.Feed.{Feed}
 use Rattle.rb_model.specs.declared.kinds.Feed.TheVariants as feed
 use Rattle.rb_model.specs.declared.kinds.Latch.{Latch}
 use Rattle.rb_model.specs.declared.kinds.Latch.TheVariants as latch
+use Rattle.rb_model.specs.declared.kinds.OnRead.{OnRead}
+use Rattle.rb_model.specs.declared.kinds.OnRead.TheVariants as on_read
+use Rattle.rb_model.specs.declared.kinds.Class.TheVariants.{Storage}
 use Rattle.rb_model.specs.declared.kinds.Mask.{Mask}
 use Rattle.rb_model.specs.declared.kinds.Mask.TheVariants as mask
 use Rattle.rb_model.specs.declared.block.Block.{Block}
 use Rattle.rb_model.specs.declared.block.Field.{Field}
 use Rattle.rb_model.specs.declared.block.View.{View}
 use Rattle.rb_model.specs.declared.block.Slot.{Slot}
-use Rattle.rb_model.specs.Effects.{acts, counted, finished, is_open, latched, loaded, loads, masked, set_or_cleared}
+use Rattle.rb_model.specs.Effects.{acts, after_read, after_write, counted, finished, is_open, latched, loaded, loads, masked, set_or_cleared, has_read_effect, written}
 use Rattle.rb_model.specs.Items.{Access, NoAccess, Read, Write, Now, ItemValues, down, fed, gated, is_interrupt, is_on, level_value, mask_value, shows, slots_of, source_value, up}
 use Rattle.rb_model.specs.Kept.{Done, Last, is_storage, keeps_last}
-use Rattle.rb_model.specs.Machine.{counts, hardware, is_asserted, software, uses_up, view_gate}
+use Rattle.rb_model.specs.Machine.{counts, hardware, is_asserted, of_view, slot_bits, slot_read, slot_written, software, uses_up, view_gate}
 use Rattle.rb_model.specs.Sound.{IsSound}
-use Rattle.rb_model.specs.SoundField.{FieldIsSoundIn, is_fed}
+use Rattle.rb_model.specs.SoundField.{FieldIsSoundIn, changes, class_of, is_changed, is_fed}
 use Rattle.rb_model.proofs.Eachs.{Each-from_zero}
 use Rattle.rb_model.proofs.OwnViews.{both_true, not_true}
 use Rattle.rb_machine.specs.declared.sight.FieldState.{FieldState}
 use Rattle.rb_machine.specs.Moves.{ended_state, kept_state, next_state, reset_state, started_state}
-use Rattle.rb_machine.specs.Quiet.{is_quiet, rests}
+use Rattle.rb_machine.specs.Quiet.{is_quiet, is_spared, keeps_none, rests}
 use Rattle.rb_machine.specs.Scene.{HoldsKept, no_state, state_at}
 use Rattle.rb_machine.specs.Slots.{access_state}
 use Rattle.std.proofs.lemmas.Option.{get_or_from_slice_get, slice_get_within}
@@ -49,8 +52,8 @@ no_mask mask.Off h = refl
 no_mask (mask.Enable i) h = cc
 no_mask (mask.Mask i) h = cc
 
--- what a quiet field is
-pub record IsQuiet (f : Field) : Type 0 where
+-- what a field is that hardware spares
+pub record IsSpared (f : Field) : Type 0 where
   pub class : is_storage f.class ≡ true
   pub count : f.count ≡ None
   pub latch : f.latch ≡ latch.Off
@@ -60,8 +63,8 @@ pub record IsQuiet (f : Field) : Type 0 where
   pub clear : f.clear ≡ feed.Off
   pub keep : f.keep ≡ mask.Off
 
-pub quiet : (f : Field) → is_quiet f ≡ true → IsQuiet f
-quiet f h =
+pub spared : (f : Field) → is_spared f ≡ true → IsSpared f
+spared f h =
     let a = both_true _ _ h in
     let b = both_true _ _ a.0 in
     let c = both_true _ _ b.0 in
@@ -81,7 +84,7 @@ quiet f h =
     }
 
 -- hardware leaves its value
-module _ (n : Now) (v : ItemValues) (k : ℕ) (f : Field) (q : IsQuiet f) (x : ℕ) where
+module _ (n : Now) (v : ItemValues) (k : ℕ) (f : Field) (q : IsSpared f) (x : ℕ) where
   unloaded : (from gate : ℕ) → loaded f x from gate ≡ x
   unloaded from gate = ap (λ p. if p then 0 else (if loads f && is_open f.gate gate then from else x)) q.pulse ∙ ap (λ l. if l && is_open f.gate gate then from else x) q.load
 
@@ -137,6 +140,10 @@ either : (c : Bool) (y z : ℕ) → y ≡ z → (if c then y else z) ≡ z
 either true y z e = e
 either false y z e = refl
 
+or_true : (c : Bool) → (c || true) ≡ true
+or_true true = refl
+or_true false = refl
+
 or_else : (c : Bool) (y z : ℕ) → y ≡ z → (if c then z else y) ≡ z
 or_else true y z e = refl
 or_else false y z e = e
@@ -146,8 +153,31 @@ same_state p q e g h =
     let of : ℕ → ℕ → ℕ → FieldState = λ x y z. record { value = x; last = y; done = z } in
     ap (λ x. of x p.last p.done) e ∙ (ap (λ y. of q.value y p.done) g ∙ ap (of q.value q.last) h)
 
--- a quiet field that is not under reset keeps what software leaves
-module _ (b : Block) (sound : IsSound b) (n : Now) (v : ItemValues) (k : ℕ) (f : Field) (here : slice_get b.fields k ≡ Some f) (q : IsQuiet f) (calm : is_asserted b n.pins f.reset_by ≡ false)
+-- the mark of a write stays where the field has none, and is what software leaves where it isn't under reset
+module _ (b : Block) (sound : IsSound b) (n : Now) (v : ItemValues) (k : ℕ) (f : Field) (here : slice_get b.fields k ≡ Some f) (calm : is_asserted b n.pins f.reset_by ≡ false) (x : FieldState) (kept : kept_state f x ≡ x) (a : Access) where
+  abbrev alone : FieldState
+  alone = access_state b n v a k x
+
+  abbrev moved : FieldState
+  moved = access_state b n v a k (started_state n v k f x)
+
+  same_done : moved.done ≡ alone.done
+  same_done = software_done b n v k f here a (started_state n v k f x) ∙ sym (software_done b n v k f here a x)
+
+  done_left : alone.done ≡ (next_state b n v k f moved).done
+  done_left = by f.once refl
+    where
+      by : (c : Bool) → f.once ≡ c → alone.done ≡ (if f.once then (if is_asserted b n.pins f.reset_by then 0 else moved.done) else 0)
+      by true e =
+          sym same_done ∙ (sym (ap (λ r. if r then 0 else moved.done) calm) ∙ sym (ap (λ c. if c then (if is_asserted b n.pins f.reset_by then 0 else moved.done) else 0) e))
+      by false e =
+          let none : list_any (λ w. w.field == k && w.once) b.views ≡ false = sym (Each-from_zero (FieldIsSoundIn b) b.fields k f sound.fields here).once ∙ e in
+          software_done b n v k f here a x
+          ∙ (ap (λ u. if u then 1 else x.done) (unused b n v k none a)
+          ∙ (sym (ap (λ s. s.done) kept) ∙ (ap (λ c. if c then x.done else 0) e ∙ sym (ap (λ c. if c then (if is_asserted b n.pins f.reset_by then 0 else moved.done) else 0) e))))
+
+-- a field that hardware spares, and that is not under reset, keeps what software leaves
+module _ (b : Block) (sound : IsSound b) (n : Now) (v : ItemValues) (k : ℕ) (f : Field) (here : slice_get b.fields k ≡ Some f) (q : IsSpared f) (calm : is_asserted b n.pins f.reset_by ≡ false)
     (x : FieldState) (kept : kept_state f x ≡ x) (a : Access) where
   abbrev left : FieldState
   left = access_state b n v a k x
@@ -177,23 +207,91 @@ module _ (b : Block) (sound : IsSound b) (n : Now) (v : ItemValues) (k : ℕ) (f
       ∙ (sym (ap (λ s. s.last) kept) ∙ (ap (λ l. if keeps_last l then x.last else 0) q.latch
       ∙ sym (ap (λ l. if keeps_last l then (if is_asserted b n.pins f.reset_by then 0 else before.last) else 0) q.latch)))
 
-  same_done : before.done ≡ left.done
-  same_done = software_done b n v k f here a (started_state n v k f x) ∙ sym (software_done b n v k f here a x)
-
-  done : left.done ≡ after.done
-  done = by f.once refl
-    where
-      by : (c : Bool) → f.once ≡ c → left.done ≡ (if f.once then (if is_asserted b n.pins f.reset_by then 0 else before.done) else 0)
-      by true e =
-          sym same_done ∙ (sym (ap (λ r. if r then 0 else before.done) calm) ∙ sym (ap (λ c. if c then (if is_asserted b n.pins f.reset_by then 0 else before.done) else 0) e))
-      by false e =
-          let none : list_any (λ w. w.field == k && w.once) b.views ≡ false = sym (Each-from_zero (FieldIsSoundIn b) b.fields k f sound.fields here).once ∙ e in
-          software_done b n v k f here a x
-          ∙ (ap (λ u. if u then 1 else x.done) (unused b n v k none a)
-          ∙ (sym (ap (λ s. s.done) kept) ∙ (ap (λ c. if c then x.done else 0) e ∙ sym (ap (λ c. if c then (if is_asserted b n.pins f.reset_by then 0 else before.done) else 0) e))))
-
   keeps_left : left ≡ after
-  keeps_left = same_state left after value last done
+  keeps_left = same_state left after value last (done_left b sound n v k f here calm x kept a)
+
+-- Software changes no field but through a view that changes it.
+module _ (b : Block) (n : Now) (v : ItemValues) (k : ℕ) (f : Field) (none : is_changed b k ≡ false) where
+  unread : (w : View) (x : ℕ) → changes w ≡ false → after_read w.on_read f.width x ≡ x
+  unread w x h = by w.on_read refl
+    where
+      by : (o : OnRead) → w.on_read ≡ o → after_read o f.width x ≡ x
+      by on_read.Off e = refl
+      by on_read.RClr e = absurd (let t : changes w ≡ true = rw e (or_true w.writes) in let z : false ≡ true = sym h ∙ t in cc)
+      by on_read.RSet e = absurd (let t : changes w ≡ true = rw e (or_true w.writes) in let z : false ≡ true = sym h ∙ t in cc)
+
+  unwritten : (w : View) (x gate done d : ℕ) → changes w ≡ false → after_write w f.width gate done x d ≡ x
+  unwritten w x gate done d h = by w.writes refl
+    where
+      by : (c : Bool) → w.writes ≡ c → after_write w f.width gate done x d ≡ x
+      by false e = ap (λ c. if c && is_open w.gate gate && not (w.once && done == 1) then written w.on_write f.width x d else x) e
+      by true e = absurd (let t : changes w ≡ true = ap (λ c. c || has_read_effect w.on_read) e in let z : false ≡ true = sym h ∙ t in cc)
+
+  -- a slot whose view leaves the value of the field leaves it
+  one_slot : (g : View → ℕ) (x : ℕ) → ((w : View) → changes w ≡ false → g w ≡ x) → (s : Slot) → of_view b k s x g ≡ x
+  one_slot g x same s = by (slice_get b.views s.view) refl
+    where
+      by : (o : Option View) → slice_get b.views s.view ≡ o → option_map_or (λ w. if w.field == k then g w else x) o x ≡ x
+      by None e = refl
+      by (Some w) e = at (w.field == k) (fails (λ (u : View). u.field == k && changes u) b.views w none (s.view, slice_get_within b.views s.view w e, get_or_from_slice_get b.views s.view w w e))
+        where
+          at : (c : Bool) → (c && changes w) ≡ false → (if c then g w else x) ≡ x
+          at true h = same w h
+          at false h = refl
+
+  all_slots : (g : ℕ → Slot → ℕ) → ((x : ℕ) (s : Slot) → g x s ≡ x) → (x : ℕ) (ss : List Slot) → fold g x ss ≡ x
+  all_slots g same x [] = refl
+  all_slots g same x (s ∷ ss) = all_slots g same (g x s) ss ∙ same x s
+
+  untouched : (a : Access) (x : ℕ) → software b n v a k f x ≡ x
+  untouched NoAccess x = refl
+  untouched (Read i) x = all_slots (slot_read b k f) (λ y s. one_slot (λ w. after_read w.on_read f.width y) y (λ w h. unread w y h) s) x (slots_of b.reads i)
+  untouched (Write i d) x = all_slots (slot_written b n v k f d)
+      (λ y s. one_slot (λ w. after_write w f.width (view_gate n v w) (n.kept (Done k)) y (slot_bits s d)) y (λ w h. unwritten w y (view_gate n v w) (n.kept (Done k)) (slot_bits s d) h) s) x (slots_of b.writes i)
+
+-- a field that keeps no value is none that software changes
+unchanged : (b : Block) → IsSound b → (k : ℕ) (f : Field) → slice_get b.fields k ≡ Some f → is_storage f.class ≡ false → is_changed b k ≡ false
+unchanged b sound k f here c = by (is_changed b k) refl
+  where
+    by : (d : Bool) → is_changed b k ≡ d → d ≡ false
+    by false e = refl
+    by true e =
+        let t : class_of b k f ≡ Storage = rw e refl in
+        let z : false ≡ true = sym c ∙ ap is_storage ((Each-from_zero (FieldIsSoundIn b) b.fields k f sound.fields here).class ∙ t) in
+        cc
+
+-- Of a field that keeps nothing, nothing is left and nothing kept.
+module _ (b : Block) (sound : IsSound b) (n : Now) (v : ItemValues) (k : ℕ) (f : Field) (here : slice_get b.fields k ≡ Some f) (class : is_storage f.class ≡ false) (latch : keeps_last f.latch ≡ false)
+    (calm : is_asserted b n.pins f.reset_by ≡ false) (x : FieldState) (kept : kept_state f x ≡ x) (a : Access) where
+  abbrev started : FieldState
+  started = access_state b n v a k (started_state n v k f x)
+
+  no_value : (access_state b n v a k x).value ≡ (next_state b n v k f started).value
+  no_value =
+      let end : ℕ = if f.hw_first then hardware n v k f started.value else started.value in
+      software_value b n v k f here a x
+      ∙ (untouched b n v k f (unchanged b sound k f here class) a x.value
+      ∙ (sym (ap (λ s. s.value) kept) ∙ (ap (λ c. if c then x.value else 0) class
+      ∙ sym (ap (λ c. if c then (if is_asserted b n.pins f.reset_by then unwrap_or f.reset end else end) else 0) class))))
+
+  no_last : (access_state b n v a k x).last ≡ (next_state b n v k f started).last
+  no_last =
+      software_last b n v k f here a x
+      ∙ (sym (ap (λ s. s.last) kept) ∙ (ap (λ c. if c then x.last else 0) latch ∙ sym (ap (λ c. if c then (if is_asserted b n.pins f.reset_by then 0 else started.last) else 0) latch)))
+
+  pub none_left : access_state b n v a k x ≡ next_state b n v k f started
+  none_left = same_state _ _ no_value no_last (done_left b sound n v k f here calm x kept a)
+
+quiet_left : (b : Block) → IsSound b → (n : Now) (v : ItemValues) (k : ℕ) (f : Field) → slice_get b.fields k ≡ Some f → is_quiet f ≡ true → is_asserted b n.pins f.reset_by ≡ false → (x : FieldState) → kept_state f x ≡ x → (a : Access)
+    → access_state b n v a k x ≡ next_state b n v k f (access_state b n v a k (started_state n v k f x))
+quiet_left b sound n v k f here q calm x kept a = by (is_spared f) refl
+  where
+    by : (c : Bool) → is_spared f ≡ c → access_state b n v a k x ≡ next_state b n v k f (access_state b n v a k (started_state n v k f x))
+    by true e = keeps_left b sound n v k f here (spared f e) calm x kept a
+    by false e =
+        let rest : keeps_none f ≡ true = sym (ap (λ c. c || keeps_none f) e) ∙ q in
+        let both = both_true (not (is_storage f.class)) (not (keeps_last f.latch)) rest in
+        none_left b sound n v k f here (not_true (is_storage f.class) both.0) (not_true (keeps_last f.latch) both.1) calm x kept a
 
 -- so does each field at an edge, whether it rests or moves
 pub at_edge : (b : Block) → IsSound b → (n : Now) (v : ItemValues) (k : ℕ) (f : Field) → slice_get b.fields k ≡ Some f → (a : Access) (is_reset : Bool) (old x begun left new : FieldState)
@@ -211,7 +309,7 @@ at_edge b sound n v k f here a is_reset old x begun left new p q r held kept cal
         let z : is_reset ≡ false = not_true is_reset both.0 in
         r ∙ (ap (λ c. if c then left else next_state b n v k f left) e
         ∙ (q ∙ (ap (access_state b n v a k) (p ∙ (ap (λ c. if c then old else started_state n v k f x) e ∙ held z))
-        ∙ keeps_left b sound n v k f here (quiet f both.1) (calm z) x (kept z) a)))
+        ∙ quiet_left b sound n v k f here both.1 (calm z) x (kept z) a)))
 
 -- what is kept of a field is kept of it again
 if_twice : (c : Bool) (x : ℕ) → (if c then (if c then x else 0) else 0) ≡ (if c then x else 0)

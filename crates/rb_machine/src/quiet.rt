@@ -4,12 +4,12 @@ ghost use Rattle.rb_model.specs.SoundField as sound;
 ghost use Rattle.rb_machine.specs.Quiet as spec;
 
 use rb_base::NoMemory;
-use rb_effects::{is_interrupt, is_on, is_storage, loads};
+use rb_effects::{is_interrupt, is_on, is_storage, keeps_last, loads};
 use rb_model::{Feed, Field};
 use std::alloc::Global;
 
-/// What is looked at of a field at an edge: its width in bits, whether it keeps a value, and whether hardware leaves that as it
-/// is.
+/// What is looked at of a field at an edge: its width in bits, whether it keeps a value, and whether what it keeps changes
+/// through software alone.
 #[derive(Clone, Copy)]
 pub(crate) struct Brief {
     pub width: u8,
@@ -29,8 +29,8 @@ fn is_fed(from: Feed) -> bool
 }
 
 /// Whether hardware leaves the kept value of a field as it is.
-fn is_quiet(field: &Field) -> bool
-    ensures { result ≡ spec.is_quiet field.now }
+fn is_spared(field: &Field) -> bool
+    ensures { result ≡ spec.is_spared field.now }
 {
     is_storage(field.class)
         && field.count.is_none()
@@ -40,6 +40,13 @@ fn is_quiet(field: &Field) -> bool
         && !is_fed(field.set)
         && !is_fed(field.clear)
         && !is_on(field.keep)
+}
+
+/// Whether what a field keeps changes through software alone, as it does where the field keeps nothing.
+fn is_quiet(field: &Field) -> bool
+    ensures { result ≡ spec.is_quiet field.now }
+{
+    is_spared(field) || (!is_storage(field.class) && !keeps_last(field.latch))
 }
 
 /// What is looked at of each field.
