@@ -18,7 +18,8 @@ use Rattle.rb_model.specs.Items.{Access, NoAccess, Read, Write, Now, ItemValues,
 use Rattle.rb_plan.specs.Behind.{IsThere}
 use Rattle.gen_scene.specs.declared.base.Inlet.{Inlet}
 use Rattle.gen_scene.specs.declared.items.Marks.{Marks}
-use Rattle.gen_scene.specs.Items.{AreMarks, is_wanted, mark_at}
+use Rattle.rb_wanted.specs.Wanted.{is_wanted}
+use Rattle.gen_scene.specs.Items.{AreMarks, mark_at}
 use Rattle.gen_scene.specs.Worth.{IsWorth}
 use Rattle.gen_access.specs.declared.touched.Mark.{Mark}
 use Rattle.gen_access.specs.declared.touched.Mark.TheVariants as mark

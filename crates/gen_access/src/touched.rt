@@ -5,6 +5,7 @@ ghost use Rattle.rtl_net.specs.Value.{bit_of};
 ghost use Rattle.rtl_net.specs.Net.{Grows, Stands};
 ghost use Rattle.rb_model.specs.Sound.{IsSound, WordIsSound};
 ghost use Rattle.gen_scene.specs.Bases.{IsBase};
+ghost use Rattle.rb_wanted.specs.Wanted as wants;
 ghost use Rattle.gen_scene.specs.Items as items;
 ghost use Rattle.gen_scene.specs.Worth.{IsWorth};
 ghost use Rattle.gen_access.specs.Tables.{AreNodes, AreWorth, Changes};
@@ -18,7 +19,7 @@ use net_gates::{either, zero};
 use rb_base::NoMemory;
 use rb_effects::has_read_effect;
 use rb_model::{Field, RefItem, Slot, View, Word};
-use rb_plan::item_place;
+use rb_wanted::is_wanted;
 use rtl_net::{Id, Netlist};
 use std::alloc::Global;
 
@@ -68,13 +69,6 @@ fn touches(touch: Touch, view: &View) -> bool
     }
 }
 
-/// Whether an item is wanted.
-fn is_wanted(wanted: &[bool], item: RefItem) -> bool
-    ensures { result ≡ items.is_wanted wanted.now item }
-{
-    wanted.get(item_place(item)).copied().unwrap_or(false)
-}
-
 impl<'a> Marking<'a> {
     /// The words through which an access touches fields so.
     fn words(&self) -> &'a [Word]
@@ -90,7 +84,7 @@ impl<'a> Marking<'a> {
 
     /// Whether an access through a view makes a mark that is wanted.
     fn counts(&self, view: &View) -> bool
-        ensures { result ≡ (items.is_wanted self.now.wanted.now (spec.mark_item self.now.mark view.now.field) && spec.touches self.now.touch view.now) }
+        ensures { result ≡ (wants.is_wanted self.now.wanted.now (spec.mark_item self.now.mark view.now.field) && spec.touches self.now.touch view.now) }
     {
         is_wanted(self.wanted, mark_item(self.mark, view.field)) && touches(self.touch, view)
     }
@@ -232,7 +226,7 @@ fn marked(
     ensures name { net.new.name ≡ net.old.name }
     ensures long { IfOk result (λ t. length t.items ≡ length base.now.block.now.fields) }
     ensures worth { IfOk result (λ t. AreWorth base.now.block.now base.now.inlet net.new t.items spec.one_bit
-        (λ k f n v. if items.is_wanted wanted.now (spec.mark_item mark k) then spec.mark_value base.now.block.now reading n k else 0)) }
+        (λ k f n v. if wants.is_wanted wanted.now (spec.mark_item mark k) then spec.mark_value base.now.block.now reading n k else 0)) }
 {
     let mut table = no_marks(alloc, net, base)?;
     put_marks(net, base, hits, wanted, (mark, reading), &mut table)?;

@@ -12,7 +12,7 @@ use Rattle.gen_scene.specs.declared.base.Base.{Base}
 use Rattle.gen_scene.specs.declared.base.Inlet.{Inlet}
 use Rattle.gen_scene.specs.declared.scene.Scene.{Scene}
 use Rattle.gen_scene.specs.Bases.{IsBase}
-use Rattle.gen_scene.specs.Fields.{IsAllWanted}
+use Rattle.rb_wanted.specs.Wanted.{IsAllWanted}
 use Rattle.gen_scene.specs.Items.{HasItems}
 use Rattle.gen_scene.proofs.Wanting.{field_nodes, outlet_node, value_node, view_nodes}
 use Rattle.gen_scene.proofs.Worths.{IsItem-extends}

@@ -9,8 +9,9 @@ ghost use Rattle.gen_core.specs.Parts.{HasParts, HasShown, HasTaken, IsSceneOf};
 
 use gen_access::{WordHits, marks, word_hits};
 use gen_edge::{answer_node, moved_nodes, next_nodes, used_nodes};
-use gen_scene::{Base, Scene, item_nodes, wanted};
+use gen_scene::{Base, Scene, item_nodes};
 use rb_base::NoMemory;
+use rb_wanted::wanted;
 use rtl_net::{Id, Netlist};
 use std::alloc::Global;
 

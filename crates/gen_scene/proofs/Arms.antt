@@ -23,7 +23,8 @@ use Rattle.gen_scene.specs.declared.base.Inlet.{Inlet}
 use Rattle.gen_scene.specs.declared.scene.Scene.{Scene}
 use Rattle.gen_scene.specs.Fields.{HasNodes}
 use Rattle.gen_scene.specs.Items.{IsItem}
-use Rattle.gen_scene.specs.Lines.{HasLine, has_line, line_mask, raised}
+use Rattle.rb_wanted.specs.Lines.{has_line, line_mask}
+use Rattle.gen_scene.specs.Lines.{HasLine, raised}
 use Rattle.gen_scene.specs.Worth.{IsWorth, MayBeWorth}
 use Rattle.gen_scene.proofs.Made.{node_worth, present_worth}
 use Rattle.gen_scene.proofs.Worths.{read_node, worth1, worth_as}

@@ -35,11 +35,13 @@ use Rattle.gen_scene.specs.declared.base.Base.{Base}
 use Rattle.gen_scene.specs.declared.base.Inlet.{Inlet}
 use Rattle.gen_scene.specs.declared.scene.Scene.{Scene}
 use Rattle.gen_scene.specs.Bases.{IsBase, signal_place}
-use Rattle.gen_scene.specs.Fields.{CanAmount, CanLevel, CanStep, HasNodes, fed_node, high_value, limit_refs, limits_refs, low_value}
+use Rattle.rb_wanted.specs.Needs.{limit_refs, limits_refs}
+use Rattle.gen_scene.specs.Fields.{CanAmount, CanLevel, CanStep, HasNodes, fed_node, high_value, low_value}
 use Rattle.gen_scene.specs.Items.{IsItem}
 use Rattle.gen_scene.specs.Worth.{IsRead, IsSeenAs, IsWorth, MayBeWorth}
 use Rattle.gen_scene.proofs.Worths.{MayBeWorth-grows, read_node, worth1, worth2, worth_as, worth_read}
-use Rattle.gen_scene.proofs.Sources.{fed_worth, field_sound, pin_is, pin_node}
+use Rattle.rb_wanted.proofs.Wanting.{field_sound}
+use Rattle.gen_scene.proofs.Sources.{fed_worth, pin_is, pin_node}
 use Rattle.gen_scene.proofs.ResetPins.{pin_worth}
 
 -- an item's node, and what is made of it

@@ -24,7 +24,8 @@ use Rattle.rb_model.specs.Sound.{IsSound}
 use Rattle.gen_scene.specs.declared.base.Inlet.{Inlet}
 use Rattle.gen_scene.specs.Worth.{IsWorth, MayBeWorth}
 use Rattle.gen_scene.proofs.Worths.{worth_as, worth_read}
-use Rattle.gen_scene.proofs.Sources.{field_sound, field_width}
+use Rattle.rb_wanted.proofs.Wanting.{field_sound}
+use Rattle.gen_scene.proofs.Sources.{field_width}
 
 module _ (b : Block) (a : Inlet) where
   pub present_worth : (old new : Net) (o : Option Id) (id : Id) (w : ℕ) (g : Now → ItemValues → ℕ) → MayBeWorth b a old o w g → Grows old new → IsNode new id w (λ x. seen_or_zero x o) → IsWorth b a new id w g

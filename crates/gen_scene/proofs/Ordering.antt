@@ -20,9 +20,11 @@ use Rattle.rb_model.specs.Sound.{IsSound}
 use Rattle.rb_model.proofs.Eachs.{Each-append, Each-at, Each-both, Each-flat_map, Each-numbered_all}
 use Rattle.rb_plan.specs.Table.{item_place}
 use Rattle.rb_plan.proofs.ItemPlaces.{place_alone}
+use Rattle.rb_wanted.proofs.Ordering.{here_at}
 use Rattle.gen_scene.specs.declared.base.Inlet.{Inlet}
 use Rattle.gen_scene.specs.declared.items.Marks.{Marks}
-use Rattle.gen_scene.specs.Items.{AreMarks, HasItems, IsClosed, IsItem, IsMarked, IsOwn, is_wanted}
+use Rattle.rb_wanted.specs.Wanted.{IsClosed, is_wanted}
+use Rattle.gen_scene.specs.Items.{AreMarks, HasItems, IsItem, IsMarked, IsOwn}
 use Rattle.gen_scene.specs.Worth.{IsWorth}
 use Rattle.gen_scene.proofs.Worths.{IsItem-grows}
 
@@ -165,10 +167,6 @@ all_made b a wanted first net room table end sound past sofar = record {
       let low : held.0 < length b.order = held.1 in
       sofar.each held.0 i (omega (arith, low, past)) (slice_get_read b.order (length b.order) held.0 i refl held.1 (sym held.2)) w;
 }
-
--- an item that was read
-pub here_at : (b : Block) (read : List RefItem) (k : ℕ) (d : RefItem) → read ≡ b.order → k < length read → slice_get b.order k ≡ Some (get_or read k d)
-here_at b read k d same low = ap (λ l. slice_get l k) (sym same) ∙ slice_get-get_or read k d low
 
 -- the table after one more item, where its place was computed
 pub one_more_at : (b : Block) (a : Inlet) (wanted : List Bool) (first old new : Net) (room : ℕ) (table : List Id) (end place : ℕ) (i : RefItem) (id : Id) → IsSound b → slice_get b.order end ≡ Some i → MadeTo b a wanted first old room table end → place < room

@@ -28,11 +28,13 @@ use Rattle.gen_scene.specs.declared.scene.Scene.{Scene}
 use Rattle.gen_scene.specs.Bases.{IsBase}
 use Rattle.gen_scene.specs.Fields.{HasNodes, item_node, mask_node}
 use Rattle.gen_scene.specs.Items.{IsItem}
-use Rattle.gen_scene.specs.Lines.{HasLine, has_line, is_inverted, line_bits, line_mask, raised}
+use Rattle.rb_wanted.specs.Lines.{has_line, line_mask}
+use Rattle.gen_scene.specs.Lines.{HasLine, is_inverted, line_bits, raised}
 use Rattle.gen_scene.specs.Worth.{Finds, IsRead}
 use Rattle.gen_scene.proofs.Arms.{raised_is}
 use Rattle.gen_scene.proofs.Made.{node_worth}
-use Rattle.gen_scene.proofs.Sources.{field_sound, in_table}
+use Rattle.rb_wanted.proofs.Wanting.{field_sound}
+use Rattle.gen_scene.proofs.Sources.{in_table}
 
 -- The members of a register are interrupts of it
 

@@ -37,7 +37,8 @@ use Rattle.rb_plan.proofs.DataPins.{resetn_data, signal_data}
 use Rattle.gen_scene.specs.declared.base.Inlet.{Inlet}
 use Rattle.gen_scene.specs.Bases.{HasPins, IsPinNode, kept_number, kept_reset, kept_width, kept_word, reset_for, reset_in, reset_of, signal_place}
 use Rattle.gen_scene.specs.Worth.{Finds, IsWorth}
-use Rattle.gen_scene.proofs.Sources.{field_sound, pin_is, pin_node}
+use Rattle.rb_wanted.proofs.Wanting.{field_sound}
+use Rattle.gen_scene.proofs.Sources.{pin_is, pin_node}
 
 -- the pin of a reset
 pub record ResetsAt (b : Block) (p : Plan) (signal : Option ℕ) : Type 0 where

@@ -38,7 +38,9 @@ use Rattle.gen_scene.specs.declared.base.Base.{Base}
 use Rattle.gen_scene.specs.declared.base.Inlet.{Inlet}
 use Rattle.gen_scene.specs.declared.scene.Scene.{Scene}
 use Rattle.gen_scene.specs.Bases.{HasKept, HasPins, IsBase, IsPinNode}
-use Rattle.gen_scene.specs.Fields.{CanFeed, HasField, HasNodes, HasView, fed_node, gated_node, hardware_refs, item_node, limits_refs, mask_node}
+use Rattle.rb_wanted.specs.Needs.{hardware_refs, limits_refs}
+use Rattle.gen_scene.specs.Fields.{CanFeed, HasField, HasNodes, HasView, fed_node, gated_node, item_node, mask_node}
+use Rattle.rb_wanted.proofs.Wanting.{field_sound}
 use Rattle.gen_scene.specs.Items.{IsItem}
 use Rattle.gen_scene.specs.Worth.{IsWorth, MayBeWorth}
 use Rattle.gen_scene.proofs.Worths.{may_none, may_some, worth_as}
@@ -151,9 +153,6 @@ mask_worth : (net : Net) (s : Scene) (m : Mask) (w : ℕ) → HasNodes net s (ma
 mask_worth net s mask.Off w h wide = may_none s.base.now.block.now s.base.now.inlet net w (λ n v. 0) (λ n v. refl)
 mask_worth net s (mask.Enable i) w h wide = item_worth net s i w h wide.0.1
 mask_worth net s (mask.Mask i) w h wide = item_worth net s i w h wide.0.1
-
-pub field_sound : (b : Block) → IsSound b → (k : ℕ) (f : Field) → slice_get b.fields k ≡ Some f → FieldIsSoundIn b (k, f)
-field_sound b sound k f here = Each-from_zero (FieldIsSoundIn b) b.fields k f sound.fields here
 
 -- what a field's source gives
 pub given_is : (net : Net) (s : Scene) (k : ℕ) (f : Field) → IsBase net s.base.now → slice_get s.base.now.block.now.fields k ≡ Some f → HasNodes net s (feed_refs f.source) → (p : FieldPlaces) → Some p ≡ slice_get s.base.now.plan.now.fields.items k

@@ -28,22 +28,10 @@ use Rattle.rb_plan.specs.declared.plan.PartPlaces.{PartPlaces}
 use Rattle.rb_plan.specs.Pins.{IsDataPin}
 use Rattle.rb_plan.specs.Plan.{IsPlaceOf}
 use Rattle.rb_plan.specs.Table.{item_place}
+use Rattle.rb_wanted.specs.Needs.{hardware_refs}
 use Rattle.gen_scene.specs.declared.scene.Scene.{Scene}
 use Rattle.gen_scene.specs.Bases.{IsBase}
-use Rattle.gen_scene.specs.Items.{IsItem, is_wanted}
-
-abbrev pub limit_refs : Option Level → List RefItem
-limit_refs None = []
-limit_refs (Some l) = level_refs l
-
--- the levels at which a counter saturates
-abbrev pub limits_refs : Option Count → List RefItem
-limits_refs None = []
-limits_refs (Some c) = limit_refs c.high ++ limit_refs c.low
-
--- the items that hardware's steps on a field refer to
-abbrev pub hardware_refs : Field → List RefItem
-hardware_refs f = feed_refs f.source ++ gate_refs f.gate ++ count_refs f.count ++ limits_refs f.count ++ feed_refs f.set ++ feed_refs f.clear ++ mask_refs f.keep
+use Rattle.gen_scene.specs.Items.{IsItem}
 
 -- the level above which a counter doesn't count, and the one below which it doesn't, where there are such
 abbrev pub high_value : ItemValues → Field → Option ℕ
@@ -111,10 +99,3 @@ CanStep net s (Some p) pulse value w places = CanFeed net s p.pulse pulse 1 plac
 abbrev pub CanLevel : Net → Scene → ℕ → Level → Type 0
 CanLevel net s w (level.Number x) = x < 2 ^ w
 CanLevel net s w (level.Item i) = HasNodes net s (i ∷ []) × (item_width s.base.now.block.now i ≤ w)
-
--- what a netlist of the whole block wants
-pub record IsAllWanted (b : Block) (wanted : List Bool) : Type 0 where
-  pub shown : (o : Outlet) → Contains (outlets b) o → is_wanted wanted o.item ≡ true
-  pub values : (k : ℕ) (f : Field) → slice_get b.fields k ≡ Some f → is_wanted wanted (item.Field k) ≡ true
-  pub fields : (k : ℕ) (f : Field) → slice_get b.fields k ≡ Some f → Each (λ i. is_wanted wanted i ≡ true) (hardware_refs f)
-  pub views : (k : ℕ) (u : View) → slice_get b.views k ≡ Some u → Each (λ i. is_wanted wanted i ≡ true) (gate_refs u.gate)

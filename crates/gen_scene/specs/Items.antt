@@ -9,8 +9,9 @@ use Rattle.rb_model.specs.declared.block.Block.{Block}
 use Rattle.rb_model.specs.declared.block.Field.{Field}
 use Rattle.rb_model.specs.declared.block.Signal.{Signal}
 use Rattle.rb_model.specs.Items.{items, made}
-use Rattle.rb_model.specs.References.{Each, item_width, refs}
+use Rattle.rb_model.specs.References.{item_width}
 use Rattle.rb_plan.specs.Table.{item_place}
+use Rattle.rb_wanted.specs.Wanted.{is_wanted}
 use Rattle.gen_scene.specs.declared.base.Inlet.{Inlet}
 use Rattle.gen_scene.specs.declared.items.Marks.{Marks}
 use Rattle.gen_scene.specs.Worth.{IsWorth}
@@ -20,17 +21,9 @@ pub record IsItem (b : Block) (a : Inlet) (net : Net) (table : List Id) (i : Ref
   pub within : item_place i < length table
   pub worth : IsWorth b a net (at table (item_place i)) (item_width b i) (λ n v. v i)
 
--- the item is wanted
-abbrev pub is_wanted : List Bool → RefItem → Bool
-is_wanted wanted i = slice_index_or wanted (item_place i) false
-
 -- the table has the node of each item that is wanted
 pub record HasItems (b : Block) (a : Inlet) (net : Net) (wanted : List Bool) (table : List Id) : Type 0 where
   pub each : (i : RefItem) → Contains (items b) i → is_wanted wanted i ≡ true → IsItem b a net table i
-
--- what is wanted of an item's references
-pub record IsClosed (b : Block) (wanted : List Bool) : Type 0 where
-  pub each : (i : RefItem) → Contains (items b) i → is_wanted wanted i ≡ true → Each (λ j. is_wanted wanted j ≡ true) (refs b i)
 
 -- the marks of field k
 abbrev pub mark_at : List Marks → ℕ → Marks

@@ -3,4 +3,3 @@ pub mod Bases
 pub mod Items
 pub mod Fields
 pub mod Lines
-pub mod Needs

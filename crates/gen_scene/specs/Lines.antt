@@ -1,5 +1,5 @@
 -- The lines of a register's interrupts.
-use Rattle.std.specs.Prelude.{◌≡◌, ℕ, Bool, true, false, not, ◌&&◌, ◌||◌, if◌then◌else◌, nat_lt, Option, Some, None, ◌∷◌, slice_get}
+use Rattle.std.specs.Prelude.{◌≡◌, ℕ, Bool, true, false, ◌&&◌, if◌then◌else◌, nat_lt, Option, Some, None, ◌∷◌, slice_get}
 use Rattle.std.specs.Option.{option_map}
 use Rattle.gen_intr.specs.declared.lines.Masked.{Masked}
 use Rattle.rtl_net.specs.Net.{Net}
@@ -9,25 +9,18 @@ use Rattle.rb_model.specs.declared.kinds.Mask.TheVariants as mask
 use Rattle.rb_model.specs.declared.block.Block.{Block}
 use Rattle.rb_model.specs.declared.block.Field.{Field}
 use Rattle.rb_model.specs.Effects.{counting}
-use Rattle.rb_model.specs.Items.{ItemValues, is_on, mask_value}
+use Rattle.rb_model.specs.Items.{ItemValues, mask_value}
 use Rattle.rb_model.specs.Kept.{of_field}
 use Rattle.rb_model.specs.References.{mask_refs}
 use Rattle.rb_plan.specs.Plan.{is_member}
+use Rattle.rb_wanted.specs.Lines.{has_line, line_mask}
 use Rattle.gen_scene.specs.declared.scene.Scene.{Scene}
 use Rattle.gen_scene.specs.Fields.{HasNodes, item_node, mask_node}
-
--- the mask of an interrupt for the line halt, or for intr
-abbrev pub line_mask : Bool → Field → Mask
-line_mask halt f = if halt then f.halt else f.enable
 
 abbrev pub is_inverted : Mask → Bool
 is_inverted mask.Off = false
 is_inverted (mask.Enable i) = false
 is_inverted (mask.Mask i) = true
-
--- an interrupt counts for the line; for halt only one that has a mask for it does
-abbrev pub has_line : Bool → Field → Bool
-has_line halt f = not halt || is_on f.halt
 
 -- field k raises its register's line
 abbrev pub raised : Block → ItemValues → Bool → ℕ → Bool

@@ -4,9 +4,9 @@ ghost use Rattle.std.specs.Prelude.{◌≡◌, IfOk};
 ghost use Rattle.rtl_net.specs.Net.{Grows};
 ghost use Rattle.rb_model.specs.Items.{made};
 ghost use Rattle.rb_model.specs.References.{Each, item_width, refs};
+ghost use Rattle.rb_wanted.specs.Wanted.{IsClosed};
 ghost use Rattle.gen_scene.specs.Bases.{IsBase};
-ghost use Rattle.gen_scene.specs.Items as spec;
-ghost use Rattle.gen_scene.specs.Items.{AreMarks, HasItems, IsClosed, IsItem, IsMarked, IsOwn};
+ghost use Rattle.gen_scene.specs.Items.{AreMarks, HasItems, IsItem, IsMarked, IsOwn};
 ghost use Rattle.gen_scene.specs.Worth.{IsWorth};
 
 use crate::base::Base;
@@ -15,6 +15,7 @@ use crate::scene::Scene;
 use rb_base::NoMemory;
 use rb_model::RefItem;
 use rb_plan::{item_place, table_len};
+use rb_wanted::is_wanted;
 use rtl_net::{Id, Netlist};
 use std::alloc::Global;
 
@@ -23,16 +24,6 @@ use std::alloc::Global;
 pub struct Marks {
     pub modified: Id,
     pub accessed: Id,
-}
-
-/// Whether an item is wanted.
-pub(crate) fn is_wanted(wanted: &[bool], item: RefItem) -> bool
-    ensures { result ≡ spec.is_wanted wanted.now item }
-{
-    match wanted.get(item_place(item)) {
-        Some(wanted) => *wanted,
-        None => false,
-    }
 }
 
 /// The node of an item, where those that it refers to have theirs in the table.

@@ -5,7 +5,6 @@
 //! block finds at an edge of a netlist, and `IsWorth` what a node is worth in those terms.
 #![tactic(auto)]
 
-mod adding;
 mod base;
 mod counting;
 mod item_node;
@@ -13,12 +12,10 @@ mod items;
 mod kept;
 mod lines;
 mod making;
-mod needed;
 mod resets;
 mod scene;
 
 pub use base::{Base, Inlet};
 pub use items::{Marks, item_nodes};
 pub use kept::registers;
-pub use needed::wanted;
 pub use scene::Scene;

@@ -4,7 +4,7 @@ ghost use Rattle.std.specs.Prelude.{◌≡◌, IfOk};
 ghost use Rattle.std.specs.List.{list_any};
 ghost use Rattle.rtl_net.specs.Value.{bit_of};
 ghost use Rattle.rtl_net.specs.Net.{Grows};
-ghost use Rattle.rb_plan.specs.Plan.{members_among, members_of};
+ghost use Rattle.rb_plan.specs.Plan.{members_among};
 ghost use Rattle.gen_scene.specs.Bases.{IsBase};
 ghost use Rattle.gen_scene.specs.Lines as spec;
 ghost use Rattle.gen_scene.specs.Lines.{HasLine, raised};
@@ -14,9 +14,8 @@ use crate::base::field_at;
 use crate::scene::Scene;
 use gen_intr::{Masked, any};
 use rb_base::NoMemory;
-use rb_effects::is_on;
 use rb_model::{Field, Mask, RefItem};
-use rb_plan::Plan;
+use rb_wanted::{has_line, line_mask, members_in};
 use rtl_net::{Id, Netlist};
 use std::alloc::Global;
 
@@ -28,30 +27,6 @@ fn is_inverted(mask: Mask) -> bool
         Mask::Off => false,
         Mask::Enable(_) => false,
         Mask::Mask(_) => true,
-    }
-}
-
-/// Whether an interrupt counts for the line `halt`, or for `intr`.
-pub(crate) fn has_line(halt: bool, field: &Field) -> bool
-    ensures { result ≡ spec.has_line halt field.now }
-{
-    !halt || is_on(field.halt)
-}
-
-/// The mask of an interrupt for the line `halt`, or for `intr`.
-pub(crate) fn line_mask(halt: bool, field: &Field) -> Mask
-    ensures { result ≡ spec.line_mask halt field.now }
-{
-    if halt { field.halt } else { field.enable }
-}
-
-/// The interrupts that are listed for a register.
-pub(crate) fn members_in(plan: &Plan, reg: u32) -> &[u32]
-    ensures { result.now ≡ members_of plan.now reg }
-{
-    match plan.members.get(reg as usize) {
-        Some(members) => members,
-        None => &[],
     }
 }
 

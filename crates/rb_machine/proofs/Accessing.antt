@@ -25,6 +25,11 @@ or_false : (a : Bool) → a ≡ (a || false)
 or_false true = refl
 or_false false = refl
 
+one_of : (a c : Bool) (y : ℕ) → (if c then 1 else (if a then 1 else y)) ≡ (if a || c then 1 else y)
+one_of true true y = refl
+one_of true false y = refl
+one_of false c y = refl
+
 module _ {X : Type 0} (b : Block) (k : ℕ) (g : View → Slot → X → X) where
   -- a test that slots add to
   any_touch : (pick : X → Bool) (test : View → Bool) → ((w : View) (s : Slot) (x : X) → w.field ≡ k → pick (g w s x) ≡ (pick x || test w))
@@ -45,6 +50,26 @@ module _ {X : Type 0} (b : Block) (k : ℕ) (g : View → Slot → X → X) wher
   any_touched pick test h x (s ∷ ss) =
       any_touched pick test h (touched b k g x s) ss
       ∙ (ap (λ c. c || list_any (shows b k test) ss) (any_touch pick test h x s) ∙ or_assoc (pick x) (shows b k test s) (list_any (shows b k test) ss))
+
+  -- a number that slots make 1 where a test holds of one
+  one_touch : (pick : X → ℕ) (test : View → Bool) → ((w : View) (s : Slot) (x : X) → w.field ≡ k → pick (g w s x) ≡ (if test w then 1 else pick x))
+      → (x : X) (s : Slot) → pick (touched b k g x s) ≡ (if shows b k test s then 1 else pick x)
+  one_touch pick test h x s = by (slice_get b.views s.view)
+    where
+      at : (w : View) (c : Bool) → (w.field == k) ≡ c → pick (if c then g w s x else x) ≡ (if c && test w then 1 else pick x)
+      at w true e = h w s x (exact_unsigned_eq _ _ e)
+      at w false e = refl
+
+      by : (o : Option View) → pick (option_map_or (λ w. if w.field == k then g w s x else x) o x) ≡ (if option_map_or (λ w. w.field == k && test w) o false then 1 else pick x)
+      by None = refl
+      by (Some w) = at w (w.field == k) refl
+
+  pub one_touched : (pick : X → ℕ) (test : View → Bool) → ((w : View) (s : Slot) (x : X) → w.field ≡ k → pick (g w s x) ≡ (if test w then 1 else pick x))
+      → (x : X) (ss : List Slot) → pick (touched_by b k g x ss) ≡ (if list_any (shows b k test) ss then 1 else pick x)
+  one_touched pick test h x [] = refl
+  one_touched pick test h x (s ∷ ss) =
+      one_touched pick test h (touched b k g x s) ss
+      ∙ (ap (λ y. if list_any (shows b k test) ss then 1 else y) (one_touch pick test h x s) ∙ one_of (shows b k test s) (list_any (shows b k test) ss) (pick x))
 
   -- a number that slots change
   number_touch : (pick : X → ℕ) (step : View → Slot → ℕ → ℕ) → ((w : View) (s : Slot) (x : X) → w.field ≡ k → pick (g w s x) ≡ step w s (pick x))
@@ -123,23 +148,8 @@ module _ (b : Block) (n : Now) (v : ItemValues) (k : ℕ) (f : Field) (here : sl
   software_last (Read i) x = stays_touched b k (read_state b) (λ x. x.last) (λ w s x. refl) x (slots_of b.reads i)
   software_last (Write i d) x = stays_touched b k (write_state b n v d) (λ x. x.last) (λ w s x. refl) x (slots_of b.writes i)
 
-  pub software_done : (a : Access) (x : FieldState) → (access_state b n v a k x).done ≡ (x.done || uses_up b n v a k)
-  software_done NoAccess x = or_false x.done
-  software_done (Read i) x = done_read x (slots_of b.reads i)
-    where
-      bit_read : (x : FieldState) (s : Slot) → (touched b k (read_state b) x s).done ≡ x.done
-      bit_read x s = by (slice_get b.views s.view)
-        where
-          at : (w : View) (c : Bool) → (if c then read_state b w s x else x).done ≡ x.done
-          at w true = refl
-          at w false = refl
-
-          by : (o : Option View) → (option_map_or (λ w. if w.field == k then read_state b w s x else x) o x).done ≡ x.done
-          by None = refl
-          by (Some w) = at w (w.field == k)
-
-      done_read : (x : FieldState) (ss : List Slot) → (touched_by b k (read_state b) x ss).done ≡ (x.done || false)
-      done_read x [] = or_false x.done
-      done_read x (s ∷ ss) = done_read (touched b k (read_state b) x s) ss ∙ ap (λ c. c || false) (bit_read x s)
-  software_done (Write i d) x = any_touched b k (write_state b n v d) (λ x. x.done) (λ w. w.once && acts w (view_gate n v w) (n.kept (Done k)))
-      (λ w s x e. ap (λ j. x.done || (w.once && acts w (view_gate n v w) (n.kept (Done j)))) e) x (slots_of b.writes i)
+  pub software_done : (a : Access) (x : FieldState) → (access_state b n v a k x).done ≡ (if uses_up b n v a k then 1 else x.done)
+  software_done NoAccess x = refl
+  software_done (Read i) x = stays_touched b k (read_state b) (λ x. x.done) (λ w s x. refl) x (slots_of b.reads i)
+  software_done (Write i d) x = one_touched b k (write_state b n v d) (λ x. x.done) (λ w. w.once && acts w (view_gate n v w) (n.kept (Done k)))
+      (λ w s x e. ap (λ j. if w.once && acts w (view_gate n v w) (n.kept (Done j)) then 1 else x.done) e) x (slots_of b.writes i)

@@ -1,5 +1,5 @@
 -- What is held under reset.
-use Rattle.std.proofs.Common.{◌≡◌, ℕ, zero, suc, ◌<◌, ◌≤◌, ◌==◌, Bool, true, false, not, ◌&&◌, if◌then◌else◌, Option, Some, None, unwrap_or, List, [], ◌∷◌, length, slice_get, refl, sym, ap, ◌∙◌, arith, inl, inr, ◌⊎◌}
+use Rattle.std.proofs.Common.{◌≡◌, ℕ, zero, suc, ◌<◌, ◌≤◌, ◌==◌, Bool, false, not, ◌&&◌, if◌then◌else◌, Option, Some, None, unwrap_or, List, [], ◌∷◌, length, slice_get, refl, sym, ap, ◌∙◌, arith, inl, inr, ◌⊎◌}
 use Rattle.std.specs.Option.{option_map_or}
 use Rattle.v_design.specs.Expr.{Values, bit_of}
 use Rattle.rb_model.specs.declared.block.Block.{Block}
@@ -22,10 +22,6 @@ none_past (x ∷ xs) (suc k) past = none_past xs k (omega (arith, past))
 
 value_reset : (f : Field) (c : Bool) (x : FieldState) → (reset_state f c x).value ≡ (if c then unwrap_or f.reset x.value else x.value)
 value_reset f c x = refl
-
-done_reset : (c d : Bool) → bit_of (if c then false else d) ≡ (if c then 0 else bit_of d)
-done_reset true d = refl
-done_reset false d = refl
 
 -- a number of each field, where it is that of what the field keeps
 module _ (b : Block) (old new : List FieldState) (test : Field → Bool) (sized : length old ≡ length b.fields) (same : length new ≡ length old)
@@ -50,8 +46,8 @@ module _ (b : Block) (old new : List FieldState) (test : Field → Bool) (sized 
   pub reset_lasts : (k : ℕ) → (state_at new k).last ≡ of_field b k (state_at old k).last (λ f. if test f then 0 else (state_at old k).last)
   reset_lasts k = at k (λ x. x.last) _ (λ f. refl)
 
-  pub reset_dones : (k : ℕ) → bit_of (state_at new k).done ≡ of_field b k (bit_of (state_at old k).done) (λ f. if test f then 0 else bit_of (state_at old k).done)
-  reset_dones k = at k (λ x. bit_of x.done) _ (λ f. done_reset (test f) (state_at old k).done)
+  pub reset_dones : (k : ℕ) → (state_at new k).done ≡ of_field b k (state_at old k).done (λ f. if test f then 0 else (state_at old k).done)
+  reset_dones k = at k (λ x. x.done) _ (λ f. refl)
 
 not_zero : (r : ℕ) → (r ≡ 0 → ⊥) → (r == 0) ≡ false
 not_zero r h = grind arith

@@ -9,3 +9,7 @@ mod Accessing
 mod Narrow
 mod Stepping
 mod Placing
+mod Resetting
+mod Resting
+mod Briefs
+mod Agreeing

@@ -1,5 +1,5 @@
 -- What a field of a sound block finds at an edge.
-use Rattle.std.proofs.Common.{◌≡◌, ℕ, ◌<◌, ◌≤◌, if◌then◌else◌, Some, None, List, ◌++◌, length, slice_get, get_or, refl, sym, ap, ◌∙◌, subst}
+use Rattle.std.proofs.Common.{◌≡◌, ℕ, ◌<◌, ◌≤◌, Some, None, List, ◌++◌, length, slice_get, get_or, refl, sym, ap, ◌∙◌, subst}
 use Rattle.std.proofs.lemmas.Option.{slice_get_read, slice_get_past, same_Some}
 use Rattle.rb_model.specs.declared.kinds.Gate.{Gate}
 use Rattle.rb_model.specs.declared.kinds.Gate.TheVariants as gate
@@ -57,7 +57,7 @@ is_at s values k f scene here placed state pins table =
         down_amount = at _ f.places.now.down.amount p.down.amount;
         value = ap (λ t. t.value) state;
         last = ap (λ t. t.last) state;
-        done = ap (λ t. if t.done then 1 else 0) state;
+        done = ap (λ t. t.done) state;
       };
       state = state;
     }

@@ -1,5 +1,6 @@
 -- What an edge of a block makes, from what was computed.
-use Rattle.std.proofs.Common.{◌≡◌, ℕ, ◌<◌, ◌≤◌, Bool, true, false, ◌&&◌, ◌||◌, if◌then◌else◌, Option, Some, None, unwrap_or, List, [], ◌∷◌, length, map, slice_get, refl, ap, ◌∙◌, subst, arith, inl, inr, ◌⊎◌}
+use Rattle.std.proofs.Common.{◌≡◌, ℕ, ◌<◌, ◌≤◌, Bool, true, false, ◌&&◌, if◌then◌else◌, Option, Some, None, unwrap_or, List, [], ◌∷◌, length, map, slice_get, refl, sym, ap, ◌∙◌, subst, arith, inl, inr, ◌⊎◌}
+use Rattle.std.specs.Prelude.{Contains}
 use Rattle.std.specs.Option.{option_map_or}
 use Rattle.v_design.specs.Expr.{bit_of}
 use Rattle.rb_model.specs.declared.kinds.RefItem.{RefItem}
@@ -11,6 +12,7 @@ use Rattle.rb_model.specs.Protocol.{bus_of}
 use Rattle.rb_model.specs.Items.{Access, NoAccess, Now, ItemValues, AreItemValues, source_value}
 use Rattle.rb_model.specs.Machine.{changed, hardware, held, is_asserted, read_data, software, uses_up}
 use Rattle.rb_model.specs.Run.{ClockEdge, all_outputs, answer, bus_held, carried, carries, closes, error, kept_next, now, pins_of}
+use Rattle.rb_model.specs.Sound.{IsSound}
 use Rattle.rb_model.proofs.OwnViews.{none_within}
 use Rattle.rb_machine.specs.declared.sight.FieldState.{FieldState}
 use Rattle.rb_machine.specs.declared.scene.Held.{Held}
@@ -22,6 +24,9 @@ use Rattle.rb_machine.specs.Scene.{map_of, no_state, state_at}
 use Rattle.rb_machine.specs.Slots.{access_state}
 use Rattle.rb_machine.specs.Table.{values_of}
 use Rattle.rb_machine.specs.Transfers.{IsTransfer, access_seen, outs_shown}
+use Rattle.rb_wanted.specs.Wanted.{AreInOrder, IsAllWanted}
+use Rattle.rb_model.proofs.ItemValues.{are_values, item_value}
+use Rattle.rb_machine.proofs.Agreeing.{are_alike, moved_same, read_same, shown_same}
 use Rattle.rb_machine.proofs.Accessing.{software_done, software_last, software_value}
 use Rattle.rb_machine.proofs.Holding.{none_past}
 
@@ -41,14 +46,6 @@ map-map v (o ∷ os) = ap (λ xs. v o.item ∷ xs) (map-map v os)
 value_ordered : (c : Bool) (h s : ℕ → ℕ) (x : ℕ) → (if c then h (s (if c then x else h x)) else s (if c then x else h x)) ≡ (if c then h (s x) else s (h x))
 value_ordered true h s x = refl
 value_ordered false h s x = refl
-
-done_kept : (once asserted d u : Bool) → bit_of (once && (if asserted then false else (d || u))) ≡ (if once then (if asserted then 0 else (if u then 1 else bit_of d)) else 0)
-done_kept false asserted d u = refl
-done_kept true true d u = refl
-done_kept true false true true = refl
-done_kept true false true false = refl
-done_kept true false false true = refl
-done_kept true false false false = refl
 
 bit_kept : (w c : Bool) → bit_of (w && c) ≡ (if w then bit_of c else 0)
 bit_kept true c = refl
@@ -115,16 +112,16 @@ module _ (b : Block) (x : List ℕ) (h : Held) (t : Transfer) (v : ItemValues) (
             let made : ℕ → ℕ = λ y. if keeps_last f.latch then (if is_asserted b n.pins f.reset_by then 0 else y) else 0 in
             ap (λ s. s.last) (moved k f here) ∙ ap made (software_last b n v k f here access s)
 
-    done_next : (k : ℕ) → bit_of (state_at states k).done ≡ only_kept b (kept_next b n v) (Done k)
+    done_next : (k : ℕ) → (state_at states k).done ≡ only_kept b (kept_next b n v) (Done k)
     done_next k = by (slice_get b.fields k) refl
       where
         by : (o : Option Field) → slice_get b.fields k ≡ o
-            → bit_of (state_at states k).done ≡ (if option_map_or (λ f. f.once) o false then option_map_or (λ f. if is_asserted b n.pins f.reset_by then 0 else (if uses_up b n v access k then 1 else bit_of (state_at h.fields.items k).done)) o (if uses_up b n v access k then 1 else bit_of (state_at h.fields.items k).done) else 0)
-        by None here = ap (λ s. bit_of s.done) (past_none k here)
+            → (state_at states k).done ≡ (if option_map_or (λ f. f.once) o false then option_map_or (λ f. if is_asserted b n.pins f.reset_by then 0 else (if uses_up b n v access k then 1 else (state_at h.fields.items k).done)) o (if uses_up b n v access k then 1 else (state_at h.fields.items k).done) else 0)
+        by None here = ap (λ s. s.done) (past_none k here)
         by (Some f) here =
             let s = started_state n v k f (state_at h.fields.items k) in
-            let made : Bool → ℕ = λ y. bit_of (f.once && (if is_asserted b n.pins f.reset_by then false else y)) in
-            ap (λ s. bit_of s.done) (moved k f here) ∙ (ap made (software_done b n v k f here access s) ∙ done_kept f.once (is_asserted b n.pins f.reset_by) (state_at h.fields.items k).done (uses_up b n v access k))
+            let made : ℕ → ℕ = λ y. if f.once then (if is_asserted b n.pins f.reset_by then 0 else y) else 0 in
+            ap (λ s. s.done) (moved k f here) ∙ ap made (software_done b n v k f here access s)
 
     -- what is held after the edge
     pub held_is : (h' : Held) (given : ℕ) → h'.fields.items ≡ states → h'.waited ≡ (has_wait b && t.carries) → h'.«data» ≡ (if has_wait b then given else 0) → h'.error ≡ (has_wait b && (t.carries && t.unmapped))
@@ -134,7 +131,7 @@ module _ (b : Block) (x : List ℕ) (h : Held) (t : Transfer) (v : ItemValues) (
         each : (k : Kept) → map_of h' k ≡ only_kept b (kept_next b n v) k
         each (Val k) = ap (λ ss. (state_at ss k).value) f ∙ value_next k
         each (Last k) = ap (λ ss. (state_at ss k).last) f ∙ last_next k
-        each (Done k) = ap (λ ss. bit_of (state_at ss k).done) f ∙ done_next k
+        each (Done k) = ap (λ ss. (state_at ss k).done) f ∙ done_next k
         each Waited = ap bit_of w ∙ (bit_kept (has_wait b) t.carries ∙ ap (λ z. if has_wait b then bit_of z else 0) tr.carries)
         each Data = d ∙ ap (λ z. if has_wait b then z else 0) g
         each Error = ap bit_of e ∙ (bit_kept (has_wait b) (t.carries && t.unmapped)
@@ -154,24 +151,31 @@ edge_is b x m h h' t v outs same tr vals seen moved =
     }
 
 -- the edge, where the pins, the table and the states were lent in turn
-pub edge_made : (b : Block) (m : Map) (x x1 x2 table t4 t5 t7 : List ℕ) (states lent : List FieldState) (h h' : Held) (t : Transfer) (given : ℕ) (bus : BusOuts) (items : List RefItem) (outs : List ℕ)
-    → x1 ≡ x → x2 ≡ x → t4 ≡ table → t5 ≡ table → t7 ≡ table → lent ≡ states → length states ≡ length b.fields
+pub edge_made : (b : Block) (m : Map) (x x1 table t4 t5 t7 : List ℕ) (wanted : List Bool) (order : List RefItem) (states lent : List FieldState) (h h' : Held) (t : Transfer) (given : ℕ) (bus : BusOuts) (items : List RefItem) (outs : List ℕ)
+    → IsSound b → IsAllWanted b wanted → AreInOrder b wanted order
+    → x1 ≡ x → t4 ≡ table → t5 ≡ table → t7 ≡ table → lent ≡ states → length states ≡ length b.fields
     → ((k : Kept) → map_of h k ≡ bus_held b (bus_of (pins_of b x)) (held b (pins_of b x) m) k)
     → IsTransfer b (bus_of (pins_of b x)) (map_of h) t
-    → AreItemValues b (at_edge b x1 h (access_seen t.access)) (values_of table)
+    → ((v : ItemValues) → AreItemValues b (at_edge b x1 h (access_seen t.access)) v → (i : RefItem) → Contains order i → values_of table i ≡ v i)
     → ((k : ℕ) (f : Field) → slice_get b.fields k ≡ Some f
-    → state_at states k ≡ next_state b (at_edge b x2 h NoAccess) (values_of t4) k f (access_state b (at_edge b x2 h NoAccess) (values_of t4) (access_seen t.access) k (started_state (at_edge b x2 h NoAccess) (values_of t4) k f (state_at h.fields.items k))))
+    → state_at states k ≡ next_state b (at_edge b x1 h NoAccess) (values_of t4) k f (access_state b (at_edge b x1 h NoAccess) (values_of t4) (access_seen t.access) k (started_state (at_edge b x1 h NoAccess) (values_of t4) k f (state_at h.fields.items k))))
     → given ≡ read_data b (values_of t5) (access_seen t.access) → bus ≡ outs_shown b t h given → items ≡ map (λ o. o.item) (outlets b)
     → outs ≡ bus.ready ∷ bus.«data» ∷ bus.error ∷ map (values_of t7) items
     → h'.fields.items ≡ lent → h'.waited ≡ (has_wait b && t.carries) → h'.«data» ≡ (if has_wait b then given else 0) → h'.error ≡ (has_wait b && (t.carries && t.unmapped))
     → ClockEdge b m x outs (map_of h')
-edge_made b m x x1 x2 table t4 t5 t7 states lent h h' t given bus items outs ex1 ex2 e4 e5 e7 el sized same tr vals moved g s i o f w d e =
-    let v = values_of table in
+edge_made b m x x1 table t4 t5 t7 wanted order states lent h h' t given bus items outs sound needs listed ex e4 e5 e7 el sized same tr settled moved g s i o f w d e =
+    let u = values_of table in
     let a = access_seen t.access in
+    let v = item_value b (at_edge b x h a) in
+    let vals = are_values b (at_edge b x h a) sound in
+    let seen : (i : RefItem) → Contains order i → u i ≡ v i = settled v (subst (λ y. AreItemValues b (at_edge b y h a) v) (sym ex) vals) in
+    let alike = are_alike b wanted order u v sound needs listed seen in
+    let n = at_edge b x h NoAccess in
     let Q : List ℕ → List ℕ → Type 0 = λ y z. (k : ℕ) (f : Field) → slice_get b.fields k ≡ Some f
     → state_at states k ≡ next_state b (at_edge b y h NoAccess) (values_of z) k f (access_state b (at_edge b y h NoAccess) (values_of z) a k (started_state (at_edge b y h NoAccess) (values_of z) k f (state_at h.fields.items k))) in
-    let moved' : Q x table = subst (λ y. Q y table) ex2 (subst (λ z. Q x2 z) e4 moved) in
-    let vals' : AreItemValues b (at_edge b x h a) v = subst (λ y. AreItemValues b (at_edge b y h a) v) ex1 vals in
-    let g' : given ≡ read_data b v a = g ∙ ap (λ z. read_data b (values_of z) a) e5 in
-    let o' : outs ≡ bus.ready ∷ bus.«data» ∷ bus.error ∷ map v items = o ∙ ap (λ z. bus.ready ∷ bus.«data» ∷ bus.error ∷ map (values_of z) items) e7 in
-    edge_is b x m h h' t v outs same tr vals' (shown_is b x h t v tr given bus items outs g' s i o') (held_is b x h t v tr states sized moved' h' given (f ∙ el) w d e g')
+    let moved' : Q x table = subst (λ y. Q y table) ex (subst (λ z. Q x1 z) e4 moved) in
+    let g' : given ≡ read_data b v a = g ∙ (ap (λ z. read_data b (values_of z) a) e5 ∙ read_same b sound n u v alike a) in
+    let shown : map u items ≡ map v items = ap (map u) i ∙ (map-map u (outlets b) ∙ (shown_same u v (outlets b) alike.shown ∙ sym (ap (map v) i ∙ map-map v (outlets b)))) in
+    let o' : outs ≡ bus.ready ∷ bus.«data» ∷ bus.error ∷ map v items = o ∙ (ap (λ z. bus.ready ∷ bus.«data» ∷ bus.error ∷ map (values_of z) items) e7 ∙ ap (λ xs. bus.ready ∷ bus.«data» ∷ bus.error ∷ xs) shown) in
+    edge_is b x m h h' t v outs same tr vals (shown_is b x h t v tr given bus items outs g' s i o')
+    (held_is b x h t v tr states sized (λ k f here. moved' k f here ∙ moved_same b sound n u v alike a k f (state_at h.fields.items k) here) h' given (f ∙ el) w d e g')

@@ -1,5 +1,7 @@
 pub mod Table
 pub mod Sight
+pub mod Resets
+pub mod Quiet
 pub mod Scene
 pub mod Slots
 pub mod Moves

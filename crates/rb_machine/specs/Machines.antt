@@ -1,5 +1,5 @@
 -- A register machine, and the map that it holds.
-use Rattle.std.specs.Prelude.{◌≡◌, ℕ, ◌<◌, Some, List, length, slice_get}
+use Rattle.std.specs.Prelude.{◌≡◌, ℕ, ◌<◌, Bool, Some, List, length, map, slice_get}
 use Rattle.rb_model.specs.declared.kinds.RefItem.{RefItem}
 use Rattle.rb_model.specs.declared.block.Block.{Block}
 use Rattle.rb_model.specs.Items.{Access, Now}
@@ -10,22 +10,31 @@ use Rattle.rb_model.specs.Ports.{input_pins}
 use Rattle.rb_model.specs.Sound.{IsSound}
 use Rattle.rb_machine.specs.declared.machine.Machine.{Machine}
 use Rattle.rb_plan.specs.Plan.{IsPlanOf}
-use Rattle.rb_machine.specs.Scene.{map_of}
+use Rattle.rb_machine.specs.Quiet.{brief_of}
+use Rattle.rb_machine.specs.Resets.{AreWays}
+use Rattle.rb_wanted.specs.Wanted.{AreInOrder, IsAllWanted}
+use Rattle.rb_machine.specs.Scene.{HoldsKept, map_of}
 use Rattle.rb_plan.specs.Table.{item_place}
 
 -- the map that a machine holds
 abbrev pub held_map : Machine → Map
 held_map m = map_of m.held
 
--- a machine is ready: its block is sound, and it has what was looked up and the room for it
+-- a machine is ready: its block is sound, and it has what was looked up, the wanted items in order, and the room for it all
 pub record IsReady (m : Machine) : Type 0 where
   pub sound : IsSound m.block.now
   pub planned : IsPlanOf m.block.now m.plan
   pub held : length m.held.fields.items ≡ length m.block.now.fields
+  pub resets : AreWays m.block.now.fields m.resets.items
+  pub briefs : m.briefs.items ≡ map brief_of m.block.now.fields
+  pub kept : HoldsKept m.block.now.fields m.held.fields.items
   pub pins : length m.pins.items ≡ length (input_pins m.block.now)
   pub marks : length m.marks.items ≡ length m.block.now.fields
-  pub states : length m.states.items ≡ length m.block.now.fields
-  pub room : (k : ℕ) (i : RefItem) → slice_get m.block.now.order k ≡ Some i → item_place i < length m.table.items
+  pub states : m.states.items ≡ m.held.fields.items
+  pub wanted : List Bool
+  pub needs : IsAllWanted m.block.now wanted
+  pub listed : AreInOrder m.block.now wanted m.order.items
+  pub room : (k : ℕ) (i : RefItem) → slice_get m.order.items k ≡ Some i → item_place i < length m.table.items
 
 -- what an access finds at an edge
 abbrev pub at_edge : Block → List ℕ → Held → Access → Now

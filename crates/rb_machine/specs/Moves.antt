@@ -1,5 +1,5 @@
 -- What a field keeps, from one edge to the next.
-use Rattle.std.specs.Prelude.{ℕ, Bool, false, ◌&&◌, if◌then◌else◌, unwrap_or}
+use Rattle.std.specs.Prelude.{ℕ, Bool, if◌then◌else◌, unwrap_or}
 use Rattle.rb_model.specs.declared.block.Field.{Field}
 use Rattle.rb_model.specs.Kept.{is_storage, keeps_last}
 use Rattle.rb_model.specs.Items.{Now, ItemValues, source_value}
@@ -12,7 +12,7 @@ abbrev pub reset_state : Field → Bool → FieldState → FieldState
 reset_state f asserted x = record {
   value = if asserted then unwrap_or f.reset x.value else x.value;
   last = if asserted then 0 else x.last;
-  done = if asserted then false else x.done;
+  done = if asserted then 0 else x.done;
 }
 
 -- before software, where software has the last word behind hardware
@@ -32,7 +32,7 @@ abbrev pub kept_state : Field → FieldState → FieldState
 kept_state f x = record {
   value = if is_storage f.class then x.value else 0;
   last = if keeps_last f.latch then x.last else 0;
-  done = f.once && x.done;
+  done = if f.once then x.done else 0;
 }
 
 -- what a field keeps after an edge, of what software left

@@ -1,5 +1,5 @@
 -- What a block finds at an edge.
-use Rattle.std.specs.Prelude.{◌≡◌, ℕ, ◌≤◌, Bool, false, ◌&&◌, if◌then◌else◌, Some, List, length, slice_get, get_or}
+use Rattle.std.specs.Prelude.{◌≡◌, ℕ, ◌≤◌, Bool, false, ◌&&◌, if◌then◌else◌, Some, List, length, map, slice_get, get_or}
 use Rattle.v_design.specs.Expr.{bit_of}
 use Rattle.rb_model.specs.declared.block.Field.{Field}
 use Rattle.rb_model.specs.declared.block.Block.{Block}
@@ -15,11 +15,14 @@ use Rattle.rb_machine.specs.declared.scene.Held.{Held}
 use Rattle.rb_machine.specs.declared.scene.Mark.{Mark}
 use Rattle.rb_machine.specs.declared.scene.Scene.{Scene}
 use Rattle.rb_plan.specs.Plan.{IsPlanOf}
+use Rattle.rb_machine.specs.Moves.{kept_state}
+use Rattle.rb_machine.specs.Quiet.{brief_of}
+use Rattle.rb_machine.specs.Resets.{NoneReset}
 use Rattle.rb_machine.specs.Sight.{Sees}
 
 -- what is kept of a field that there isn't
 abbrev pub no_state : FieldState
-no_state = record { value = 0; last = 0; done = false }
+no_state = record { value = 0; last = 0; done = 0 }
 
 abbrev pub state_at : List FieldState → ℕ → FieldState
 state_at states k = get_or states k no_state
@@ -28,7 +31,7 @@ state_at states k = get_or states k no_state
 abbrev pub map_of : Held → Map
 map_of h (Val k) = (state_at h.fields.items k).value
 map_of h (Last k) = (state_at h.fields.items k).last
-map_of h (Done k) = bit_of (state_at h.fields.items k).done
+map_of h (Done k) = (state_at h.fields.items k).done
 map_of h Waited = bit_of h.waited
 map_of h Data = h.«data»
 map_of h Error = bit_of h.error
@@ -45,6 +48,10 @@ pub record AreMarks (b : Block) (a : Access) (marks : List Mark) : Type 0 where
   pub modified : (k : ℕ) → (mark_at marks k).modified ≡ reaches b a k (λ w. has_read_effect w.on_read) (λ w. w.writes)
   pub accessed : (k : ℕ) → (mark_at marks k).accessed ≡ reaches b a k (λ w. w.reads) (λ w. w.writes)
 
+-- of each field nothing is held but what it keeps
+abbrev pub HoldsKept : List Field → List FieldState → Type 0
+HoldsKept fields states = (k : ℕ) (f : Field) → slice_get fields k ≡ Some f → kept_state f (state_at states k) ≡ state_at states k
+
 -- what an access finds
 abbrev pub now_in : Scene → Access → Now
 now_in s a = record { access = a; pins = pins_of s.block.now s.pins.now; kept = map_of s.held.now }
@@ -55,6 +62,9 @@ pub record IsScene (s : Scene) : Type 0 where
   pub planned : IsPlanOf s.block.now s.plan.now
   pub pins : length s.pins.now ≡ length (input_pins s.block.now)
   pub held : length s.held.now.fields.items ≡ length s.block.now.fields
+  pub briefs : s.briefs.now ≡ map brief_of s.block.now.fields
+  pub kept : s.is_reset ≡ false → HoldsKept s.block.now.fields s.held.now.fields.items
+  pub calm : s.is_reset ≡ false → NoneReset s.block.now (pins_of s.block.now s.pins.now)
 
 -- a field at an edge
 pub record IsAt (s : Scene) (values : List ℕ) (k : ℕ) (f : FieldNow) : Type 0 where

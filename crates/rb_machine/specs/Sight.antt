@@ -1,6 +1,5 @@
 -- What a field of a block finds at an edge.
 use Rattle.std.specs.Prelude.{◌≡◌, ℕ, List, ◌++◌, codes, slice_index}
-use Rattle.v_design.specs.Expr.{bit_of}
 use Rattle.rb_model.specs.declared.kinds.Gate.{Gate}
 use Rattle.rb_model.specs.declared.kinds.Gate.TheVariants as gate
 use Rattle.rb_model.specs.Kept.{Val, Last, Done}
@@ -25,4 +24,4 @@ pub record Sees (n : Now) (k : ℕ) (f : FieldNow) : Type 0 where
   pub down_amount : n.pins (codes "decrvalue$" ++ f.field.now.path) ≡ slice_index f.pins.now f.places.now.down.amount
   pub value : n.kept (Val k) ≡ f.state.value
   pub last : n.kept (Last k) ≡ f.state.last
-  pub done : n.kept (Done k) ≡ bit_of f.state.done
+  pub done : n.kept (Done k) ≡ f.state.done

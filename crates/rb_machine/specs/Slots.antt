@@ -40,7 +40,7 @@ abbrev pub written_by : (width gate done d : ℕ) → View → Slot → FieldSta
 written_by width gate done d w s x = record {
   value = after_write w width gate done x.value (slot_bits s d);
   last = x.last;
-  done = x.done || (w.once && acts w gate done);
+  done = if w.once && acts w gate done then 1 else x.done;
 }
 
 abbrev pub write_state : Block → Now → ItemValues → (d : ℕ) → View → Slot → FieldState → FieldState

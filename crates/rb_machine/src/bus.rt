@@ -1,5 +1,5 @@
 //! The bus at a vector (IHI 0024B): what access it carries.
-ghost use Rattle.std.specs.Prelude.{◌≡◌, ◌==◌, ◌&&◌, not, if◌then◌else◌, length, position};
+ghost use Rattle.std.specs.Prelude.{◌≡◌, ◌==◌, ◌&&◌, false, not, if◌then◌else◌, length, position};
 ghost use Rattle.std.specs.List.Sorted.{IsStrictlyIncreasing};
 ghost use Rattle.std.specs.Option.{option_map_or};
 ghost use Rattle.v_design.specs.Expr.{bit_of};
@@ -13,6 +13,7 @@ ghost use Rattle.rb_model.specs.Run as run;
 ghost use Rattle.rb_model.specs.Run.{pins_of};
 ghost use Rattle.rb_model.specs.Sound.{IsSound};
 ghost use Rattle.rb_plan.specs.Plan.{IsPlanOf};
+ghost use Rattle.rb_machine.specs.Resets.{NoneReset};
 ghost use Rattle.rb_machine.specs.Scene.{map_of};
 ghost use Rattle.rb_machine.specs.Transfers as transfers;
 ghost use Rattle.rb_machine.specs.Transfers.{IsTransfer, access_seen, bus_seen};
@@ -153,16 +154,26 @@ pub(crate) fn transfer_of(block: &Block, plan: &Plan, bus: &Bus, waited: bool) -
     }
 }
 
-/// Asserted asynchronous resets act before anything is read, and under PRESETn the bus forgets its access.
-pub(crate) fn hold(block: &Block, plan: &Plan, pins: &[u64], bus: &Bus, held: &mut Held)
+/// Asserted asynchronous resets act before anything is read, and under PRESETn the bus forgets its access. `is_reset` is false
+/// only where no reset of a field is asserted.
+pub(crate) fn hold(
+    block: &Block,
+    plan: &Plan,
+    pins: &[u64],
+    bus: &Bus,
+    is_reset: bool,
+    held: &mut Held,
+)
     requires sound { IsSound block.now }
     requires planned { IsPlanOf block.now plan.now }
     requires sized { length pins.now ≡ length (input_pins block.now) }
     requires fields { length held.old.fields.items ≡ length block.now.fields }
+    requires calm { is_reset ≡ false → NoneReset block.now (pins_of block.now pins.now) }
     ensures map { (k : Kept) → map_of held.new k ≡ run.bus_held block.now (bus_seen bus.now) (spec.held block.now (pins_of block.now pins.now) (map_of held.old)) k }
     ensures fields { length held.new.fields.items ≡ length block.now.fields }
+    ensures still { is_reset ≡ false → held.new.fields.items ≡ held.old.fields.items }
 {
-    hold_fields(block, plan, pins, &mut held.fields);
+    hold_fields(block, plan, pins, is_reset, &mut held.fields);
     if bus.resetn == 0 {
         held.waited = false;
         held.data = 0;

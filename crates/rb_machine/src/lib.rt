@@ -8,6 +8,7 @@
 mod bus;
 mod machine;
 mod moves;
+mod quiet;
 mod reset;
 mod scene;
 mod sight;

@@ -1,7 +1,5 @@
 //! A register machine.
-ghost use Rattle.std.specs.Prelude.{◌≡◌, ◌∷◌, ◌+◌, ◌<◌, ◌^◌, ℕ, Some, length, map, slice_get, slice_index};
-ghost use Rattle.rb_model.specs.declared.kinds.RefItem.{RefItem};
-ghost use Rattle.rb_model.specs.Items.{AreItemValues};
+ghost use Rattle.std.specs.Prelude.{◌≡◌, ◌∷◌, ◌+◌, ◌<◌, ◌^◌, ℕ, false, length, map, slice_index};
 ghost use Rattle.rb_model.specs.Kept.{Kept};
 ghost use Rattle.rb_model.specs.Machine as spec;
 ghost use Rattle.rb_model.specs.Ports.{input_pins};
@@ -10,31 +8,43 @@ ghost use Rattle.rb_model.specs.Run.{bus_held, pins_of};
 ghost use Rattle.rb_model.specs.Sound.{IsSound};
 ghost use Rattle.rb_plan.specs.Plan.{IsPlanOf};
 ghost use Rattle.rb_machine.specs.Scene.{map_of};
-ghost use Rattle.rb_plan.specs.Table.{item_place};
-ghost use Rattle.rb_machine.specs.Transfers.{IsThere, IsTransfer, access_seen};
-ghost use Rattle.rb_machine.specs.Machines.{at_edge};
+ghost use Rattle.rb_machine.specs.Resets.{AreWays, NoneReset};
+ghost use Rattle.rb_machine.specs.Transfers.{IsTransfer};
 ghost use Rattle.rb_machine.specs.Table.{values_of};
 
-use crate::bus::{Access, BusOuts, Transfer, bus_at, commit, hold, outs_shown, transfer_of};
+use crate::bus::{BusOuts, Transfer, bus_at, commit, hold, outs_shown, transfer_of};
 use crate::moves::{answer, mark_access, move_fields};
+use crate::quiet::{Brief, briefs};
+use crate::reset::{reset_ways, some_asserted};
 use crate::scene::{Held, Mark, Scene};
 use crate::sight::FieldState;
 use crate::table::item_value;
 use rb_base::NoMemory;
-use rb_model::Block;
+use rb_model::{Block, RefItem, ResetBy};
 use rb_plan::{Outlet, Plan, table_len};
+use rb_wanted::{wanted, wanted_items};
 use std::alloc::Global;
 
-/// A register machine of a sound block: what it holds from one clock edge to the next, and room for an edge.
+/// A register machine of a sound block: what it looked up, what it holds from one clock edge to the next, and room for an edge.
 #[derive(Drop)]
 pub struct Machine<'b> {
     block: &'b Block,
     plan: Plan,
+    order: Vec<RefItem>,
+    resets: Vec<ResetBy>,
+    briefs: Vec<Brief>,
     held: Held,
     pins: Vec<u64>,
     marks: Vec<Mark>,
     table: Vec<u64>,
     states: Vec<FieldState>,
+}
+
+/// What a vector brings: the bus's part in it, and whether some reset of a field is asserted.
+#[derive(Clone, Copy)]
+struct Vector {
+    transfer: Transfer,
+    is_reset: bool,
 }
 
 /// Takes the numbers of the pins, which have at most 64 bits.
@@ -48,10 +58,18 @@ fn read_pins(from: &[u128], into: &mut [u64])
     }
 }
 
-/// Takes the pins, lets asynchronous resets act on what is held, and answers the bus's part in the vector.
-fn observe(block: &Block, plan: &Plan, from: &[u128], pins: &mut [u64], held: &mut Held) -> Transfer
+/// Takes the pins, lets asynchronous resets act on what is held, and answers what the vector brings.
+fn observe(
+    block: &Block,
+    plan: &Plan,
+    ways: &[ResetBy],
+    from: &[u128],
+    pins: &mut [u64],
+    held: &mut Held,
+) -> Vector
     requires sound { IsSound block.now }
     requires planned { IsPlanOf block.now plan.now }
+    requires ways { AreWays block.now.fields ways.now }
     requires sized { length from.now ≡ length (input_pins block.now) }
     requires narrow { (k : ℕ) → slice_index from.now k < 2 ^ 64 }
     requires room { length pins.old ≡ length (input_pins block.now) }
@@ -60,42 +78,18 @@ fn observe(block: &Block, plan: &Plan, from: &[u128], pins: &mut [u64], held: &m
     ensures held { (k : Kept) → map_of held.new k
         ≡ bus_held block.now (bus_of (pins_of block.now from.now)) (spec.held block.now (pins_of block.now from.now) (map_of held.old)) k }
     ensures fields { length held.new.fields.items ≡ length block.now.fields }
-    ensures transfer { IsTransfer block.now (bus_of (pins_of block.now from.now)) (map_of held.new) result }
+    ensures calm { result.is_reset ≡ false → NoneReset block.now (pins_of block.now from.now) }
+    ensures still { result.is_reset ≡ false → held.new.fields.items ≡ held.old.fields.items }
+    ensures transfer { IsTransfer block.now (bus_of (pins_of block.now from.now)) (map_of held.new) result.transfer }
 {
     read_pins(from, pins);
     let bus = bus_at(plan, pins);
-    hold(block, plan, pins, &bus, held);
-    transfer_of(block, plan, &bus, held.waited)
-}
-
-/// Computes the values of the items.
-fn settle_items(
-    block: &Block,
-    plan: &Plan,
-    pins: &[u64],
-    held: &Held,
-    access: Access,
-    marks: &mut [Mark],
-    table: &mut [u64],
-)
-    requires sound { IsSound block.now }
-    requires planned { IsPlanOf block.now plan.now }
-    requires sized { length pins.now ≡ length (input_pins block.now) }
-    requires fields { length held.now.fields.items ≡ length block.now.fields }
-    requires there { IsThere block.now access }
-    requires marks { length marks.old ≡ length block.now.fields }
-    requires room { (k : ℕ) (i : RefItem) → slice_get block.now.order k ≡ Some i → item_place i < length table.old }
-    ensures { AreItemValues block.now (at_edge block.now pins.now held.now (access_seen access)) (values_of table.new) }
-{
-    mark_access(block, access, marks);
-    let scene = Scene {
-        block,
-        plan,
-        pins,
-        held,
-        marks,
-    };
-    scene.settle(table);
+    let is_reset = some_asserted(block, plan, pins, ways);
+    hold(block, plan, pins, &bus, is_reset, held);
+    Vector {
+        transfer: transfer_of(block, plan, &bus, held.waited),
+        is_reset,
+    }
 }
 
 /// Shows the bus's outputs, and then the items of the others.
@@ -130,12 +124,17 @@ impl<'b> Machine<'b> {
         ensures zeros { IfOk result (λ m. (k : Kept) → held_map m k ≡ 0) }
     {
         let plan = Plan::new(alloc, block)?;
+        let needed = wanted(alloc, block, &plan)?;
+        let order = wanted_items(alloc, block, &needed)?;
+        let items = table_len(&order);
+        let resets = reset_ways(alloc, &block.fields.items)?;
+        let briefs = briefs(alloc, &block.fields.items)?;
         let inputs = plan.inputs;
         let fields = block.fields.items.len();
         let state = FieldState {
             value: 0,
             last: 0,
-            done: false,
+            done: 0,
         };
         let mark = Mark {
             modified: false,
@@ -144,6 +143,9 @@ impl<'b> Machine<'b> {
         Ok(Machine {
             block,
             plan,
+            order,
+            resets,
+            briefs,
             held: Held {
                 fields: vec![in alloc; state; fields]?,
                 waited: false,
@@ -152,7 +154,7 @@ impl<'b> Machine<'b> {
             },
             pins: vec![in alloc; 0; inputs]?,
             marks: vec![in alloc; mark; fields]?,
-            table: vec![in alloc; 0; table_len(&block.order.items)]?,
+            table: vec![in alloc; 0; items]?,
             states: vec![in alloc; state; fields]?,
         })
     }
@@ -170,23 +172,26 @@ impl<'b> Machine<'b> {
         ensures block { self.new.block ≡ self.old.block }
     {
         let block = self.block;
-        let transfer = observe(block, &self.plan, pins, &mut self.pins, &mut self.held);
-        settle_items(
+        let vector = observe(
             block,
             &self.plan,
-            &self.pins,
-            &self.held,
-            transfer.access,
-            &mut self.marks,
-            &mut self.table,
+            &self.resets,
+            pins,
+            &mut self.pins,
+            &mut self.held,
         );
+        let transfer = vector.transfer;
+        mark_access(block, transfer.access, &mut self.marks);
         let scene = Scene {
             block,
             plan: &self.plan,
             pins: &self.pins,
             held: &self.held,
             marks: &self.marks,
+            briefs: &self.briefs,
+            is_reset: vector.is_reset,
         };
+        scene.settle(&self.order, &mut self.table);
         move_fields(&scene, &self.table, transfer.access, &mut self.states);
         let answered = answer(block, &self.table, transfer.access);
         let bus_outs = outs_shown(block, transfer, &self.held, answered);

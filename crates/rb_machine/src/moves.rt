@@ -1,10 +1,12 @@
 //! What the fields keep after an edge, and what the access is answered.
-ghost use Rattle.std.specs.Prelude.{◌≡◌, ◌<◌, ℕ, Some, length, slice_get};
+ghost use Rattle.std.specs.Prelude.{◌≡◌, ◌<◌, ℕ, false, Some, if◌then◌else◌, length, slice_get};
 ghost use Rattle.rb_model.specs.declared.block.Field.{Field};
 ghost use Rattle.rb_model.specs.Items.{NoAccess};
 ghost use Rattle.rb_model.specs.Machine as spec;
+ghost use Rattle.rb_model.specs.Run.{pins_of};
 ghost use Rattle.rb_model.specs.Sound.{IsSound};
 ghost use Rattle.rb_machine.specs.Moves.{next_state, started_state};
+ghost use Rattle.rb_machine.specs.Quiet.{rests};
 ghost use Rattle.rb_machine.specs.Scene.{AreMarks, IsScene, no_mark, now_in, mark_at, state_at};
 ghost use Rattle.rb_machine.specs.Slots.{access_state};
 ghost use Rattle.rb_machine.specs.Table.{values_of};
@@ -15,7 +17,7 @@ use crate::reset::{is_asserted, kept_state, reset_state};
 use crate::scene::{Mark, Scene};
 use crate::sight::FieldState;
 use crate::slots::{mark_read, mark_write, read_states, word_value, write_states};
-use rb_model::Block;
+use rb_model::{Block, Field};
 
 /// Takes all marks away.
 fn clear(marks: &mut [Mark])
@@ -85,10 +87,22 @@ fn started(scene: &Scene, table: &[u64], number: usize) -> FieldState
         None => FieldState {
             value: 0,
             last: 0,
-            done: false,
+            done: 0,
         },
         Some(at) => at.started(),
     }
+}
+
+/// Whether a field is under reset.
+fn is_under_reset(scene: &Scene, field: &Field) -> bool
+    requires scene { IsScene scene.now }
+    ensures { (k : ℕ) → slice_get scene.now.block.now.fields k ≡ Some field.now
+        → result ≡ spec.is_asserted scene.now.block.now (pins_of scene.now.block.now scene.now.pins.now) field.now.reset_by }
+{
+    if !scene.is_reset {
+        return false;
+    }
+    is_asserted(scene.block, scene.plan, scene.pins, field.reset_by)
 }
 
 /// What the field of a number keeps after the edge, of what software left.
@@ -100,41 +114,50 @@ fn next(scene: &Scene, table: &[u64], number: usize, state: FieldState) -> Field
     match scene.at(table, number) {
         None => state,
         Some(at) => {
-            let asserted = is_asserted(scene.block, scene.plan, scene.pins, at.field.reset_by);
+            let asserted = is_under_reset(scene, at.field);
             kept_state(at.field, reset_state(at.field, asserted, at.ended(state)))
         }
     }
 }
 
-/// What each field has before software.
+/// What each field has before software. One that rests has what it held.
 fn start(scene: &Scene, table: &[u64], states: &mut [FieldState])
     requires scene { IsScene scene.now }
     requires sized { length states.old ≡ length scene.now.block.now.fields }
     ensures { (k : ℕ) (f : Field) → slice_get scene.now.block.now.fields k ≡ Some f
-        → state_at states.new k ≡ started_state (now_in scene.now NoAccess) (values_of table.now) k f (state_at scene.now.held.now.fields.items k) }
+        → state_at states.new k ≡ (if rests scene.now.is_reset f then state_at states.old k
+        else started_state (now_in scene.now NoAccess) (values_of table.now) k f (state_at scene.now.held.now.fields.items k)) }
 {
     for number in 0..states.len() {
+        if scene.rests(number) {
+            continue;
+        }
         states[number] = started(scene, table, number);
     }
 }
 
-/// What each field keeps after the edge, of what software left.
+/// What each field keeps after the edge, of what software left. One that rests keeps all of it.
 fn finish(scene: &Scene, table: &[u64], states: &mut [FieldState])
     requires scene { IsScene scene.now }
     requires sized { length states.old ≡ length scene.now.block.now.fields }
     ensures { (k : ℕ) (f : Field) → slice_get scene.now.block.now.fields k ≡ Some f
-        → state_at states.new k ≡ next_state scene.now.block.now (now_in scene.now NoAccess) (values_of table.now) k f (state_at states.old k) }
+        → state_at states.new k ≡ (if rests scene.now.is_reset f then state_at states.old k
+        else next_state scene.now.block.now (now_in scene.now NoAccess) (values_of table.now) k f (state_at states.old k)) }
 {
     for number in 0..states.len() {
+        if scene.rests(number) {
+            continue;
+        }
         states[number] = next(scene, table, number, states[number]);
     }
 }
 
-/// What each field keeps after the edge.
+/// What each field keeps after the edge. Where no field is under reset, `states` comes with what the fields hold.
 pub(crate) fn move_fields(scene: &Scene, table: &[u64], access: Access, states: &mut [FieldState])
     requires scene { IsScene scene.now }
     requires there { IsThere scene.now.block.now access }
     requires sized { length states.old ≡ length scene.now.block.now.fields }
+    requires held { scene.now.is_reset ≡ false → states.old ≡ scene.now.held.now.fields.items }
     ensures { (k : ℕ) (f : Field) → slice_get scene.now.block.now.fields k ≡ Some f → state_at states.new k
         ≡ next_state scene.now.block.now (now_in scene.now NoAccess) (values_of table.now) k f
         (access_state scene.now.block.now (now_in scene.now NoAccess) (values_of table.now) (access_seen access) k

@@ -1,6 +1,7 @@
 //! What a block finds at an edge, and the values of its items.
 ghost use Rattle.std.specs.Prelude.{◌≡◌};
 
+use crate::quiet::Brief;
 use crate::reset::signal_pin;
 use crate::sight::{FieldNow, FieldState};
 use crate::table::item_value;
@@ -25,7 +26,8 @@ pub(crate) struct Mark {
     pub accessed: bool,
 }
 
-/// A block at an edge, with the pins, what it holds, and the marks of the access.
+/// A block at an edge, with the pins, what it holds, the marks of the access, what is looked at of each field, and whether some
+/// reset of a field is asserted.
 #[derive(Clone, Copy)]
 pub(crate) struct Scene<'a> {
     pub block: &'a Block,
@@ -33,21 +35,27 @@ pub(crate) struct Scene<'a> {
     pub pins: &'a [u64],
     pub held: &'a Held,
     pub marks: &'a [Mark],
+    pub briefs: &'a [Brief],
+    pub is_reset: bool,
 }
 
 impl<'a> Scene<'a> {
-    ghost use Rattle.std.specs.Prelude.{◌≡◌, ◌<◌, ℕ, false, None, Some, MatchOption, length, slice_get};
+    ghost use Rattle.std.specs.Prelude.{◌≡◌, ◌<◌, ℕ, false, None, Some, Contains, MatchOption, length, slice_get};
     ghost use Rattle.rb_plan.specs.Plan.{members_of};
     ghost use Rattle.std.specs.List.{enumerate_from, list_any};
-    ghost use Rattle.std.specs.Option.{option_map_or};
+    ghost use Rattle.std.specs.Option.{option_map, option_map_or};
     ghost use Rattle.rb_model.specs.declared.kinds.RefItem.{RefItem};
     ghost use Rattle.rb_model.specs.Items as spec;
-    ghost use Rattle.rb_model.specs.Items.{Access, AreItemValues};
+    ghost use Rattle.rb_model.specs.Items.{Access, AreItemValues, ItemValues, items};
+    ghost use Rattle.rb_model.specs.References.{IsOrdered};
     ghost use Rattle.rb_model.specs.Ports.{signal_name};
     ghost use Rattle.rb_model.specs.Run.{pins_of};
     ghost use Rattle.rb_plan.specs.Table as places;
     ghost use Rattle.rb_machine.specs.Table.{values_of};
-    ghost use Rattle.rb_machine.specs.Scene.{AreMarks, IsAt, IsScene, mark_at, now_in, raises_line};
+    ghost use Rattle.rb_model.specs.declared.block.Field.{Field};
+    ghost use Rattle.rb_model.specs.Kept.{Val, is_storage};
+    ghost use Rattle.rb_machine.specs.Quiet.{brief_of, rests};
+    ghost use Rattle.rb_machine.specs.Scene.{AreMarks, IsAt, IsScene, map_of, mark_at, now_in, raises_line};
 
     /// The field of a number, if there is one.
     pub fn at(&self, table: &'a [u64], number: usize) -> Option<FieldNow<'a>>
@@ -65,6 +73,39 @@ impl<'a> Scene<'a> {
             table,
             state: *state,
         })
+    }
+
+    /// What is looked at of the field of a number, if there is one.
+    fn brief(&self, number: usize) -> Option<Brief>
+        requires { IsScene self.now }
+        ensures { result ≡ option_map brief_of (slice_get self.now.block.now.fields number) }
+    {
+        match self.briefs.get(number) {
+            None => None,
+            Some(brief) => Some(*brief),
+        }
+    }
+
+    /// Whether the field of a number keeps a value.
+    fn stores(&self, number: u32) -> bool
+        requires { IsScene self.now }
+        ensures { result ≡ option_map_or (λ f. is_storage f.class) (slice_get self.now.block.now.fields number) false }
+    {
+        match self.brief(number as usize) {
+            None => false,
+            Some(brief) => brief.stores,
+        }
+    }
+
+    /// Whether the field of a number keeps what software leaves of what it held.
+    pub fn rests(&self, number: usize) -> bool
+        requires { IsScene self.now }
+        ensures { (f : Field) → slice_get self.now.block.now.fields number ≡ Some f → result ≡ rests self.now.is_reset f }
+    {
+        match self.brief(number) {
+            None => false,
+            Some(brief) => !self.is_reset && brief.is_quiet,
+        }
     }
 
     /// What the access does to the field of a number.
@@ -114,6 +155,95 @@ impl<'a> Scene<'a> {
         false
     }
 
+    /// The value that is held of the field of a number, or 0 where there is none.
+    fn held_value(&self, number: u32) -> u64
+        ensures { result ≡ map_of self.now.held.now (Val number) }
+    {
+        match self.held.fields.get(number as usize) {
+            None => 0,
+            Some(state) => state.value,
+        }
+    }
+
+    /// The value that the field of a number has at the edge, by its class.
+    fn class_value(&self, table: &[u64], number: u32) -> u64
+        requires { IsScene self.now }
+        ensures { (a : Access) → result ≡ spec.made self.now.block.now (now_in self.now a) (values_of table.now) (RefItem.Field number) }
+    {
+        match self.at(table, number as usize) {
+            None => 0,
+            Some(at) => at.class_value(),
+        }
+    }
+
+    /// The value that the field of a number has at the edge. The field itself is looked at only where it keeps none.
+    fn field_value(&self, table: &[u64], number: u32) -> u64
+        requires { IsScene self.now }
+        ensures { (a : Access) → result ≡ spec.made self.now.block.now (now_in self.now a) (values_of table.now) (RefItem.Field number) }
+    {
+        if self.stores(number) {
+            return self.held_value(number);
+        }
+        self.class_value(table, number)
+    }
+
+    /// Whether all bits of the field of a number are 1.
+    fn all_ones(&self, table: &[u64], number: u32) -> u64
+        requires { IsScene self.now }
+        ensures { (a : Access) → result ≡ spec.made self.now.block.now (now_in self.now a) (values_of table.now) (RefItem.Anded number) }
+    {
+        match self.brief(number as usize) {
+            None => 0,
+            Some(brief) => {
+                u64::from(item_value(table, RefItem::Field(number)) == ones(brief.width))
+            }
+        }
+    }
+
+    /// Whether the counter of a number has reached its threshold above.
+    fn incr_threshold(&self, table: &[u64], number: u32) -> u64
+        requires { IsScene self.now }
+        ensures { (a : Access) → result ≡ spec.made self.now.block.now (now_in self.now a) (values_of table.now) (RefItem.IncrThreshold number) }
+    {
+        match self.at(table, number as usize) {
+            None => 0,
+            Some(at) => at.incr_threshold(item_value(table, RefItem::Field(number))),
+        }
+    }
+
+    /// Whether the counter of a number has reached its threshold below.
+    fn decr_threshold(&self, table: &[u64], number: u32) -> u64
+        requires { IsScene self.now }
+        ensures { (a : Access) → result ≡ spec.made self.now.block.now (now_in self.now a) (values_of table.now) (RefItem.DecrThreshold number) }
+    {
+        match self.at(table, number as usize) {
+            None => 0,
+            Some(at) => at.decr_threshold(item_value(table, RefItem::Field(number))),
+        }
+    }
+
+    /// Whether the counter of a number leaves its width upwards.
+    fn overflow(&self, table: &[u64], number: u32) -> u64
+        requires { IsScene self.now }
+        ensures { (a : Access) → result ≡ spec.made self.now.block.now (now_in self.now a) (values_of table.now) (RefItem.Overflow number) }
+    {
+        match self.at(table, number as usize) {
+            None => 0,
+            Some(at) => at.overflow(),
+        }
+    }
+
+    /// Whether the counter of a number goes below 0.
+    fn underflow(&self, table: &[u64], number: u32) -> u64
+        requires { IsScene self.now }
+        ensures { (a : Access) → result ≡ spec.made self.now.block.now (now_in self.now a) (values_of table.now) (RefItem.Underflow number) }
+    {
+        match self.at(table, number as usize) {
+            None => 0,
+            Some(at) => at.underflow(),
+        }
+    }
+
     /// What an item is made of the others' values.
     fn made(&self, table: &[u64], item: RefItem) -> u64
         requires { IsScene self.now }
@@ -121,37 +251,17 @@ impl<'a> Scene<'a> {
             → result ≡ spec.made self.now.block.now (now_in self.now a) (values_of table.now) item }
     {
         match item {
-            RefItem::Field(number) => match self.at(table, number as usize) {
-                None => 0,
-                Some(at) => at.class_value(),
-            },
+            RefItem::Field(number) => self.field_value(table, number),
             RefItem::Signal(number) => signal_pin(self.block, self.plan, self.pins, number),
-            RefItem::Anded(number) => match self.at(table, number as usize) {
-                None => 0,
-                Some(at) => u64::from(
-                    item_value(table, RefItem::Field(number)) == ones(at.field.width),
-                ),
-            },
+            RefItem::Anded(number) => self.all_ones(table, number),
             RefItem::Ored(number) => u64::from(0 < item_value(table, RefItem::Field(number))),
             RefItem::Xored(number) => {
                 u64::from(item_value(table, RefItem::Field(number)).count_ones() % 2)
             }
-            RefItem::IncrThreshold(number) => match self.at(table, number as usize) {
-                None => 0,
-                Some(at) => at.incr_threshold(item_value(table, RefItem::Field(number))),
-            },
-            RefItem::DecrThreshold(number) => match self.at(table, number as usize) {
-                None => 0,
-                Some(at) => at.decr_threshold(item_value(table, RefItem::Field(number))),
-            },
-            RefItem::Overflow(number) => match self.at(table, number as usize) {
-                None => 0,
-                Some(at) => at.overflow(),
-            },
-            RefItem::Underflow(number) => match self.at(table, number as usize) {
-                None => 0,
-                Some(at) => at.underflow(),
-            },
+            RefItem::IncrThreshold(number) => self.incr_threshold(table, number),
+            RefItem::DecrThreshold(number) => self.decr_threshold(table, number),
+            RefItem::Overflow(number) => self.overflow(table, number),
+            RefItem::Underflow(number) => self.underflow(table, number),
             RefItem::SwMod(number) => u64::from(self.mark(number).modified),
             RefItem::SwAcc(number) => u64::from(self.mark(number).accessed),
             RefItem::Intr(number) => u64::from(self.is_raised(table, number, false)),
@@ -159,17 +269,19 @@ impl<'a> Scene<'a> {
         }
     }
 
-    /// Computes each item once, behind those that it refers to.
-    pub fn settle(&self, table: &mut [u64])
+    /// Computes the values of items, each behind those that it refers to. What is in the table of others is no matter.
+    pub fn settle(&self, order: &[RefItem], table: &mut [u64])
         requires scene { IsScene self.now }
-        requires room { (k : ℕ) (i : RefItem) → slice_get self.now.block.now.order k ≡ Some i → places.item_place i < length table.old }
-        ensures { (a : Access) → AreMarks self.now.block.now a self.now.marks.now
-            → AreItemValues self.now.block.now (now_in self.now a) (values_of table.new) }
+        requires ordered { IsOrdered self.now.block.now order.now }
+        requires own { (k : ℕ) (i : RefItem) → slice_get order.now k ≡ Some i → Contains (items self.now.block.now) i }
+        requires room { (k : ℕ) (i : RefItem) → slice_get order.now k ≡ Some i → places.item_place i < length table.old }
+        ensures { (a : Access) (v : ItemValues) → AreMarks self.now.block.now a self.now.marks.now → AreItemValues self.now.block.now (now_in self.now a) v
+            → (i : RefItem) → Contains order.now i → values_of table.new i ≡ v i }
     {
-        let block = self.block;
-        for item in &block.order.items {
-            let value = self.made(table, *item);
-            table[item_place(*item)] = value;
+        for item in order {
+            let item = *item;
+            let value = self.made(table, item);
+            table[item_place(item)] = value;
         }
     }
 }

@@ -13,12 +13,12 @@ use rb_effects::{
 use rb_model::{Amount, Class, Feed, Field, Gate, Level, Mask, Part, RefItem};
 use rb_plan::FieldPlaces;
 
-/// What a field keeps from one edge to the next.
+/// What a field keeps from one edge to the next: its value, its last input, and 1 where it was written, else 0.
 #[derive(Clone, Copy)]
 pub(crate) struct FieldState {
     pub value: u64,
     pub last: u64,
-    pub done: bool,
+    pub done: u64,
 }
 
 /// A field at an edge, with the pins, the values of the items, and what it keeps.

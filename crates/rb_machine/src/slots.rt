@@ -1,7 +1,6 @@
 //! What an access does through the slots of its word.
 ghost use Rattle.std.specs.Prelude.{◌≡◌, ◌≤◌, ◌<◌, ◌+◌, ◌-◌, ◌*◌, ◌^◌, ℕ, Some, if◌then◌else◌, bit_or, fold, length, slice_get};
 ghost use Rattle.rb_base.specs.Bits.{part};
-ghost use Rattle.v_design.specs.Expr.{bit_of};
 ghost use Rattle.rb_model.specs.declared.kinds.RefItem.TheVariants as item;
 ghost use Rattle.rb_model.specs.Items as items;
 ghost use Rattle.rb_model.specs.Machine as spec;
@@ -149,26 +148,26 @@ pub(crate) fn read_states(block: &Block, word: &Word, states: &mut [FieldState])
     }
 }
 
-/// What a write through a view makes of what a field keeps, where `done` says that the field was written before.
+/// What a write through a view makes of what a field keeps, where `done` is 1 if the field was written before.
 fn written_state(
     view: &View,
     slot: Slot,
     width: u8,
     gate: u64,
-    done: bool,
+    done: u64,
     bits: u64,
     state: FieldState,
 ) -> FieldState
     requires small { width ≤ 64 }
     requires some { 0 < slot.bits }
     requires within { slot.low + slot.bits ≤ 32 }
-    ensures { result ≡ written_by width gate (bit_of done) bits view.now slot state }
+    ensures { result ≡ written_by width gate done bits view.now slot state }
 {
-    let acts = acts(view, gate, done);
+    let acts = acts(view, gate, done == 1);
     FieldState {
         value: after_write(view, width, acts, state.value, slot_bits(slot, bits)),
         last: state.last,
-        done: state.done || (view.once && acts),
+        done: if view.once && acts { 1 } else { state.done },
     }
 }
 

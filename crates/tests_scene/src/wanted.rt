@@ -1,10 +1,10 @@
-//! Which items of small blocks a netlist wants.
+//! Which items of small blocks are wanted.
 ghost use Rattle.rb_model.specs.Sound.{IsSound};
 
-use gen_scene::wanted;
 use rb_base::{Edge, NoMemory};
 use rb_model::{Block, RefItem};
 use rb_plan::{Plan, item_place};
+use rb_wanted::wanted;
 use rb_worked::{event_register, locked_register, wide_counter};
 use std::alloc::Global;
 use std::test::Fail;

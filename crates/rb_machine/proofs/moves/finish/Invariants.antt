@@ -1,7 +1,8 @@
-use Rattle.std.proofs.Common.{◌≡◌, ◌<◌, ◌≤◌, ℕ, Some, slice_get}
+use Rattle.std.proofs.Common.{◌≡◌, ◌<◌, ◌≤◌, ℕ, Some, if◌then◌else◌, slice_get}
 use Rattle.rb_model.specs.declared.block.Field.{Field}
 use Rattle.rb_model.specs.Items.{NoAccess}
 use Rattle.rb_machine.specs.Moves.{next_state}
+use Rattle.rb_machine.specs.Quiet.{rests}
 use Rattle.rb_machine.specs.Scene.{now_in, state_at}
 use Rattle.rb_machine.specs.Table.{values_of}
 use Rattle.rb_machine.proofs.moves.finish.Given as goal
@@ -9,6 +10,6 @@ use Rattle.rb_machine.proofs.moves.finish.Given as goal
 abbrev pub invariant-loop-number : goal.invariant-loop-number
 invariant-loop-number l = record {
   moved : (k : ℕ) (f : Field) → k < l.number → slice_get l.scene.block.now.fields k ≡ Some f
-      → state_at l.states k ≡ next_state l.scene.block.now (now_in l.scene NoAccess) (values_of l.table) k f (state_at l.fn.states k);
+      → state_at l.states k ≡ (if rests l.scene.is_reset f then state_at l.fn.states k else next_state l.scene.block.now (now_in l.scene NoAccess) (values_of l.table) k f (state_at l.fn.states k));
   later : (k : ℕ) → l.number ≤ k → state_at l.states k ≡ state_at l.fn.states k;
 }

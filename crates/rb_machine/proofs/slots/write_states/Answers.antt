@@ -1,6 +1,5 @@
 use Rattle.std.proofs.Common.{◌≡◌, ◌<◌, ◌∙◌, ap, refl, sym, arith, get_or, length}
 use Rattle.std.proofs.lemmas.Option.{get_or_from_slice_get, slice_get_read}
-use Rattle.v_design.specs.Expr.{bit_of}
 use Rattle.rb_model.specs.Items.{NoAccess}
 use Rattle.rb_machine.specs.Scene.{no_state, now_in}
 use Rattle.rb_machine.specs.Slots.{no_slot, write_state}
@@ -71,7 +70,7 @@ loop-slot-preserved c =
     touched_more b (write_state b n v c.args.bits) no_state read c.loop-slot.slot-index no_slot w c.args.states.now c.loop-slot.states w.field _ c.loop-slot-test.true c.view_at-view.ensures refl
     (omega (arith, fits.field, c.loop-slot.auto.states, c.requires.sized))
     (written_through b n v w (get_or read c.loop-slot.slot-index no_slot) c.width_of-width.result c.view_gate-gate.result _ c.args.bits (get_or c.loop-slot.states w.field no_state) c.written_state.result
-    c.width_of-width.ensures.width c.view_gate-gate.ensures (ap (λ x. bit_of x.done) (sym held)) c.written_state.ensures) c.loop-slot.invariant
+    c.width_of-width.ensures.width c.view_gate-gate.ensures (ap (λ x. x.done) (sym held)) c.written_state.ensures) c.loop-slot.invariant
 
 pub returns : goal.returns
 returns c =

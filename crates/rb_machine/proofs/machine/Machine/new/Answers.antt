@@ -1,9 +1,16 @@
-use Rattle.std.proofs.Common.{◌≡◌, ℕ, zero, suc, false, ap, ◌∙◌, get_or, refl}
+use Rattle.std.proofs.Common.{◌≡◌, List, map, rules, subst, sym, ℕ, zero, suc, false, ap, ◌∙◌, get_or, refl}
 use lib.ListN.{replicate}
 use Rattle.rb_model.specs.Kept.{Kept, Val, Last, Done, Waited, Data, Error}
 use Rattle.v_design.specs.Expr.{bit_of}
 use Rattle.rb_machine.specs.declared.scene.Held.{Held}
 use Rattle.rb_machine.specs.Scene.{map_of, no_state, state_at}
+use Rattle.rb_model.specs.declared.block.Field.{Field}
+use Rattle.rb_machine.specs.declared.sight.FieldState.{FieldState}
+use Rattle.rb_machine.specs.Moves.{kept_state}
+use Rattle.rb_machine.specs.Quiet.{brief_of}
+use Rattle.rb_wanted.specs.Wanted.{AreInOrder}
+use Rattle.rb_machine.specs.Resets.{AreWays}
+use Rattle.rb_machine.proofs.Resting.{none_kept}
 use Rattle.rb_machine.proofs.machine.Machine.new.Goals as goal
 
 get_or-replicate : {X : Type 0} (n : ℕ) (x : X) (k : ℕ) → get_or (replicate n x) k x ≡ x
@@ -14,10 +21,35 @@ get_or-replicate (suc n) x (suc k) = get_or-replicate n x k
 zeros : (h : Held) (n : ℕ) → h.fields.items ≡ replicate n no_state → h.waited ≡ false → h.«data» ≡ 0 → h.error ≡ false → (k : Kept) → map_of h k ≡ 0
 zeros h n f w d e (Val k) = ap (λ ss. (state_at ss k).value) f ∙ ap (λ s. s.value) (get_or-replicate n no_state k)
 zeros h n f w d e (Last k) = ap (λ ss. (state_at ss k).last) f ∙ ap (λ s. s.last) (get_or-replicate n no_state k)
-zeros h n f w d e (Done k) = ap (λ ss. bit_of (state_at ss k).done) f ∙ ap (λ s. bit_of s.done) (get_or-replicate n no_state k)
+zeros h n f w d e (Done k) = ap (λ ss. (state_at ss k).done) f ∙ ap (λ s. s.done) (get_or-replicate n no_state k)
 zeros h n f w d e Waited = ap bit_of w
 zeros h n f w d e Data = d
 zeros h n f w d e Error = ap bit_of e
 
 pub returns-clause-zeros : goal.returns-clause-zeros
 returns-clause-zeros c = zeros (record { fields = c.in_ok-vec.field-0; waited = false; «data» = 0; error = false }) c.len-fields.result (c.in_ok-vec.ensures.items_if_clones_equal (λ y e. e)) refl refl refl
+
+-- where nothing is held
+held_none : (states : List FieldState) (n : ℕ) → states ≡ replicate n no_state → (f : Field) (k : ℕ) → kept_state f (state_at states k) ≡ state_at states k
+held_none states n e f k = let at : state_at states k ≡ no_state = ap (λ ss. state_at ss k) e ∙ get_or-replicate n no_state k in rw at (none_kept f)
+
+pub returns-clause-ready : goal.returns-clause-ready
+returns-clause-ready c =
+    let b = c.args.block.now in
+    let fields : c.deref-3.result.now ≡ b.fields = c.deref-3.ensures.value ∙ ap (λ b. b.fields) c.block.view_is in
+    let again : c.deref-4.result.now ≡ b.fields = c.deref-4.ensures.value ∙ ap (λ b. b.fields) c.block.view_is in
+    record {
+      sound = c.requires;
+      planned = c.in_ok-plan.ensures;
+      held = search rules;
+      resets = subst (λ (fs : List Field). AreWays fs c.in_ok-resets.resets.items) fields c.in_ok-resets.ensures;
+      briefs = c.in_ok-briefs.ensures ∙ ap (map brief_of) again;
+      kept = λ k f here. held_none c.in_ok-vec.field-0.items c.len-fields.result (c.in_ok-vec.ensures.items_if_clones_equal (λ y e. e)) f k;
+      pins = search rules;
+      marks = search rules;
+      states = c.in_ok-vec-5.ensures.items_if_clones_equal (λ y e. e) ∙ sym (c.in_ok-vec.ensures.items_if_clones_equal (λ y e. e));
+      wanted = c.in_ok-needed.needed.items;
+      needs = c.in_ok-needed.ensures.all;
+      listed = subst (λ w. AreInOrder b w c.in_ok-order.order.items) c.deref.ensures.value c.in_ok-order.ensures;
+      room = search rules;
+    }

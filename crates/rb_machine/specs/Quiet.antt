@@ -1,0 +1,29 @@
+-- The fields on which no hardware acts.
+use Rattle.std.specs.Prelude.{Bool, not, ◌&&◌, ◌||◌, is_some}
+use Rattle.rb_model.specs.declared.block.Field.{Field}
+use Rattle.rb_model.specs.Effects.{loads}
+use Rattle.rb_model.specs.Items.{is_interrupt, is_on}
+use Rattle.rb_model.specs.Kept.{is_storage, keeps_last}
+use Rattle.rb_model.specs.SoundField.{is_fed}
+use Rattle.rb_machine.specs.declared.quiet.Brief.{Brief}
+
+-- Hardware leaves the kept value of such a field as it is: the field takes no number, is no counter, no interrupt and no
+-- pulse, and has neither hwset nor hwclr nor a mask.
+abbrev pub is_spared : Field → Bool
+is_spared f = is_storage f.class && not (is_some f.count) && not (is_interrupt f.latch) && not f.pulse && not (loads f) && not (is_fed f.set) && not (is_fed f.clear) && not (is_on f.keep)
+
+-- such a field keeps no value and no last input
+abbrev pub keeps_none : Field → Bool
+keeps_none f = not (is_storage f.class) && not (keeps_last f.latch)
+
+-- what such a field keeps changes through software alone
+abbrev pub is_quiet : Field → Bool
+is_quiet f = is_spared f || keeps_none f
+
+-- what is looked at of a field at an edge
+abbrev pub brief_of : Field → Brief
+brief_of f = record { width = f.width; stores = is_storage f.class; is_quiet = is_quiet f }
+
+-- it rests at an edge where no field is under reset
+abbrev pub rests : (is_reset : Bool) → Field → Bool
+rests is_reset f = not is_reset && is_quiet f

@@ -1,0 +1,65 @@
+//! What is looked at of each field at an edge, so that the field itself seldom is.
+ghost use Rattle.std.specs.Prelude.{◌≡◌, IfOk, map};
+ghost use Rattle.rb_model.specs.SoundField as sound;
+ghost use Rattle.rb_machine.specs.Quiet as spec;
+
+use rb_base::NoMemory;
+use rb_effects::{is_interrupt, is_on, is_storage, keeps_last, loads};
+use rb_model::{Feed, Field};
+use std::alloc::Global;
+
+/// What is looked at of a field at an edge: its width in bits, whether it keeps a value, and whether what it keeps changes
+/// through software alone.
+#[derive(Clone, Copy)]
+pub(crate) struct Brief {
+    pub width: u8,
+    pub stores: bool,
+    pub is_quiet: bool,
+}
+
+/// Whether a feed gives numbers.
+fn is_fed(from: Feed) -> bool
+    ensures { result ≡ sound.is_fed from }
+{
+    match from {
+        Feed::Off => false,
+        Feed::Pin => true,
+        Feed::Item(_) => true,
+    }
+}
+
+/// Whether hardware leaves the kept value of a field as it is.
+fn is_spared(field: &Field) -> bool
+    ensures { result ≡ spec.is_spared field.now }
+{
+    is_storage(field.class)
+        && field.count.is_none()
+        && !is_interrupt(field.latch)
+        && !field.pulse
+        && !loads(field)
+        && !is_fed(field.set)
+        && !is_fed(field.clear)
+        && !is_on(field.keep)
+}
+
+/// Whether what a field keeps changes through software alone, as it does where the field keeps nothing.
+fn is_quiet(field: &Field) -> bool
+    ensures { result ≡ spec.is_quiet field.now }
+{
+    is_spared(field) || (!is_storage(field.class) && !keeps_last(field.latch))
+}
+
+/// What is looked at of each field.
+pub(crate) fn briefs(alloc: Global, fields: &[Field]) -> Result<Vec<Brief>, NoMemory>
+    ensures { IfOk result (λ all. all.items ≡ map spec.brief_of fields.now) }
+{
+    let mut all = Vec::new(alloc);
+    for field in fields {
+        all.push(Brief {
+            width: field.width,
+            stores: is_storage(field.class),
+            is_quiet: is_quiet(field),
+        })?;
+    }
+    Ok(all)
+}

@@ -1,0 +1,5 @@
+pub mod Among
+pub mod Wanting
+pub mod Ordering
+mod Needing
+mod Listing
