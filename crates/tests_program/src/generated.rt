@@ -1,5 +1,5 @@
 //! `gen`: sources of a wanted size, and the length of their modules.
-use crate::ran::{run_sized, words};
+use memory_runs::{run_sized, words};
 use rb_edge::{CountSink, MemShelf, MemSink};
 use regblock::{Status, run};
 use std::alloc::Global;

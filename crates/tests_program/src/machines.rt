@@ -1,5 +1,5 @@
 //! What is compiled runs as its source says: `compile` and `sim` of the module over a table of pins, and `run` of the source.
-use crate::ran::{run_over, run_with};
+use memory_runs::{run_over, run_with};
 use rb_edge::MemShelf;
 use regblock::Status;
 use std::test::Fail;

@@ -1,5 +1,5 @@
 //! `run`: the machine of a source over a table of pins, with and without a wait state.
-use crate::ran::{Ran, run_over};
+use memory_runs::{Ran, run_over};
 use rb_edge::MemShelf;
 use regblock::Status;
 use std::alloc::Global;

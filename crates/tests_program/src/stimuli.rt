@@ -1,5 +1,5 @@
 //! Modules and tables that `sim` runs or refuses.
-use crate::ran::run_over;
+use memory_runs::run_over;
 use rb_edge::MemShelf;
 use regblock::Status;
 use std::test::Fail;

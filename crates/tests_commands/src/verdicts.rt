@@ -1,5 +1,5 @@
 //! Verdicts: `check` tells all failures of a source's first phase that has any, `compile` and `map` the first.
-use crate::ran::{run_over, run_with};
+use memory_runs::{run_over, run_with};
 use rb_edge::MemShelf;
 use regblock::Status;
 use std::test::Fail;

@@ -1,5 +1,5 @@
 //! Streams that fail or are full: what was written is the start of what belongs there.
-use crate::ran::words;
+use memory_runs::words;
 use rb_edge::{MemShelf, MemSink};
 use regblock::{Status, run};
 use std::alloc::Global;

@@ -1,24 +1,24 @@
 //! Runs of the program over files in memory.
 ghost use Rattle.std.specs.Prelude.{◌<◌};
 
+use rb_base::NoMemory;
 use rb_edge::{MemShelf, MemSink};
 use regblock::{Status, run};
 use std::alloc::Global;
-use std::test::Fail;
 
 // More than any of these runs writes to one sink.
 const ROOM: usize = 100_000;
 
 /// How a run ended, and what it wrote.
 #[derive(Drop)]
-pub(crate) struct Ran {
+pub struct Ran {
     pub status: Status,
     pub out: MemSink,
     pub err: MemSink,
 }
 
 /// The words of a command line.
-pub(crate) fn words(alloc: Global, all: &[&str]) -> Result<Vec<String>, Fail> {
+pub fn words(alloc: Global, all: &[&str]) -> Result<Vec<String>, NoMemory> {
     let mut words = Vec::new(alloc);
     for word in all {
         words.push(String::from_str(alloc, *word)?)?;
@@ -27,12 +27,12 @@ pub(crate) fn words(alloc: Global, all: &[&str]) -> Result<Vec<String>, Fail> {
 }
 
 /// A run of the program over a shelf, with sinks of so much room.
-pub(crate) fn run_sized(
+pub fn run_sized(
     alloc: Global,
     asked: &[&str],
     shelf: &mut MemShelf,
     room: usize,
-) -> Result<Ran, Fail>
+) -> Result<Ran, NoMemory>
     requires { 0 < room }
 {
     let mut out = MemSink::new(alloc, room, room, &[])?;
@@ -43,19 +43,13 @@ pub(crate) fn run_sized(
 }
 
 /// A run of the program over a shelf.
-pub(crate) fn run_over(alloc: Global, asked: &[&str], shelf: &mut MemShelf) -> Result<Ran, Fail> {
+pub fn run_over(alloc: Global, asked: &[&str], shelf: &mut MemShelf) -> Result<Ran, NoMemory> {
     run_sized(alloc, asked, shelf, ROOM)
 }
 
 /// A run of the program where there is one file.
-pub(crate) fn run_with(
-    alloc: Global,
-    asked: &[&str],
-    file: &str,
-    bytes: &[u8],
-) -> Result<Ran, Fail> {
+pub fn run_with(alloc: Global, asked: &[&str], file: &str, bytes: &[u8]) -> Result<Ran, NoMemory> {
     let mut shelf = MemShelf::new(alloc, &[])?;
     shelf.put(file, bytes)?;
-    let ran = run_over(alloc, asked, &mut shelf)?;
-    Ok(ran)
+    run_over(alloc, asked, &mut shelf)
 }

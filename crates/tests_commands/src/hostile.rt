@@ -1,5 +1,5 @@
 //! Truncated and malicious sources.
-use crate::ran::run_with;
+use memory_runs::run_with;
 use regblock::Status;
 use std::alloc::Global;
 use std::test::Fail;

@@ -1,5 +1,5 @@
 //! The address map that is asked for by name, and the last one where none is.
-use crate::ran::run_with;
+use memory_runs::run_with;
 use regblock::Status;
 use std::test::Fail;
 

@@ -1,5 +1,5 @@
 //! Command lines, and files that can't be had.
-use crate::ran::{run_over, run_with};
+use memory_runs::{run_over, run_with};
 use rb_edge::MemShelf;
 use regblock::Status;
 use std::alloc::Global;

@@ -1,5 +1,5 @@
 //! Address tables.
-use crate::ran::run_with;
+use memory_runs::run_with;
 use regblock::Status;
 use std::test::Fail;
 
