@@ -63,6 +63,9 @@ pub(crate) const DECODERS: [Addresses; 5] = [
     },
 ];
 
+/// The most words that have a node each: with one for each of 65,536 the module would take minutes to read back.
+const MOST_SPREAD: usize = 1000;
+
 /// The addresses in order.
 fn listed(alloc: Global, case: Addresses) -> Result<Vec<u32>, Fault> {
     let mut words = Vec::new(alloc);
@@ -114,7 +117,7 @@ fn show_hits(alloc: Global, net: &mut Netlist, found: Decoded, count: usize) -> 
     show(net, b"any", any)
 }
 
-/// Decodes an address among words, and shows what it means.
+/// Decodes an address among words, and shows what it means; where the words are not very many, also by a node for each.
 fn show_decoded(alloc: Global, net: &mut Netlist, words: &[u32]) -> Result<(), Fault>
     requires rising { IsStrictlyIncreasing words.now }
     requires some { 0 < length words.now }
@@ -125,6 +128,9 @@ fn show_decoded(alloc: Global, net: &mut Netlist, words: &[u32]) -> Result<(), F
     show(net, b"at", address)?;
     show(net, b"hit", found.hit)?;
     show(net, b"word", found.word)?;
+    if words.len() > MOST_SPREAD {
+        return Ok(());
+    }
     show_hits(alloc, net, found, words.len())
 }
 

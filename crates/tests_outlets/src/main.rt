@@ -7,6 +7,7 @@
 
 mod blocks;
 mod checks;
+mod comparing;
 mod decoder;
 mod fault;
 mod holding;
@@ -15,41 +16,17 @@ mod modules;
 mod numbers;
 mod scenes;
 
-use crate::blocks::{BLOCKS, Case, block_of};
+use crate::blocks::{BLOCKS, Case};
+use crate::comparing::{Compared, compare};
 use crate::decoder::{Addresses, DECODERS, decoded};
-use crate::fault::Fault;
-use crate::holding::held_netlist;
-use crate::machines::machine_rows;
-use crate::modules::{design_of, held_rows};
-use std::alloc::Global;
 use std::io;
 
-/// The rows of a block's machine, and those of the netlist.
-#[derive(Drop)]
-struct Compared {
-    machine: Vec<u8>,
-    netlist: Vec<u8>,
-}
-
-/// The outputs of a worked block's machine and of its netlist at each vector.
-fn compare(alloc: Global, case: Case) -> Result<Compared, Fault> {
-    let block = block_of(alloc, case.block)?;
-    let net = held_netlist(alloc, &block)?;
-    let design = design_of(alloc, &net)?;
-    let rows = machine_rows(alloc, &block, design.inputs(), case.quiet)?;
-    let netlist = held_rows(alloc, &design, &rows.vectors, &rows.kept)?;
-    Ok(Compared {
-        machine: rows.text,
-        netlist,
-    })
-}
-
 fn show_compared(rt: HostRuntime, compared: &Compared) -> io::Result<()> {
-    if compared.machine == compared.netlist {
+    if compared.machine.text == compared.netlist {
         return println!(rt; "equal");
     }
     println!(rt; "differ: the machine, and the netlist")?;
-    rt.stdout().write_all(&compared.machine)?;
+    rt.stdout().write_all(&compared.machine.text)?;
     rt.stdout().write_all(&compared.netlist)
 }
 
