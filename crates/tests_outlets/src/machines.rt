@@ -92,7 +92,8 @@ fn kept_numbers(alloc: Global, plan: &Plan, outs: &[u128]) -> Result<Vec<u128>, 
     Ok(numbers)
 }
 
-/// A vector at which nothing happens, whose outputs tell what is kept, and then the next of the ten.
+/// Two vectors at which nothing happens, and then the next of the ten. The first may end an event that an interrupt waits for, so the
+/// outputs of the second tell what is kept.
 fn row(
     alloc: Global,
     plan: &Plan,
@@ -105,12 +106,13 @@ fn row(
     ensures { IsBench bench.new }
 {
     step(bench, still)?;
+    step(bench, still)?;
     rows.kept.push(kept_numbers(alloc, plan, &bench.outs)?)?;
     step(bench, vector)?;
     push_shown(&mut rows.text, &bench.outs)
 }
 
-/// The machine's outputs at each of the ten vectors. Before each of them stands a vector at which nothing happens: its last pin has
+/// The machine's outputs at each of the ten vectors. Before each of them stand two vectors at which nothing happens: their last pin has
 /// the number `quiet`.
 pub(crate) fn machine_rows(
     alloc: Global,
