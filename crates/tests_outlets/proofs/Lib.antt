@@ -1,0 +1,4 @@
+mod SelfDriven
+mod FirstPins
+mod Outputs
+mod OutputCounts
