@@ -5,7 +5,7 @@ use Rattle.rtl_net.specs.declared.node.Id.{Id}
 use Rattle.gen_scene.specs.declared.base.Base.{Base}
 use Rattle.gen_scene.specs.declared.scene.Scene.{Scene}
 use Rattle.gen_scene.specs.Bases.{IsBase}
-use Rattle.gen_scene.specs.Fields.{IsAllWanted}
+use Rattle.rb_wanted.specs.Wanted.{IsAllWanted}
 use Rattle.gen_scene.specs.Items.{HasItems}
 use Rattle.gen_scene.proofs.Wanting.{outlet_node}
 use Rattle.tests_outlets.specs.Shown.{HasShown}

@@ -13,10 +13,11 @@ ghost use Rattle.tests_outlets.specs.Shown.{HasShown};
 use gen_access::{WordHits, marks, word_hits};
 use gen_bus::BusPins;
 use gen_decode::decode;
-use gen_scene::{Base, Inlet, item_nodes, wanted};
+use gen_scene::{Base, Inlet, item_nodes};
 use net_gates::both;
 use rb_base::NoMemory;
 use rb_model::{Block, Word};
+use rb_wanted::wanted;
 use rtl_net::{Id, Netlist};
 use std::alloc::Global;
 
