@@ -12,4 +12,5 @@ mod Placing
 mod Resetting
 mod Resting
 mod Briefs
+mod Busy
 mod Agreeing

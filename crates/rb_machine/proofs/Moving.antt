@@ -17,6 +17,9 @@ use Rattle.rb_machine.specs.Table.{values_of}
 same_or_below : (k i : ℕ) → k < i + 1 → (k ≡ i) ⊎ (k < i)
 same_or_below k i l = grind arith
 
+below_or_from : (k i : ℕ) → (k < i) ⊎ (i ≤ k)
+below_or_from k i = grind arith
+
 -- one field more
 pub moved_more : (b : Block) (g : ℕ → Field → FieldState) (states : List FieldState) (i : ℕ) (y : FieldState) → i < length states → ((f : Field) → slice_get b.fields i ≡ Some f → y ≡ g i f)
     → ((k : ℕ) (f : Field) → k < i → slice_get b.fields k ≡ Some f → state_at states k ≡ g k f)
@@ -32,17 +35,14 @@ moved_more b g states i y room is before k f l here =
           same ∙ before k f low here
     ]
 
-pub moved_still : (b : Block) (g : ℕ → Field → FieldState) (states : List FieldState) (i : ℕ) → ((f : Field) → slice_get b.fields i ≡ Some f → state_at states i ≡ g i f)
+-- past fields that keep what they had
+pub moved_past : (b : Block) (g : ℕ → Field → FieldState) (states : List FieldState) (i j : ℕ) → ((k : ℕ) (f : Field) → i ≤ k → k < j → slice_get b.fields k ≡ Some f → state_at states k ≡ g k f)
     → ((k : ℕ) (f : Field) → k < i → slice_get b.fields k ≡ Some f → state_at states k ≡ g k f)
-    → (k : ℕ) (f : Field) → k < i + 1 → slice_get b.fields k ≡ Some f → state_at states k ≡ g k f
-moved_still b g states i is before k f l here =
-    elim (same_or_below k i l) [
-      | inl e ↦ ap (state_at states) e ∙ (is f (ap (slice_get b.fields) (sym e) ∙ here) ∙ ap (λ m. g m f) (sym e))
-      | inr low ↦ before k f low here
-    ]
+    → (k : ℕ) (f : Field) → k < j → slice_get b.fields k ≡ Some f → state_at states k ≡ g k f
+moved_past b g states i j past before k f l here = elim (below_or_from k i) [ inl low ↦ before k f low here | inr high ↦ past k f high l here ]
 
-pub later_still : (states old : List FieldState) (i : ℕ) → ((k : ℕ) → i ≤ k → state_at states k ≡ state_at old k) → (k : ℕ) → i + 1 ≤ k → state_at states k ≡ state_at old k
-later_still states old i h k l = let low : i ≤ k = omega (arith, l) in h k low
+pub later_past : (states old : List FieldState) (i j : ℕ) → i ≤ j → ((k : ℕ) → i ≤ k → state_at states k ≡ state_at old k) → (k : ℕ) → j ≤ k → state_at states k ≡ state_at old k
+later_past states old i j past h k l = let low : i ≤ k = omega (arith, past, l) in h k low
 
 pub later_stays : (states old : List FieldState) (i : ℕ) (y : FieldState) → ((k : ℕ) → i ≤ k → state_at states k ≡ state_at old k) → (k : ℕ) → i + 1 ≤ k → state_at (set states i y) k ≡ state_at old k
 later_stays states old i y h k l =

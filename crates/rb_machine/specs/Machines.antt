@@ -10,7 +10,7 @@ use Rattle.rb_model.specs.Ports.{input_pins}
 use Rattle.rb_model.specs.Sound.{IsSound}
 use Rattle.rb_machine.specs.declared.machine.Machine.{Machine}
 use Rattle.rb_plan.specs.Plan.{IsPlanOf}
-use Rattle.rb_machine.specs.Quiet.{brief_of}
+use Rattle.rb_machine.specs.Quiet.{AreNextBusy, brief_of}
 use Rattle.rb_machine.specs.Resets.{AreWays}
 use Rattle.rb_wanted.specs.Wanted.{AreInOrder, IsAllWanted}
 use Rattle.rb_machine.specs.Scene.{HoldsKept, map_of}
@@ -27,6 +27,7 @@ pub record IsReady (m : Machine) : Type 0 where
   pub held : length m.held.fields.items ≡ length m.block.now.fields
   pub resets : AreWays m.block.now.fields m.resets.items
   pub briefs : m.briefs.items ≡ map brief_of m.block.now.fields
+  pub next : AreNextBusy m.block.now.fields m.next.items
   pub kept : HoldsKept m.block.now.fields m.held.fields.items
   pub pins : length m.pins.items ≡ length (input_pins m.block.now)
   pub marks : length m.marks.items ≡ length m.block.now.fields

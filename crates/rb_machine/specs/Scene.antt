@@ -16,7 +16,7 @@ use Rattle.rb_machine.specs.declared.scene.Mark.{Mark}
 use Rattle.rb_machine.specs.declared.scene.Scene.{Scene}
 use Rattle.rb_plan.specs.Plan.{IsPlanOf}
 use Rattle.rb_machine.specs.Moves.{kept_state}
-use Rattle.rb_machine.specs.Quiet.{brief_of}
+use Rattle.rb_machine.specs.Quiet.{AreNextBusy, brief_of}
 use Rattle.rb_machine.specs.Resets.{NoneReset}
 use Rattle.rb_machine.specs.Sight.{Sees}
 
@@ -63,6 +63,7 @@ pub record IsScene (s : Scene) : Type 0 where
   pub pins : length s.pins.now ≡ length (input_pins s.block.now)
   pub held : length s.held.now.fields.items ≡ length s.block.now.fields
   pub briefs : s.briefs.now ≡ map brief_of s.block.now.fields
+  pub next : AreNextBusy s.block.now.fields s.next.now
   pub kept : s.is_reset ≡ false → HoldsKept s.block.now.fields s.held.now.fields.items
   pub calm : s.is_reset ≡ false → NoneReset s.block.now (pins_of s.block.now s.pins.now)
 

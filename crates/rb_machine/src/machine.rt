@@ -14,7 +14,7 @@ ghost use Rattle.rb_machine.specs.Table.{values_of};
 
 use crate::bus::{BusOuts, Transfer, bus_at, commit, hold, outs_shown, transfer_of};
 use crate::moves::{answer, mark_access, move_fields};
-use crate::quiet::{Brief, briefs};
+use crate::quiet::{Brief, briefs, busy_places};
 use crate::reset::{reset_ways, some_asserted};
 use crate::scene::{Held, Mark, Scene};
 use crate::sight::FieldState;
@@ -33,6 +33,7 @@ pub struct Machine<'b> {
     order: Vec<RefItem>,
     resets: Vec<ResetBy>,
     briefs: Vec<Brief>,
+    next: Vec<usize>,
     held: Held,
     pins: Vec<u64>,
     marks: Vec<Mark>,
@@ -129,6 +130,7 @@ impl<'b> Machine<'b> {
         let items = table_len(&order);
         let resets = reset_ways(alloc, &block.fields.items)?;
         let briefs = briefs(alloc, &block.fields.items)?;
+        let next = busy_places(alloc, &block.fields.items)?;
         let inputs = plan.inputs;
         let fields = block.fields.items.len();
         let state = FieldState {
@@ -146,6 +148,7 @@ impl<'b> Machine<'b> {
             order,
             resets,
             briefs,
+            next,
             held: Held {
                 fields: vec![in alloc; state; fields]?,
                 waited: false,
@@ -189,6 +192,7 @@ impl<'b> Machine<'b> {
             held: &self.held,
             marks: &self.marks,
             briefs: &self.briefs,
+            next: &self.next,
             is_reset: vector.is_reset,
         };
         scene.settle(&self.order, &mut self.table);

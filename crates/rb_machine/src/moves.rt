@@ -128,11 +128,10 @@ fn start(scene: &Scene, table: &[u64], states: &mut [FieldState])
         → state_at states.new k ≡ (if rests scene.now.is_reset f then state_at states.old k
         else started_state (now_in scene.now NoAccess) (values_of table.now) k f (state_at scene.now.held.now.fields.items k)) }
 {
-    for number in 0..states.len() {
-        if scene.rests(number) {
-            continue;
-        }
+    let mut number = scene.awake_from(0);
+    while number < states.len() {
         states[number] = started(scene, table, number);
+        number = scene.awake_from(number + 1);
     }
 }
 
@@ -144,11 +143,10 @@ fn finish(scene: &Scene, table: &[u64], states: &mut [FieldState])
         → state_at states.new k ≡ (if rests scene.now.is_reset f then state_at states.old k
         else next_state scene.now.block.now (now_in scene.now NoAccess) (values_of table.now) k f (state_at states.old k)) }
 {
-    for number in 0..states.len() {
-        if scene.rests(number) {
-            continue;
-        }
+    let mut number = scene.awake_from(0);
+    while number < states.len() {
         states[number] = next(scene, table, number, states[number]);
+        number = scene.awake_from(number + 1);
     }
 }
 

@@ -2,19 +2,18 @@
 ghost use Rattle.std.specs.Prelude.{◌≡◌, IfOk, map};
 ghost use Rattle.rb_model.specs.SoundField as sound;
 ghost use Rattle.rb_machine.specs.Quiet as spec;
+ghost use Rattle.rb_machine.specs.Quiet.{AreNextBusy};
 
 use rb_base::NoMemory;
 use rb_effects::{is_interrupt, is_on, is_storage, keeps_last, loads};
 use rb_model::{Feed, Field};
 use std::alloc::Global;
 
-/// What is looked at of a field at an edge: its width in bits, whether it keeps a value, and whether what it keeps changes
-/// through software alone.
+/// What is looked at of a field at an edge: its width in bits, and whether it keeps a value.
 #[derive(Clone, Copy)]
 pub(crate) struct Brief {
     pub width: u8,
     pub stores: bool,
-    pub is_quiet: bool,
 }
 
 /// Whether a feed gives numbers.
@@ -58,8 +57,22 @@ pub(crate) fn briefs(alloc: Global, fields: &[Field]) -> Result<Vec<Brief>, NoMe
         all.push(Brief {
             width: field.width,
             stores: is_storage(field.class),
-            is_quiet: is_quiet(field),
         })?;
     }
     Ok(all)
+}
+
+/// For each place in the list of fields the first from there on whose field isn't quiet, or the end of the list.
+pub(crate) fn busy_places(alloc: Global, fields: &[Field]) -> Result<Vec<usize>, NoMemory>
+    ensures { IfOk result (λ next. AreNextBusy fields.now next.items) }
+{
+    let mut next = vec![in alloc; 0; fields.len()]?;
+    let mut busy = fields.len();
+    for at in (0..fields.len()).rev() {
+        if !is_quiet(&fields[at]) {
+            busy = at;
+        }
+        next[at] = busy;
+    }
+    Ok(next)
 }

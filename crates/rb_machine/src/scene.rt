@@ -26,8 +26,8 @@ pub(crate) struct Mark {
     pub accessed: bool,
 }
 
-/// A block at an edge, with the pins, what it holds, the marks of the access, what is looked at of each field, and whether some
-/// reset of a field is asserted.
+/// A block at an edge, with the pins, what it holds, the marks of the access, what is looked at of each field, for each place the
+/// next whose field isn't quiet, and whether some reset of a field is asserted.
 #[derive(Clone, Copy)]
 pub(crate) struct Scene<'a> {
     pub block: &'a Block,
@@ -36,11 +36,12 @@ pub(crate) struct Scene<'a> {
     pub held: &'a Held,
     pub marks: &'a [Mark],
     pub briefs: &'a [Brief],
+    pub next: &'a [usize],
     pub is_reset: bool,
 }
 
 impl<'a> Scene<'a> {
-    ghost use Rattle.std.specs.Prelude.{◌≡◌, ◌<◌, ℕ, false, None, Some, Contains, MatchOption, length, slice_get};
+    ghost use Rattle.std.specs.Prelude.{◌≡◌, ◌<◌, ◌≤◌, ℕ, true, false, None, Some, Contains, MatchOption, length, slice_get};
     ghost use Rattle.rb_plan.specs.Plan.{members_of};
     ghost use Rattle.std.specs.List.{enumerate_from, list_any};
     ghost use Rattle.std.specs.Option.{option_map, option_map_or};
@@ -97,14 +98,19 @@ impl<'a> Scene<'a> {
         }
     }
 
-    /// Whether the field of a number keeps what software leaves of what it held.
-    pub fn rests(&self, number: usize) -> bool
+    /// The first place from a place on whose field doesn't rest, or one past all fields.
+    pub fn awake_from(&self, number: usize) -> usize
         requires { IsScene self.now }
-        ensures { (f : Field) → slice_get self.now.block.now.fields number ≡ Some f → result ≡ rests self.now.is_reset f }
+        ensures onward { number ≤ result }
+        ensures rest { (k : ℕ) (f : Field) → number ≤ k → k < result → slice_get self.now.block.now.fields k ≡ Some f → rests self.now.is_reset f ≡ true }
+        ensures awake { (f : Field) → slice_get self.now.block.now.fields result ≡ Some f → rests self.now.is_reset f ≡ false }
     {
-        match self.brief(number) {
-            None => false,
-            Some(brief) => !self.is_reset && brief.is_quiet,
+        if self.is_reset {
+            return number;
+        }
+        match self.next.get(number) {
+            None => number,
+            Some(next) => *next,
         }
     }
 

@@ -7,7 +7,7 @@ use Rattle.rb_machine.specs.Scene.{map_of, no_state, state_at}
 use Rattle.rb_model.specs.declared.block.Field.{Field}
 use Rattle.rb_machine.specs.declared.sight.FieldState.{FieldState}
 use Rattle.rb_machine.specs.Moves.{kept_state}
-use Rattle.rb_machine.specs.Quiet.{brief_of}
+use Rattle.rb_machine.specs.Quiet.{AreNextBusy, brief_of}
 use Rattle.rb_wanted.specs.Wanted.{AreInOrder}
 use Rattle.rb_machine.specs.Resets.{AreWays}
 use Rattle.rb_machine.proofs.Resting.{none_kept}
@@ -38,12 +38,14 @@ returns-clause-ready c =
     let b = c.args.block.now in
     let fields : c.deref-3.result.now ≡ b.fields = c.deref-3.ensures.value ∙ ap (λ b. b.fields) c.block.view_is in
     let again : c.deref-4.result.now ≡ b.fields = c.deref-4.ensures.value ∙ ap (λ b. b.fields) c.block.view_is in
+    let third : c.deref-5.result.now ≡ b.fields = c.deref-5.ensures.value ∙ ap (λ b. b.fields) c.block.view_is in
     record {
       sound = c.requires;
       planned = c.in_ok-plan.ensures;
       held = search rules;
       resets = subst (λ (fs : List Field). AreWays fs c.in_ok-resets.resets.items) fields c.in_ok-resets.ensures;
       briefs = c.in_ok-briefs.ensures ∙ ap (map brief_of) again;
+      next = subst (λ (fs : List Field). AreNextBusy fs c.in_ok-next.next.items) third c.in_ok-next.ensures;
       kept = λ k f here. held_none c.in_ok-vec.field-0.items c.len-fields.result (c.in_ok-vec.ensures.items_if_clones_equal (λ y e. e)) f k;
       pins = search rules;
       marks = search rules;
