@@ -2,6 +2,9 @@
 ghost use Rattle.std.specs.Prelude.{◌≡◌, ℕ, ◌+◌, ◌*◌, ◌^◌, ◌<◌, ◌≤◌, nat_lt, if◌then◌else◌, Some, None, Option};
 ghost use Rattle.stim_csv.specs.Numeral.{numeral_value, cell_value, cell_of, capped, fits};
 
+/// The greatest number to which one more digit of any radix can be added within 64 bits: 2^64 - 36, shared by 36.
+const MOST_BEFORE_A_DIGIT: u64 = 512_409_557_603_043_099;
+
 /// What a cell is.
 #[derive(Clone, Copy)]
 pub(crate) enum Cell {
@@ -23,8 +26,8 @@ fn appended(number: Option<u128>, radix: u32, digit: u32) -> Option<u128>
         .checked_add(u128::from(digit))
 }
 
-/// The number that digits of a radix, 2 to 36, write.
-fn numeral(digits: &[u8], radix: u32) -> Cell
+/// The number that digits of a radix, 2 to 36, write, however many they are.
+fn long_numeral(digits: &[u8], radix: u32) -> Cell
     requires low { 2 ≤ radix }
     requires high { radix ≤ 36 }
     ensures { result ≡ cell_of (numeral_value radix digits.now) }
@@ -43,6 +46,28 @@ fn numeral(digits: &[u8], radix: u32) -> Cell
         Some(number) => Cell::Number(number),
         None => Cell::Above,
     }
+}
+
+/// The number that digits of a radix, 2 to 36, write.
+fn numeral(digits: &[u8], radix: u32) -> Cell
+    requires low { 2 ≤ radix }
+    requires high { radix ≤ 36 }
+    ensures { result ≡ cell_of (numeral_value radix digits.now) }
+{
+    let mut number = 0;
+    for byte in digits {
+        if MOST_BEFORE_A_DIGIT < number {
+            return long_numeral(digits, radix);
+        }
+        match char::from(*byte).to_digit(radix) {
+            Some(digit) => number = number * u64::from(radix) + u64::from(digit),
+            None => return Cell::Bad,
+        }
+    }
+    if digits.is_empty() {
+        return Cell::Bad;
+    }
+    Cell::Number(u128::from(number))
 }
 
 /// What a text is as a cell: decimal digits, or `0x` and hexadecimal digits of either case.
