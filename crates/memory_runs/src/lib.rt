@@ -4,3 +4,4 @@
 mod ran;
 
 pub use ran::{Ran, run_over, run_sized, run_with, words};
+pub use regblock::{Status, run};

@@ -3,8 +3,8 @@ use Rattle.std.proofs.Common.{⊎_elim, ℕ, List, Option, subst}
 use Rattle.rb_edge.specs.Shelf.{Files}
 use Rattle.command_line.specs.Words.{Command, Asks}
 use Rattle.command_line.proofs.Asking.{one-command}
-use Rattle.regblock.specs.declared.status.Status.{Status}
-use Rattle.regblock.specs.Outcome.{Answers, Outcome, Texts}
+use Rattle.replies.specs.declared.status.Status.{Status}
+use Rattle.replies.specs.Outcome.{Answers, Outcome, Texts}
 
 -- it is an answer to this command
 pub asked : (words : List (List ℕ)) (contents : Option Files) (failed : List ℕ → Type 0) (wanted : Command) (status : Status) (texts : Texts)

@@ -2,12 +2,12 @@
 use Rattle.std.proofs.Common.{◌≡◌, ◌⊎◌, ⊎_elim, inl, inr, ℕ, List, [], ◌∷◌, Option, refl, subst}
 use Rattle.rb_edge.specs.Count.{Rose}
 use Rattle.rb_edge.specs.Shelf.{Files, IsLonger}
-use Rattle.regblock.specs.declared.status.Status.{Status}
-use Rattle.regblock.specs.declared.status.Status.TheVariants.{Usage, ReadFault, WriteFault, TooLong}
+use Rattle.replies.specs.declared.status.Status.{Status}
+use Rattle.replies.specs.declared.status.Status.TheVariants.{Usage, ReadFault, WriteFault, TooLong}
 use Rattle.command_line.specs.Words.{Command, Asks, AsksNothing}
-use Rattle.regblock.specs.Outcome.{StopsAt, Outcome, files_of}
-use Rattle.regblock.proofs.Rows.{unjudged}
-use Rattle.regblock.specs.Ends.{Passage, Ends}
+use Rattle.replies.specs.Outcome.{StopsAt, Outcome, files_of}
+use Rattle.replies.proofs.Rows.{unjudged}
+use Rattle.replies.specs.Ends.{Passage, Ends}
 
 stops_weaker : (contents : Option Files) (P Q : List ℕ → ℕ → Type 0) (named : List (List ℕ × ℕ)) → ((file : List ℕ) (limit : ℕ) → P file limit → Q file limit) → StopsAt contents P named → StopsAt contents Q named
 stops_weaker contents P Q [] weaker stops = stops

@@ -5,25 +5,18 @@ use Rattle.std.proofs.lemmas.List.Elements.{recursion_from_All}
 use Rattle.std.proofs.Common.{◌≡◌, ◌⊎◌, ⊎_elim, inl, inr, ℕ, true, ◌&&◌, cond, List, [], ◌∷◌, Contains, length, map, Option, None, Some, Ok, Err, refl, sym, ◌∙◌, ap, subst, arith}
 use Rattle.rb_edge.specs.Count.{Rose}
 use Rattle.rb_edge.specs.Shelf.{Files, IsLonger}
-use Rattle.regblock.specs.declared.status.Status.{Status}
-use Rattle.regblock.specs.declared.status.Status.TheVariants.{Done, Refused, ReadFault, WriteFault, NoMemory, TooLong, BadVerilog, BadStimulus, Protocol}
+use Rattle.replies.specs.declared.status.Status.{Status}
+use Rattle.replies.specs.declared.status.Status.TheVariants.{Done, Refused, ReadFault, WriteFault, NoMemory, TooLong, BadVerilog, BadStimulus, Protocol}
 use Rattle.command_line.specs.Words.{Command, check, compile, map_of, sim, run_of, gen_of, waits_of, Asks}
 use Rattle.command_line.proofs.Asking.{one-command}
-use Rattle.regblock.specs.Outcome.{AreRead, AreVerdicts, StopsAt, Texts, Judges, Answers, Outcome, files_of, has_none, source_limit}
-use Rattle.regblock.specs.Ends.{Passage, IsCutShort, Ends}
+use Rattle.replies.specs.Outcome.{AreRead, AreVerdicts, StopsAt, Texts, Judges, Answers, Outcome, files_of, has_none, source_limit}
+use Rattle.replies.specs.Ends.{Passage, IsCutShort, Ends}
 use Rattle.regblock.specs.Complete.{AreAtHand, AreFit, CanBeDone, FitsSource, IsComplete, IsFit}
-use Rattle.regblock.specs.Verdict.{BreaksNone, FailsFirst}
-use Rattle.rdl_verdict.specs.Verdict.{IsVerdict, lexeme, grammar, depth, tree, tree_phases}
-use Rattle.rdl_values.specs.Verdict.{Fails, FirstOf, IsListOf, Phase}
-use Rattle.rdl_values.specs.Phase3.{fails3}
-use Rattle.rdl_layers.specs.Phase4.{fails4}
-use Rattle.rdl_rules.specs.Phase5.{fails5}
-use Rattle.rdl_rules.specs.Phase6.{fails6}
+use Rattle.replies.specs.Verdict.{BreaksNone, FailsFirst, IsVerdict}
+use Rattle.replies.proofs.Clean.{clean_list}
 use Rattle.rb_base.specs.declared.fault.Fault.{Fault}
 use Rattle.rb_base.specs.declared.place.Place.{Place}
 use Rattle.rb_base.specs.declared.rule.Rule.{Rule}
-use Rattle.rdl_parser.proofs.OneVerdict.{accepted_has_none}
-use Rattle.rdl_parser.specs.declared.error.ParseError.TheVariants as error
 use Rattle.sim_run.specs.Simulated.{IsModule, IsProblem, IsFitTable}
 use Rattle.machine_run.proofs.Fitting as machine
 use Rattle.sized_source.specs.Source.{source_of}
@@ -61,28 +54,6 @@ no_problem verilog stimulus problem fit bad =
     let e : fit.module_ ≡ bad.module_ = same_module verilog fit.module_ bad.module_ fit.is_module bad.is_module in
     let table : table_of (inputs bad.module_) (length (outputs bad.module_)) (records_of stimulus) ≡ Ok fit.vectors = subst (λ m. table_of (inputs m) (length (outputs m)) (records_of stimulus) ≡ Ok fit.vectors) e fit.table in
     let wrong : Ok fit.vectors ≡ Err bad.problem = sym table ∙ bad.table in cc
-
--- Of a tree that breaks no rule, the first phase with failures has none.
-abbrev AreClear : List Phase → List Fault → Type 0
-AreClear [] list = ⊤
-AreClear (P ∷ ps) list = (P [] → P list → list ≡ []) × AreClear ps list
-
-first_none : (ps : List Phase) (list : List Fault) → AreClear ps list → FirstOf ps [] → FirstOf ps list → list ≡ []
-first_none [] list one clean first = first
-first_none (P ∷ ps) list one clean first = ⊎_elim (λ here. absurd (here.1 refl)) (λ past. ⊎_elim (λ now. one.0 past.0 now.0) (λ later. first_none ps list one.1 past.1 later.1) first) clean
-
-no_member : (P : Fails) (list : List Fault) → IsListOf P [] → IsListOf P list → list ≡ []
-no_member P [] none is = refl
-no_member P (f ∷ fs) none is = absurd (nothing ((none.exact f).1 ((is.exact f).0 (0, omega arith, refl))))
-  where
-    nothing : {f : Fault} → Contains [] f → ⊥
-    nothing h = let l = h.1 in absurd (omega (arith, l))
-
-clean_list : (top : Option (List ℕ)) (source : List ℕ) (list : List Fault) → BreaksNone top source → IsVerdict top source list → list ≡ []
-clean_list top source _ clean (lexeme {fault = fault} h) = absurd (accepted_has_none source (error.Lex fault) clean.parsed h)
-clean_list top source _ clean (grammar {place = place} {rule = rule} h) = absurd (accepted_has_none source (error.Syntax place rule) clean.parsed h)
-clean_list top source _ clean (depth {place = place} h) = absurd (accepted_has_none source (error.TooDeep place) clean.parsed h)
-clean_list top source list clean (tree s reads first) = first_none (tree_phases top s) list (no_member (fails3 top s) list, (no_member (fails4 top s) list, (no_member (fails5 top s) list, (no_member (fails6 top s) list, tt)))) (clean.clean s reads) first
 
 clean_source : (top : Option (List ℕ)) (source : List ℕ) (place : Place) (rule : Rule) → BreaksNone top source → FailsFirst top source place rule → ⊥
 clean_source top source place rule clean fails = let none = clean_list top source _ clean fails.verdict in cc none

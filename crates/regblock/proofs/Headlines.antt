@@ -1,12 +1,12 @@
 -- What the answers to `compile`, `map` and `check` promise.
 use Rattle.std.proofs.Common.{◌≡◌, ◌⊎◌, ⊎_elim, ℕ, List, [], ◌∷◌, map, Option, subst}
 use Rattle.rb_edge.specs.Shelf.{Files, Holds}
-use Rattle.rdl_verdict.specs.Verdict.{tree}
-use Rattle.regblock.specs.declared.status.Status.{Status}
-use Rattle.regblock.specs.declared.status.Status.TheVariants.{Done, Refused}
+use Rattle.replies.specs.Verdict.{tree}
+use Rattle.replies.specs.declared.status.Status.{Status}
+use Rattle.replies.specs.declared.status.Status.TheVariants.{Done, Refused}
 use Rattle.command_line.specs.Words.{check, compile, map_of, waits_of, Asks}
-use Rattle.regblock.specs.Outcome.{AreRead, IsChecked, IsRefused, Texts, Judges, Outcome, files_of, source_limit}
-use Rattle.regblock.specs.Ends.{Passage, TookAll, Ends}
+use Rattle.replies.specs.Outcome.{AreRead, IsChecked, IsRefused, Texts, Judges, Outcome, files_of, source_limit}
+use Rattle.replies.specs.Ends.{Passage, TookAll, Ends}
 use Rattle.regblock.proofs.Asked.{asked}
 use Rattle.regblock.specs.Headline.{AreHeld, AreToldVerdicts, IsRight, IsTable, IsToldFailure}
 

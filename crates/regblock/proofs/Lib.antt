@@ -1,6 +1,4 @@
-mod Rows
 mod Asked
-mod Verdicts
 mod CompleteRuns
 mod Causes
 mod Headlines

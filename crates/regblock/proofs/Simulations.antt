@@ -1,11 +1,11 @@
 -- What the answers to `sim` promise.
 use Rattle.std.proofs.Common.{◌≡◌, ℕ, List, [], ◌∷◌, Option, subst}
 use Rattle.rb_edge.specs.Shelf.{Files}
-use Rattle.regblock.specs.declared.status.Status.{Status}
-use Rattle.regblock.specs.declared.status.Status.TheVariants.{Done, BadVerilog, BadStimulus}
+use Rattle.replies.specs.declared.status.Status.{Status}
+use Rattle.replies.specs.declared.status.Status.TheVariants.{Done, BadVerilog, BadStimulus}
 use Rattle.command_line.specs.Words.{sim, Asks}
-use Rattle.regblock.specs.Outcome.{AreRead, Texts, Judges, Outcome, files_of}
-use Rattle.regblock.specs.Ends.{Passage, TookAll, Ends}
+use Rattle.replies.specs.Outcome.{AreRead, Texts, Judges, Outcome, files_of}
+use Rattle.replies.specs.Ends.{Passage, TookAll, Ends}
 use Rattle.regblock.specs.Simulations.{IsRun, IsToldVerilog, IsToldStimulus}
 use Rattle.regblock.proofs.Asked.{asked}
 

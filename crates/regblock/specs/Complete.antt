@@ -7,12 +7,12 @@ use Rattle.rb_model.specs.declared.block.Block.{Block}
 use Rattle.rdl_tree.specs.declared.item.Source.{Source}
 use Rattle.machine_run.specs.Runs.{IsFitFor}
 use Rattle.sized_source.specs.Source.{source_of}
-use Rattle.regblock.specs.Verdict.{BreaksNone, IsDescribedWith}
-use Rattle.regblock.specs.declared.status.Status.{Status}
-use Rattle.regblock.specs.declared.status.Status.TheVariants.{Done, NoMemory}
+use Rattle.replies.specs.Verdict.{BreaksNone, IsDescribedWith}
+use Rattle.replies.specs.declared.status.Status.{Status}
+use Rattle.replies.specs.declared.status.Status.TheVariants.{Done, NoMemory}
 use Rattle.command_line.specs.Words.{Command, check, compile, map_of, sim, run_of, gen_of, waits_of, Asks}
-use Rattle.regblock.specs.Outcome.{files_of}
-use Rattle.regblock.specs.Ends.{Passage}
+use Rattle.replies.specs.Outcome.{files_of}
+use Rattle.replies.specs.Ends.{Passage}
 
 -- each file that the command names is held and within its limit, and no read of it failed
 abbrev pub AreAtHand : Files → (List ℕ → Type 0) → List (List ℕ × ℕ) → Type 0

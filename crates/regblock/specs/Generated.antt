@@ -2,10 +2,10 @@
 use Rattle.std.specs.Prelude.{ℕ, None}
 use Rattle.rb_model.specs.declared.block.Block.{Block}
 use Rattle.rdl_tree.specs.declared.item.Source.{Source}
-use Rattle.regblock.specs.Verdict.{IsDescribedWith}
+use Rattle.replies.specs.Verdict.{IsDescribedWith}
 use Rattle.sized_source.specs.Source.{source_of, summary_of}
-use Rattle.regblock.specs.Ends.{Passage, TookAll}
-use Rattle.regblock.specs.Outcome.{IsModuleLength}
+use Rattle.replies.specs.Ends.{Passage, TookAll}
+use Rattle.replies.specs.Outcome.{IsModuleLength}
 
 -- Done: what was written on out is the source of so many registers, which breaks no rule, and on err its summary, with the
 -- length of a module that agrees with the block that it describes.

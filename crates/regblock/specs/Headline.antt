@@ -7,12 +7,11 @@ use Rattle.rb_model.specs.declared.block.Block.{Block}
 use Rattle.rb_model.specs.Agreement.{Agrees}
 use Rattle.rb_base.specs.declared.fault.Fault.{Fault}
 use Rattle.rdl_tree.specs.declared.item.Source.{Source}
-use Rattle.rdl_verdict.specs.Verdict.{IsVerdict}
 use Rattle.address_text.specs.Lines.{address_lines}
 use Rattle.verdict_text.specs.Lines.{rule_line}
-use Rattle.regblock.specs.Outcome.{AreVerdicts, all_failures, all_fine}
-use Rattle.regblock.specs.Verdict.{FailsFirst, IsDescribedWith}
-use Rattle.regblock.specs.Ends.{Passage, TookAll}
+use Rattle.replies.specs.Outcome.{AreVerdicts, all_failures, all_fine}
+use Rattle.replies.specs.Verdict.{FailsFirst, IsDescribedWith, IsVerdict}
+use Rattle.replies.specs.Ends.{Passage, TookAll}
 
 -- Done: the source breaks no rule and describes a sound register block, and what was written is one module that gives the
 -- outputs of that block's machine with so many wait states, from any start and for any pins that keep the protocol. Nothing

@@ -1,16 +1,5 @@
-pub mod Text
-pub mod Status
-pub mod Verdict
-pub mod Outcome
-pub mod Ends
 pub mod Complete
 pub mod Headline
 pub mod Simulations
 pub mod MachineRuns
 pub mod Generated
-pub mod Answer
-pub mod Reply
-pub mod Loaded
-pub mod Checked
-pub mod Described
-pub mod RunAnswer

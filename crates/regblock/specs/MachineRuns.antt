@@ -3,11 +3,11 @@ use Rattle.std.specs.Prelude.{ℕ, List, [], Option}
 use Rattle.rb_edge.specs.Shelf.{Files, Holds}
 use Rattle.rb_model.specs.declared.block.Block.{Block}
 use Rattle.rdl_tree.specs.declared.item.Source.{Source}
-use Rattle.regblock.specs.Verdict.{IsDescribedWith}
+use Rattle.replies.specs.Verdict.{IsDescribedWith}
 use Rattle.machine_run.specs.Runs.{IsProblem, IsBreak}
-use Rattle.regblock.specs.Outcome.{IsRunText}
-use Rattle.regblock.specs.Text.{stimulus_line, protocol_line}
-use Rattle.regblock.specs.Ends.{Passage, TookAll}
+use Rattle.replies.specs.Outcome.{IsRunText}
+use Rattle.replies.specs.Text.{stimulus_line, protocol_line}
+use Rattle.replies.specs.Ends.{Passage, TookAll}
 
 -- the first file is a source that describes this block, and the second holds a table
 pub record HasTable (contents : Option Files) (waits : ℕ) (top : Option (List ℕ)) (file table : List ℕ) (block : Block) (stimulus : List ℕ) : Type 0 where

@@ -4,8 +4,8 @@ use Rattle.rb_edge.specs.Shelf.{Files, Holds}
 use Rattle.sim_run.specs.Simulated.{IsSimulated, IsProblem}
 use Rattle.v_syntax.specs.Failing.{Fails}
 use Rattle.v_syntax.specs.declared.error.VError.{VError}
-use Rattle.regblock.specs.Text.{verilog_line, stimulus_line}
-use Rattle.regblock.specs.Ends.{Passage, TookAll}
+use Rattle.replies.specs.Text.{verilog_line, stimulus_line}
+use Rattle.replies.specs.Ends.{Passage, TookAll}
 
 -- Done: the first file is a well-formed module and the second a table for it, and what was written is the module's run from
 -- zeros over the table's vectors. Nothing stands on err.

@@ -4,17 +4,16 @@ ghost use Rattle.std.specs.Prelude.{◌≡◌, ◌⊎◌, ◌≤◌, List, Optio
 ghost use Rattle.rb_edge.specs.Count.{Rose};
 ghost use Rattle.rb_edge.specs.Shelf.{IsLonger};
 ghost use Rattle.command_line.specs.Words.{texts, Command, check, compile, map_of, sim, run_of, gen_of, waits_of, Asks, AsksNothing};
-ghost use Rattle.regblock.specs.Outcome.{FailedRead, Outcome, StopsAt, files_of};
-ghost use Rattle.regblock.specs.Ends.{Ends, passage};
+ghost use Rattle.replies.specs.Outcome.{FailedRead, Outcome, StopsAt, files_of};
+ghost use Rattle.replies.specs.Ends.{Ends, passage};
 ghost use Rattle.regblock.specs.Complete.{IsComplete};
 ghost use Rattle.regblock.specs.Headline.{AreToldVerdicts, IsRight, IsTable, IsToldFailure};
 ghost use Rattle.regblock.specs.Simulations.{IsRun, IsToldVerilog, IsToldStimulus};
 ghost use Rattle.regblock.specs.MachineRuns.{IsMachineRun, IsToldUnfit, IsToldBreak};
 ghost use Rattle.regblock.specs.Generated.{IsSizedSource};
 
-use crate::Status;
-use crate::commands::answer_words;
 use rb_edge::{Shelf, Sink};
+use replies::{Status, answer_words};
 use std::alloc::Global;
 
 /// Does what the words ask for: the words after the program's name, files from the shelf, texts to the sinks.

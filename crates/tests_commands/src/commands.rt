@@ -1,7 +1,6 @@
 //! Command lines, and files that can't be had.
-use memory_runs::{run_over, run_with};
+use memory_runs::{Status, run_over, run_with};
 use rb_edge::MemShelf;
-use regblock::Status;
 use std::alloc::Global;
 use std::test::Fail;
 

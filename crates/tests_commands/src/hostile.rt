@@ -1,6 +1,5 @@
 //! Truncated and malicious sources.
-use memory_runs::run_with;
-use regblock::Status;
+use memory_runs::{Status, run_with};
 use std::alloc::Global;
 use std::test::Fail;
 

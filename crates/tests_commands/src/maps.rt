@@ -1,6 +1,5 @@
 //! Address tables.
-use memory_runs::run_with;
-use regblock::Status;
+use memory_runs::{Status, run_with};
 use std::test::Fail;
 
 const TYPES: &str =

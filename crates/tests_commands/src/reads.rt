@@ -1,6 +1,6 @@
 //! How often a run reads its files: each is read until its end, once, in the order of the words.
+use memory_runs::{Status, run};
 use rb_edge::{MemShelf, MemSink};
-use regblock::{Status, run};
 use std::alloc::Global;
 use std::test::Fail;
 

@@ -1,6 +1,5 @@
 //! The address map that is asked for by name, and the last one where none is.
-use memory_runs::run_with;
-use regblock::Status;
+use memory_runs::{Status, run_with};
 use std::test::Fail;
 
 // The definition that isn't asked for breaks a rule, and is not judged.

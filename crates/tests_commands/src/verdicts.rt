@@ -1,7 +1,6 @@
 //! Verdicts: `check` tells all failures of a source's first phase that has any, `compile` and `map` the first.
-use memory_runs::{run_over, run_with};
+use memory_runs::{Status, run_over, run_with};
 use rb_edge::MemShelf;
-use regblock::Status;
 use std::test::Fail;
 
 // A file, its source, the line of its first failure, and the lines of the others.

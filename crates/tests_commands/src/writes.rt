@@ -1,7 +1,6 @@
 //! Streams that fail or are full: what was written is the start of what belongs there.
-use memory_runs::words;
+use memory_runs::{Status, run, words};
 use rb_edge::{MemShelf, MemSink};
-use regblock::{Status, run};
 use std::alloc::Global;
 use std::test::Fail;
 

@@ -1,7 +1,6 @@
 //! `gen`: sources of a wanted size, and the length of their modules.
-use memory_runs::{run_sized, words};
+use memory_runs::{Status, run, run_sized, words};
 use rb_edge::{CountSink, MemShelf, MemSink};
-use regblock::{Status, run};
 use std::alloc::Global;
 use std::test::Fail;
 

@@ -1,7 +1,6 @@
 //! What is compiled runs as its source says: `compile` and `sim` of the module over a table of pins, and `run` of the source.
-use memory_runs::{run_over, run_with};
+use memory_runs::{Status, run_over, run_with};
 use rb_edge::MemShelf;
-use regblock::Status;
 use std::test::Fail;
 
 const UART: &str = "enum parity_t { NONE = 2'd0; EVEN = 2'd1 { name = \"Even\"; }; ODD = 2'd2; };

@@ -1,7 +1,6 @@
 //! `run`: the machine of a source over a table of pins, with and without a wait state.
-use memory_runs::{Ran, run_over};
+use memory_runs::{Ran, Status, run_over};
 use rb_edge::MemShelf;
-use regblock::Status;
 use std::alloc::Global;
 use std::test::Fail;
 

@@ -1,7 +1,6 @@
 //! Modules and tables that `sim` runs or refuses.
-use memory_runs::run_over;
+use memory_runs::{Status, run_over};
 use rb_edge::MemShelf;
-use regblock::Status;
 use std::test::Fail;
 
 // A module of one register, written by hand.

@@ -1,4 +1,4 @@
-use Rattle.regblock.proofs.Rows.{Ends-written}
+use Rattle.replies.proofs.Rows.{Ends-written}
 use Rattle.regblock.proofs.CompleteRuns.{complete}
 use Rattle.regblock.proofs.Causes.{usage_cause, read_fault_cause, too_long_cause, write_fault_cause}
 use Rattle.regblock.proofs.Headlines.{checked, done, mapped, refused, unmapped}

@@ -1,4 +1,0 @@
-use Rattle.regblock.proofs.modules.module_net.Goals as goal
-
-pub returns-clause-agrees : goal.returns-clause-agrees
-returns-clause-agrees c = c.text_agrees.ensures _ _ _ c.in_ok-net.ensures

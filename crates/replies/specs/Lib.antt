@@ -1,0 +1,11 @@
+pub mod Text
+pub mod Status
+pub mod Verdict
+pub mod Outcome
+pub mod Ends
+pub mod Answer
+pub mod Reply
+pub mod Loaded
+pub mod Checked
+pub mod Described
+pub mod RunAnswer

@@ -1,0 +1,19 @@
+//! What a command line is answered: a status, and texts or a module for the sinks. Files are read, and nothing is written yet.
+#![tactic(auto)]
+
+mod answer;
+mod checking;
+mod commands;
+mod compiling;
+mod describing;
+mod generating;
+mod loading;
+mod modules;
+mod places;
+mod running;
+mod simulating;
+mod status;
+
+pub use answer::{Answer, Reply};
+pub use commands::answer_words;
+pub use status::Status;
