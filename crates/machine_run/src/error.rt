@@ -1,14 +1,18 @@
 use rb_base::NoMemory;
 use std::alloc::{AllocError, AllocFailed};
+use thiserror::Error;
 
 /// Why there is no run.
-#[derive(Drop)]
+#[derive(Debug, Drop, Error)]
 pub enum RunError {
     /// The table has a problem, which this text tells.
+    #[error("no table for the block")]
     Stimulus(Vec<u8>),
     /// The row of this number, counted from 0 below the header, is the first that breaks the bus protocol.
+    #[error("row {0}: protocol")]
     Protocol(u64),
     /// Memory was refused.
+    #[error("out of memory")]
     NoMemory,
 }
 

@@ -2,13 +2,16 @@
 
 use rb_base::{Fault, NoMemory};
 use std::alloc::{AllocError, AllocFailed};
+use thiserror::Error;
 
 /// Why there is no tree of instances: rules E1 to E14, or V rules in what instances are given.
-#[derive(Debug, Drop)]
+#[derive(Debug, Drop, Error)]
 pub enum ElabError {
     /// All failures of the phase, by place, and at one place in the order of the table of rules.
+    #[error("the source breaks rules on instances")]
     Faults(Vec<Fault>),
     /// Memory was refused.
+    #[error("out of memory")]
     NoMemory,
 }
 

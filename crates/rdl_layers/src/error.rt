@@ -2,13 +2,16 @@
 
 use rb_base::Fault;
 use std::alloc::{AllocError, AllocFailed};
+use thiserror::Error;
 
 /// Why there are no settings: rules P1 to P11, or V rules in values and indices.
-#[derive(Debug, Drop)]
+#[derive(Debug, Drop, Error)]
 pub enum LayerError {
     /// All failures of the phase, by place, and at one place in the order of the table of rules.
+    #[error("the source breaks rules on settings")]
     Faults(Vec<Fault>),
     /// Memory was refused.
+    #[error("out of memory")]
     NoMemory,
 }
 

@@ -2,13 +2,16 @@
 
 use rb_base::NoMemory;
 use std::alloc::{AllocError, AllocFailed};
+use thiserror::Error;
 
 /// Why the items have no order.
-#[derive(Debug, Drop)]
+#[derive(Debug, Drop, Error)]
 pub enum OrderError {
     /// Numbers of different items, each referring to the next and the last to the first.
+    #[error("items refer to each other in a circle")]
     Loop(Vec<u32>),
     /// Memory was refused.
+    #[error("out of memory")]
     NoMemory,
 }
 

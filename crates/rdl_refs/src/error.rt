@@ -2,13 +2,16 @@
 
 use rb_base::Fault;
 use std::alloc::{AllocError, AllocFailed};
+use thiserror::Error;
 
 /// Why references lead nowhere: rules R1 and R2.
-#[derive(Debug, Drop)]
+#[derive(Debug, Drop, Error)]
 pub enum RefError {
     /// All failures of the phase, by place, and at one place in the order of the table of rules.
+    #[error("the source breaks rules on references")]
     Faults(Vec<Fault>),
     /// Memory was refused.
+    #[error("out of memory")]
     NoMemory,
 }
 

@@ -2,13 +2,16 @@
 
 use rb_base::Fault;
 use std::alloc::{AllocError, AllocFailed};
+use thiserror::Error;
 
 /// Why there is no register block: rules F1 to F15 and R3 to R8.
-#[derive(Debug, Drop)]
+#[derive(Debug, Drop, Error)]
 pub enum CheckError {
     /// All failures of the phase, by place, and at one place in the order of the table of rules.
+    #[error("the source breaks rules on meaning")]
     Faults(Vec<Fault>),
     /// Memory was refused.
+    #[error("out of memory")]
     NoMemory,
 }
 

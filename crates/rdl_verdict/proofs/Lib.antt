@@ -1,4 +1,4 @@
 mod Later
-mod OneList
+pub mod OneList
 mod Parts
 mod Same

@@ -1,15 +1,19 @@
 use rb_base::NoMemory;
 use std::alloc::{AllocError, AllocFailed};
+use thiserror::Error;
 use v_syntax::VError;
 
 /// Why there is no run.
-#[derive(Drop)]
+#[derive(Debug, Drop, Error)]
 pub enum SimError {
     /// The bytes are no well-formed module.
+    #[error("no well-formed module")]
     Verilog(VError),
     /// The table has a problem, which this text tells.
+    #[error("no table for the module")]
     Stimulus(Vec<u8>),
     /// Memory was refused.
+    #[error("out of memory")]
     NoMemory,
 }
 

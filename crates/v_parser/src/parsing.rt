@@ -12,18 +12,23 @@ ghost use Rattle.v_parser.specs.Reading.{StopsThere};
 use crate::cursor::Parser;
 use rb_grammar::{Stop, first_too_deep};
 use std::alloc::Global;
+use thiserror::Error;
 use v_syntax::{Parsed, VToken};
 
 // How many brackets may be open.
 const MOST_OPEN: usize = 64;
 
 /// Why tokens are no module of the subset, with how many tokens stand before the one that is named, or want of memory.
-#[derive(Clone, Copy, Debug, PartialEq, Eq)]
+#[derive(Clone, Copy, Debug, PartialEq, Eq, Error)]
 pub enum ParseError {
     /// The first token with which the tokens do not begin a module, or the end where they are none.
+    #[error("a syntax error")]
     Syntax(usize),
     /// The 65th `(` or `{` that is open.
+    #[error("nested too deep")]
     TooDeep(usize),
+    /// Memory was refused.
+    #[error("out of memory")]
     NoMemory,
 }
 
