@@ -1,5 +1,4 @@
 pub mod Fitting
 pub mod Tables
 mod Watching
-mod Keeping
 mod Runs

@@ -8,11 +8,11 @@ use Rattle.rb_model.specs.Ports.{ports, input_pins}
 use Rattle.rb_model.specs.Protocol.{KeepsProtocol}
 use Rattle.rb_model.specs.Run.{MachineRun}
 use Rattle.rb_model.specs.Agreement.{buses}
+use Rattle.stim_csv.specs.Buses.{IsFirstBreak}
 use Rattle.stim_csv.specs.PinTable.{table_of, records_of}
 use Rattle.stim_csv.specs.declared.error.StimError.{StimError}
 use Rattle.run_text.specs.Printed.{printed_run}
 use Rattle.run_text.specs.Problems.{problem_text}
-use Rattle.machine_run.specs.Breaks.{IsFirstBreak}
 use Rattle.machine_run.specs.declared.error.RunError.{RunError}
 use Rattle.machine_run.specs.declared.error.RunError.TheVariants as error
 
@@ -47,7 +47,7 @@ pub record IsProblem (b : Block) (stimulus text : List ℕ) : Type 0 where
 pub record IsBreak (b : Block) (stimulus : List ℕ) (row : ℕ) : Type 0 where
   pub vectors : List (List ℕ)
   pub table : table_for b stimulus ≡ Ok vectors
-  pub first : IsFirstBreak b vectors row
+  pub first : IsFirstBreak b.waits (buses b vectors) row
 
 -- the bytes are a table for the block, whose vectors keep the protocol
 pub record IsFitFor (b : Block) (stimulus : List ℕ) : Type 0 where

@@ -8,7 +8,6 @@ ghost use Rattle.machine_run.specs.Runs.{IsRunOf, Prevents, output_pins, table_f
 use crate::RunError;
 use crate::pins::{Pins, pins_of};
 use crate::running::machine_text;
-use crate::watch::protocol_break;
 use rb_base::NoMemory;
 use rb_model::Block;
 use run_text::problem_text;
@@ -31,7 +30,7 @@ pub fn run_machine(alloc: Global, block: &Block, stimulus: &[u8]) -> Result<Vec<
         Ok(table) => table,
         Err(error) => return Err(error),
     };
-    match protocol_break(block, &table) {
+    match table.protocol(block.waits) {
         Some(row) => Err(RunError::Protocol(row)),
         None => Ok(machine_text(alloc, block, &pins.outputs, &table)?),
     }

@@ -5,7 +5,6 @@ mod answer;
 mod error;
 mod pins;
 mod running;
-mod watch;
 
 pub use answer::run_machine;
 pub use error::RunError;

@@ -11,12 +11,16 @@ use Rattle.command_line.specs.Words.{Command, check, compile, map_of, sim, run_o
 use Rattle.command_line.proofs.Asking.{one-command}
 use Rattle.replies.specs.Outcome.{AreRead, AreVerdicts, StopsAt, Texts, Judges, Answers, Outcome, files_of, has_none, source_limit}
 use Rattle.replies.specs.Ends.{Passage, IsCutShort, Ends}
-use Rattle.regblock.specs.Complete.{AreAtHand, AreFit, CanBeDone, FitsSource, IsComplete, IsFit}
-use Rattle.replies.specs.Verdict.{BreaksNone, FailsFirst, IsVerdict}
-use Rattle.replies.proofs.Clean.{clean_list}
+use Rattle.regblock.specs.Complete.{AreAtHand, AreFit, CanBeDone, FitsBlock, IsComplete, IsFit}
+use Rattle.replies.specs.Verdict.{BreaksNone, FailsFirst, IsVerdict, tree}
+use Rattle.rdl_verdict_laws.proofs.OneVerdict.{one, one_block}
 use Rattle.rb_base.specs.declared.fault.Fault.{Fault}
 use Rattle.rb_base.specs.declared.place.Place.{Place}
 use Rattle.rb_base.specs.declared.rule.Rule.{Rule}
+use Rattle.rb_model.specs.declared.block.Block.{Block}
+use Rattle.rdl_tree.specs.declared.item.Source.{Source}
+use Rattle.replies.specs.Verdict.{IsDescribedWith}
+use Rattle.machine_run.specs.Runs.{IsFitFor}
 use Rattle.sim_run.specs.Simulated.{IsModule, IsProblem, IsFitTable}
 use Rattle.machine_run.proofs.Fitting as machine
 use Rattle.sized_source.specs.Source.{source_of}
@@ -56,13 +60,13 @@ no_problem verilog stimulus problem fit bad =
     let wrong : Ok fit.vectors ≡ Err bad.problem = sym table ∙ bad.table in cc
 
 clean_source : (top : Option (List ℕ)) (source : List ℕ) (place : Place) (rule : Rule) → BreaksNone top source → FailsFirst top source place rule → ⊥
-clean_source top source place rule clean fails = let none = clean_list top source _ clean fails.verdict in cc none
+clean_source top source place rule clean fails = let none = one top source [] _ clean fails.verdict in cc none
 
 clean_lists : (top : Option (List ℕ)) (sources : List (List ℕ)) (lists : List (List Fault)) → AllByRecursion (BreaksNone top) sources → AreVerdicts top sources lists → list_all has_none lists ≡ true
 clean_lists top [] [] clean verdicts = refl
 clean_lists top [] (l ∷ ls) clean verdicts = absurd verdicts
 clean_lists top (s ∷ ss) [] clean verdicts = absurd verdicts
-clean_lists top (s ∷ ss) (l ∷ ls) clean verdicts = ap (λ xs. has_none xs && list_all has_none ls) (clean_list top s l clean.0 verdicts.0) ∙ clean_lists top ss ls clean.1 verdicts.1
+clean_lists top (s ∷ ss) (l ∷ ls) clean verdicts = ap (λ xs. has_none xs && list_all has_none ls) (one top s l [] verdicts.0 clean.0) ∙ clean_lists top ss ls clean.1 verdicts.1
 
 -- what is read of fit files breaks no rule
 fit_sources : (top : Option (List ℕ)) (files : Files) (names : List (List ℕ)) (sources : List (List ℕ)) → AllByRecursion (IsFit top files) names → AreRead (Some files) (map (λ name. (name, source_limit)) names) sources → AllByRecursion (BreaksNone top) sources
@@ -71,13 +75,23 @@ fit_sources top files [] (s ∷ ss) fit read = absurd read
 fit_sources top files (n ∷ ns) [] fit read = absurd read
 fit_sources top files (n ∷ ns) (s ∷ ss) fit read = (fit.0 s read.0.held, fit_sources top files ns ss fit.1 read.1)
 
+-- what fits a block fits it in any order of its items
+fits_in_order : (stimulus : List ℕ) (b d : Block) → IsFitFor b stimulus → IsFitFor (record b { order = d.order }) stimulus
+fits_in_order stimulus b d fit = record { vectors = fit.vectors; table = fit.table; kept = fit.kept }
+
+-- a table that fits the block of a source fits what any of its trees describes
+fits_each : (waits : ℕ) (top : Option (List ℕ)) (source stimulus : List ℕ) → FitsBlock waits top source stimulus → (t : Source) (d : Block) → IsDescribedWith top source t waits d → IsFitFor d stimulus
+fits_each waits top source stimulus fit t d is =
+    let same : record fit.block { order = d.order } ≡ d = one_block top source fit.tree t waits fit.block d fit.described.reads is.reads fit.described.block is.block in
+    subst (λ z. IsFitFor z stimulus) same (fits_in_order stimulus fit.block d fit.fits)
+
 -- a table that fits the block of a source is run
-fit_ran : (waits : Option ℕ) (top : Option (List ℕ)) (file table source stimulus : List ℕ) (status : Status) (texts : Texts) → BreaksNone top source × FitsSource (waits_of waits) top source stimulus
+fit_ran : (waits : Option ℕ) (top : Option (List ℕ)) (file table source stimulus : List ℕ) (status : Status) (texts : Texts) → FitsBlock (waits_of waits) top source stimulus
     → Judges (run_of waits top file table) (source ∷ stimulus ∷ []) status texts → status ≡ Done
 fit_ran waits top file table source stimulus Done texts fit judged = refl
-fit_ran waits top file table source stimulus Refused texts fit judged = absurd (clean_source top source judged.place judged.rule fit.0 judged.fails)
-fit_ran waits top file table source stimulus BadStimulus texts fit judged = absurd (machine.no_problem judged.block stimulus judged.problem (fit.1 judged.tree judged.block judged.described) judged.fails)
-fit_ran waits top file table source stimulus Protocol texts fit judged = absurd (machine.no_break judged.block stimulus judged.row (fit.1 judged.tree judged.block judged.described) judged.breaks)
+fit_ran waits top file table source stimulus Refused texts fit judged = absurd (clean_source top source judged.place judged.rule (tree fit.tree fit.described.reads fit.described.clean) judged.fails)
+fit_ran waits top file table source stimulus BadStimulus texts fit judged = absurd (machine.no_problem judged.block stimulus judged.problem (fits_each (waits_of waits) top source stimulus fit judged.tree judged.block judged.described) judged.fails)
+fit_ran waits top file table source stimulus Protocol texts fit judged = absurd (machine.no_break judged.block stimulus judged.row (fits_each (waits_of waits) top source stimulus fit judged.tree judged.block judged.described) judged.breaks)
 fit_ran waits top file table source stimulus _ texts fit judged = absurd judged
 
 module _ (fails : NoModuleFails) where

@@ -23,9 +23,12 @@ AreAtHand files failed (file ∷ more) = ((bytes : List ℕ) × (files file.0 �
 abbrev pub IsFit : Option (List ℕ) → Files → List ℕ → Type 0
 IsFit top files file = (source : List ℕ) → files file ≡ Some source → BreaksNone top source
 
--- the table fits each block that the source describes, and its rows keep the bus protocol
-abbrev pub FitsSource : ℕ → Option (List ℕ) → (source stimulus : List ℕ) → Type 0
-FitsSource waits top source stimulus = (tree : Source) (block : Block) → IsDescribedWith top source tree waits block → IsFitFor block stimulus
+-- The source breaks no rule, the table fits the block that it describes, and its rows keep the bus protocol.
+pub record FitsBlock (waits : ℕ) (top : Option (List ℕ)) (source stimulus : List ℕ) : Type 0 where
+  pub tree : Source
+  pub block : Block
+  pub described : IsDescribedWith top source tree waits block
+  pub fits : IsFitFor block stimulus
 
 -- The command's files are what it asks for: sources that break no rule, a module or a source and a table for it, or the
 -- source that the program writes.
@@ -34,7 +37,7 @@ AreFit (compile waits top file) files = IsFit top files file
 AreFit (check top names) files = All (IsFit top files) names
 AreFit (map_of top file) files = IsFit top files file
 AreFit (sim file table) files = (verilog stimulus : List ℕ) → files file ≡ Some verilog → files table ≡ Some stimulus → IsFitTable verilog stimulus
-AreFit (run_of waits top file table) files = (source stimulus : List ℕ) → files file ≡ Some source → files table ≡ Some stimulus → BreaksNone top source × FitsSource (waits_of waits) top source stimulus
+AreFit (run_of waits top file table) files = (source stimulus : List ℕ) → files file ≡ Some source → files table ≡ Some stimulus → FitsBlock (waits_of waits) top source stimulus
 AreFit (gen_of count) files = BreaksNone None (source_of count)
 
 -- no write to the sink failed

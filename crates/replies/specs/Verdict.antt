@@ -7,7 +7,7 @@ use Rattle.rb_model.specs.declared.block.Block.{Block}
 use Rattle.rb_model.specs.Sound.{IsSound}
 use Rattle.rdl_tree.specs.declared.item.Source.{Source}
 use Rattle.rdl_values.specs.Verdict.{FirstOf}
-use Rattle.rdl_parser.specs.Verdicts.{IsAccepted, Reads}
+use Rattle.rdl_parser.specs.Verdicts.{Reads}
 use Rattle.rdl_rules.specs.Block.{IsBlockOf}
 use Rattle.rdl_verdict.specs.Verdict.{tree_phases}
 pub use Rattle.rdl_verdict.specs.Verdict.{IsVerdict, tree}
@@ -17,10 +17,9 @@ pub record FailsFirst (top : Option (List ℕ)) (source : List ℕ) (place : Pla
   pub others : List Fault
   pub verdict : IsVerdict top source (record { place = place; rule = rule } ∷ others)
 
--- no rule is broken: the text is a source of the grammar, and of each tree that it reads as no rule is broken
-pub record BreaksNone (top : Option (List ℕ)) (source : List ℕ) : Type 0 where
-  pub parsed : IsAccepted source
-  pub clean : (s : Source) → Reads source s.items.now → FirstOf (tree_phases top s) []
+-- the source breaks no rule: its verdict is empty
+abbrev pub BreaksNone : Option (List ℕ) → List ℕ → Type 0
+BreaksNone top source = IsVerdict top source []
 
 -- The text reads as this tree, which breaks no rule and describes this sound block, with so many wait states.
 pub record IsDescribedWith (top : Option (List ℕ)) (source : List ℕ) (s : Source) (waits : ℕ) (b : Block) : Type 0 where

@@ -6,3 +6,5 @@ mod Positions
 mod Headers
 mod Rows
 pub mod Fitting
+mod Watching
+mod Keeping

@@ -3,3 +3,5 @@ pub mod PinTable
 pub mod Records
 pub mod Vectors
 pub mod Columns
+pub mod Buses
+pub mod Watch

@@ -5,6 +5,7 @@ mod cell;
 mod error;
 mod header;
 mod laws;
+mod protocol;
 mod records;
 mod stimulus;
 
