@@ -39,9 +39,17 @@ fn load_all<S: Shelf>(alloc: Global, shelf: &mut S, files: &[String]) -> Result<
     Ok(AllLoaded::Sources(sources))
 }
 
-// Adds the verdict of a source to an answer: of its own text alone.
+// Gives up what an arena holds, so that the next source takes its room, or a new arena where that is refused.
+fn empty(alloc: Global, arena: &mut Bump) {
+    if arena.reset().is_err() {
+        *arena = Bump::new(alloc);
+    }
+}
+
+// Adds the verdict of a source to an answer: of its own text alone. Its trees stay in the arena.
 fn add_verdict(
     alloc: Global,
+    arena: &Bump,
     top: Option<&str>,
     file: &str,
     source: &[u8],
@@ -50,8 +58,7 @@ fn add_verdict(
     requires { length source.now ≤ source_limit }
     ensures { OnOk result (IsOneMore (option_copied top.entry) file.now source.now answer.old answer.new) }
 {
-    let arena = Bump::new(alloc);
-    match judge(alloc, &arena, source, top) {
+    match judge(alloc, arena, source, top) {
         Ok(_judged) => push_ok(&mut answer.out, file),
         Err(JudgeError::Faults(faults)) => {
             answer.status = Status::Refused;
@@ -61,7 +68,7 @@ fn add_verdict(
     }
 }
 
-// The verdicts of all sources.
+// The verdicts of all sources, over one arena.
 fn check_sources(
     alloc: Global,
     top: Option<&str>,
@@ -77,8 +84,17 @@ fn check_sources(
         err: Vec::new(alloc),
         out: Vec::new(alloc),
     };
+    let mut arena = Bump::new(alloc);
     for at in 0..files.len() {
-        add_verdict(alloc, top, files[at].as_str(), &sources[at], &mut answer)?;
+        empty(alloc, &mut arena);
+        add_verdict(
+            alloc,
+            &arena,
+            top,
+            files[at].as_str(),
+            &sources[at],
+            &mut answer,
+        )?;
     }
     Ok(answer)
 }
