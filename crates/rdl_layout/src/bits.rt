@@ -27,13 +27,15 @@ pub struct FieldBits {
 }
 
 impl Field {
-    ghost use Rattle.std.specs.Prelude.{◌≡◌, IfSome};
+    ghost use Rattle.std.specs.Prelude.{◌≡◌, ◌+◌, ◌<◌, ◌≤◌, ◌^◌, IfNone, IfSome, None};
     ghost use Rattle.rdl_layout.specs.Fields as spec;
 
-    /// Its bits: its range, else as many bits as it is wide from this one on. None at or above 2^128.
+    /// Its bits: its range, else as many bits as it is wide from this one on. None where those would end at or above 2^128.
     fn bits_at(self, next: u128) -> Option<FieldBits>
         requires { spec.IsFit self }
-        ensures { IfSome result (λ b. b ≡ spec.bits_at next self) }
+        ensures bits { IfSome result (λ b. b ≡ spec.bits_at next self) }
+        ensures below { IfSome result (λ b. b.high + 1 < 2 ^ 128) }
+        ensures none { IfNone result ((self.range ≡ None) × (2 ^ 128 ≤ next + self.width)) }
     {
         let (high, low) = match self.range {
             Some((high, low)) => (u128::from(high), u128::from(low)),
@@ -87,11 +89,8 @@ pub fn bits_of(alloc: Global, fields: &[Field]) -> Result<Vec<FieldBits>, NoMemo
         let Some(one) = field.bits_at(next) else {
             return Err(NoMemory);
         };
-        let Some(above) = one.high.checked_add(1) else {
-            return Err(NoMemory);
-        };
         bits.push(one)?;
-        next = above;
+        next = one.high + 1;
     }
     Ok(bits)
 }

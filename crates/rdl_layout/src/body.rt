@@ -1,6 +1,6 @@
 //! Where the instances of a body start, and where the last of them ends.
 
-ghost use Rattle.std.specs.Prelude.{◌≡◌, ◌<◌, IfOk, IfSome};
+ghost use Rattle.std.specs.Prelude.{◌≡◌, ◌<◌, ◌≤◌, ◌^◌, ◌⊎◌, IfNone, IfOk, IfSome};
 ghost use Rattle.std.specs.List.{All};
 ghost use Rattle.rdl_layout.specs.Parts as spec;
 
@@ -15,9 +15,12 @@ pub struct Body {
     pub end: u128,
 }
 
+/// Where an instance starts and ends, where the one before it ends. None where it would end at or above 2^128, or where what its
+/// start is a multiple of is none.
 fn start_and_end(part: &Part, mode: Mode, before: u128) -> Option<(u128, u128)>
     requires { 0 < part.now.access }
-    ensures { IfSome result (λ r. (r.0 ≡ spec.start mode before part.now) × (r.1 ≡ spec.end mode before part.now)) }
+    ensures some { IfSome result (λ r. (r.0 ≡ spec.start mode before part.now) × (r.1 ≡ spec.end mode before part.now)) }
+    ensures none { IfNone result ((2 ^ 128 ≤ spec.alignment mode part.now) ⊎ (2 ^ 128 ≤ spec.end mode before part.now)) }
 {
     let start = part.start(mode, before)?;
     let end = start.checked_add(part.span(mode)?)?;
