@@ -1,8 +1,8 @@
 mod Values
 mod Splits
 mod Classes
-mod Fronts
+pub mod Fronts
 mod Sizes
-mod NumberFronts
-mod Steps
+pub mod NumberFronts
+pub mod Steps
 mod InOrder
