@@ -1,5 +1,5 @@
 //! The interrupts of registers, and the addresses of words.
-ghost use Rattle.std.specs.Prelude.{◌≡◌, ◌<◌, [], ℕ, IfOk, Some, length, map, slice_get};
+ghost use Rattle.std.specs.Prelude.{◌≡◌, ◌<◌, ◌≤◌, ◌^◌, [], ℕ, IfOk, OnErr, Some, length, map, slice_get};
 ghost use Rattle.rb_model.specs.declared.block.Field.{Field};
 ghost use Rattle.rb_plan.specs.Plan.{members_among, members_at};
 
@@ -8,9 +8,10 @@ use rb_effects::is_interrupt;
 use rb_model::{Field, Word};
 use std::alloc::Global;
 
-/// The number of an index.
+/// The number of an index. The only error is an index at or above 2^32.
 pub(crate) fn number_of(index: usize) -> Result<u32, NoMemory>
-    ensures { IfOk result (λ n. n ≡ index) }
+    ensures is { IfOk result (λ n. n ≡ index) }
+    ensures over { OnErr result (2 ^ 32 ≤ index) }
 {
     // A list of so many parts would have ended memory long before.
     match u32::try_from(index) {

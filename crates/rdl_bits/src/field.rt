@@ -1,12 +1,14 @@
 //! A field of a register, by numbers.
 
-ghost use Rattle.std.specs.Prelude.{◌≡◌, ◌<◌, IfSome, List, Some, slice_get, true};
+ghost use Rattle.std.specs.Prelude.{◌≡◌, ◌<◌, IfNone, IfSome, List, Some, option_to_list, slice_get, true};
 ghost use Rattle.rdl_tree.specs.declared.item.Kind.TheVariants as kinds;
 ghost use Rattle.rdl_tree.specs.declared.node.Node.{Node as AnyNode, out-Node};
 ghost use Rattle.rdl_values.specs.Elaborated.{Says, nodes_of};
 ghost use Rattle.rdl_values.specs.Instances.{Instance, kind_of};
 ghost use Rattle.rdl_values.specs.Seen.{around_of};
+ghost use Rattle.rdl_layers.specs.Phase4.{range_of};
 ghost use Rattle.rdl_layout.specs.Fields as fields;
+ghost use Rattle.rdl_layout.specs.declared.bits.Field.{Field as AnyField};
 ghost use Rattle.rdl_addr.specs.Fields.{IsFieldOf};
 ghost use Rattle.rdl_sizes.specs.Bodies.{HasText};
 
@@ -21,7 +23,8 @@ use rdl_values::Visible;
 /// The field whose text this is.
 fn of_text<'a>(props: &Props<'_>, child: &Node<'a>, inst: &Inst<'a>, env: &Env<'a>) -> Field
     requires { (out-Node child.now).id < props.now.count }
-    ensures { (beside : List AnyNode) (c : Instance) → slice_get (nodes_of props.now) (out-Node child.now).id ≡ Some c → Says beside child.now c → HasText (around_of env.now) c → c.use_.inst ≡ Some inst.now
+    ensures range { (c : Instance) → HasText (around_of env.now) c → c.use_.inst ≡ Some inst.now → option_to_list result.range ≡ range_of c }
+    ensures field { (beside : List AnyNode) (c : Instance) → slice_get (nodes_of props.now) (out-Node child.now).id ≡ Some c → Says beside child.now c → HasText (around_of env.now) c → c.use_.inst ≡ Some inst.now
         → kind_of c ≡ kinds.Field → fields.IsRange result.range → IsFieldOf result c }
 {
     first_related_decides();
@@ -45,6 +48,8 @@ pub(crate) fn field_of<'a>(props: &Props<'_>, child: &Node<'a>, env: &Env<'a>) -
     ensures fit { IfSome result fields.IsFit }
     ensures field { IfSome result (λ f. (beside : List AnyNode) (c : Instance) → slice_get (nodes_of props.now) (out-Node child.now).id ≡ Some c → Says beside child.now c → HasText (around_of env.now) c
         → kind_of c ≡ kinds.Field → IsFieldOf f c) }
+    ensures none { IfNone result ((beside : List AnyNode) (c : Instance) → slice_get (nodes_of props.now) (out-Node child.now).id ≡ Some c → Says beside child.now c → HasText (around_of env.now) c
+        → kind_of c ≡ kinds.Field → (f : AnyField) → IsFieldOf f c → ¬ (fields.IsFit f)) }
 {
     let field = of_text(props, child, child.inst?, env);
     if is_fit(&field) { Some(field) } else { None }

@@ -1,6 +1,6 @@
 //! The fields of a register, by numbers.
 
-ghost use Rattle.std.specs.Prelude.{◌≡◌, ◌<◌, IfOk, IsTrue, OnOk, ◌++◌, ◌∷◌, [], List, Some, cond, slice_get};
+ghost use Rattle.std.specs.Prelude.{◌≡◌, ◌<◌, ◌↔◌, IfOk, IsTrue, OnOk, ◌++◌, ◌∷◌, [], List, Some, cond, slice_get};
 ghost use Rattle.std.specs.List.{All};
 ghost use Rattle.rdl_tree.specs.declared.item.Kind.TheVariants as kinds;
 ghost use Rattle.rdl_tree.specs.declared.node.Node.{Node as AnyNode, out-Node};
@@ -61,15 +61,16 @@ pub(crate) fn fields_in(
     Ok(fields)
 }
 
+/// Whether it has 1 to 64 bits, below 2^128 - 1.
 fn is_span(bits: &FieldBits) -> bool
-    ensures { IsTrue result → spec.IsSpan bits.now }
+    ensures { IsTrue result ↔ spec.IsSpan bits.now }
 {
     bits.low <= bits.high && bits.high - bits.low < 64 && bits.high < u128::MAX
 }
 
 /// Whether each has 1 to 64 bits, below 2^128 - 1.
 pub(crate) fn are_spans(bits: &[FieldBits]) -> bool
-    ensures { IsTrue result → All spec.IsSpan bits.now }
+    ensures { IsTrue result ↔ All spec.IsSpan bits.now }
 {
     for one in bits {
         if !is_span(one) {

@@ -1,6 +1,6 @@
 //! What settings and texts say of the width of a field and of what software does with it.
 
-ghost use Rattle.std.specs.Prelude.{◌≡◌, ℕ, ◌+◌, ◌-◌, ◌<◌, ◌≤◌, IfSome, IsTrue, Some, slice_get, unwrap_or};
+ghost use Rattle.std.specs.Prelude.{◌≡◌, ℕ, ◌+◌, ◌-◌, ◌<◌, ◌≤◌, ◌↔◌, IfSome, IsTrue, Some, slice_get, unwrap_or};
 ghost use Rattle.rdl_props.specs.declared.prop.Prop.TheVariants as props_;
 ghost use Rattle.rdl_values.specs.Elaborated.{nodes_of};
 ghost use Rattle.rdl_values.specs.Instances.{Instance};
@@ -69,7 +69,7 @@ pub(crate) fn width_by(bracket: Option<u64>, range: Option<(u64, u64)>, set: u64
 
 /// Whether a range has 1 to 64 bits, if there is one.
 fn is_range(range: Option<(u64, u64)>) -> bool
-    ensures { IsTrue result → fields.IsRange range }
+    ensures { IsTrue result ↔ fields.IsRange range }
 {
     match range {
         Some((high, low)) => low <= high && high - low < 64,
@@ -79,7 +79,7 @@ fn is_range(range: Option<(u64, u64)>) -> bool
 
 /// Whether a field has 1 to 64 bits.
 pub(crate) fn is_fit(field: &Field) -> bool
-    ensures { IsTrue result → fields.IsFit field.now }
+    ensures { IsTrue result ↔ fields.IsFit field.now }
 {
     0 < field.width && field.width <= 64 && is_range(field.range)
 }

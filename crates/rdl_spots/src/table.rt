@@ -1,6 +1,6 @@
 //! The addresses of all nodes, from the first to the last.
 
-ghost use Rattle.std.specs.Prelude.{◌≡◌, ◌<◌, IfOk, IfSome, length};
+ghost use Rattle.std.specs.Prelude.{◌≡◌, ◌<◌, ◌^◌, IfOk, SomeIff, length};
 ghost use Rattle.rdl_values.specs.Elaboration.{IsClean};
 ghost use Rattle.rdl_index.specs.Rows.{AreRows};
 ghost use Rattle.rdl_sizes.specs.Modes.{IsBelow};
@@ -16,7 +16,7 @@ use std::alloc::Global;
 /// Where a node stands, in bytes: so far behind the node of this number, or at 0 where there is none. None at or above 2^128.
 fn address(addresses: &[u128], parent: Option<u32>, offset: u128) -> Option<u128>
     requires { IsBelow (length addresses.now) parent }
-    ensures { IfSome result (λ a. a ≡ address_by addresses.now parent offset) }
+    ensures { SomeIff result (address_by addresses.now parent offset < 2 ^ 128) (address_by addresses.now parent offset) }
 {
     match parent {
         Some(parent) => addresses[parent as usize].checked_add(offset),

@@ -22,10 +22,10 @@ loop-index-preserved c =
     let before : (k : ℕ) (g : Field) → k < i → slice_get fields k ≡ Some g → (p : FieldKept) × (slice_get c.loop-index.of.items k ≡ Some p) × AreFieldKept new k g p
     = λ k g l here. let (p, at, are) = c.loop-index.invariant.placed k g l here in (p, at, subst (λ (ks : List Kept). AreFieldKept ks k g p) (sym grown) (stay old (kept_of (number, f)) k g p are)) in
     record {
-      all = numbered_more kept_of fields i number f [] old new c.loop-index-test.true c.index-fields-index.is c.in_ok-number_of.ensures c.loop-index.invariant.all grown;
+      all = numbered_more kept_of fields i number f [] old new c.loop-index-test.true c.index-fields-index.is c.in_ok-number_of.ensures.is c.loop-index.invariant.all grown;
       sized = ap length c.in_ok-push.ensures.items ∙ omega (arith, length-append c.loop-index.of.items (c.in_ok-placed_of.field-0 ∷ []), c.loop-index.invariant.sized);
       placed = paired_more (AreFieldKept new) fields i f c.loop-index.of.items c.push.new.self.items c.in_ok-placed_of.field-0 c.loop-index-test.true c.index-fields-index.is c.loop-index.invariant.sized c.in_ok-push.ensures.items
-          (subst (λ m. AreFieldKept new m f c.in_ok-placed_of.field-0) c.in_ok-number_of.ensures c.in_ok-placed_of.ensures.places) before;
+          (subst (λ m. AreFieldKept new m f c.in_ok-placed_of.field-0) c.in_ok-number_of.ensures.is c.in_ok-placed_of.ensures.places) before;
     }
 
 pub returns : goal.returns

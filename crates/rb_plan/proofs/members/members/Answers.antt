@@ -26,7 +26,7 @@ loop-index-preserved c =
     let room : g.reg < c.args.regs = c.requires i g (slice_get_read fields (length fields) i g refl c.loop-index-test.true c.index-fields-index.is) in
     record {
       sized = length-set c.loop-index.all.items g.reg c.push.new.self ∙ c.loop-index.invariant.sized;
-      listed = listed_more fields c.loop-index.all.items i g c.index_mut.result.now c.push.new.self c.in_ok-number_of.field-0 c.loop-index-test.true c.index-fields-index.is (sym c.is_interrupt.ensures ∙ c.if-not-is_interrupt.false) (omega (arith, room, c.loop-index.invariant.sized)) c.index_mut.ensures.value c.in_ok-number_of.ensures c.in_ok-push.ensures.items
+      listed = listed_more fields c.loop-index.all.items i g c.index_mut.result.now c.push.new.self c.in_ok-number_of.field-0 c.loop-index-test.true c.index-fields-index.is (sym c.is_interrupt.ensures ∙ c.if-not-is_interrupt.false) (omega (arith, room, c.loop-index.invariant.sized)) c.index_mut.ensures.value c.in_ok-number_of.ensures.is c.in_ok-push.ensures.items
           c.loop-index.invariant.listed;
     }
 

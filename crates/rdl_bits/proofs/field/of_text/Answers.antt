@@ -5,8 +5,14 @@ use Rattle.rdl_addr.specs.Texts.{IsText}
 use Rattle.rdl_bits.proofs.Fielded.{dims-are, range-is, set-is, width-is}
 use Rattle.rdl_bits.proofs.field.of_text.Goals as goal
 
-pub returns : goal.returns
-returns c = λ beside n here says text inst field range.
+pub returns-clause-range : goal.returns-clause-range
+returns-clause-range c = λ n text inst.
+    let one : text.0 ≡ c.args.inst.now = (let q = sym text.1 ∙ inst in cc q) in
+    let is : IsText c.args.inst.now (around_of c.args.env.now) n = subst (λ i. IsText i (around_of c.args.env.now) n) one text.2 in
+    c.range_given-range.ensures ∙ sym (range-is c.args.inst.now (around_of c.args.env.now) n is)
+
+pub returns-clause-field : goal.returns-clause-field
+returns-clause-field c = λ beside n here says text inst field range.
     let one : text.0 ≡ c.args.inst.now = (let q = sym text.1 ∙ inst in cc q) in
     let is : IsText c.args.inst.now (around_of c.args.env.now) n = subst (λ i. IsText i (around_of c.args.env.now) n) one text.2 in
     let ranged = c.range_given-range.ensures ∙ sym (range-is c.args.inst.now (around_of c.args.env.now) n is) in

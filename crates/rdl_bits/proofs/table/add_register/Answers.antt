@@ -68,7 +68,7 @@ returns c =
     let body : IsBodyOf e node r.0 = record { number = (out-Node node).id; here = r.3; inside = inside; env_ = subst (λ y. around_of (out-Node y).env.now ≡ around_body r.0.node) r.2 r.4.says.env } in
     let are = subst (λ fs. AreFieldsOf fs (fields_of r.0.node)) (sym c.deref.ensures.value) (c.in_ok-fields.ensures.fields r.0 body) in
     let cs = c.deref-5.result.now in
-    let spans = subst (All fields.IsSpan) (c.deref-2.ensures.value ∙ sym c.deref-5.ensures.value) (c.are_spans.ensures c.if-not-are_spans.false) in
+    let spans = subst (All fields.IsSpan) (c.deref-2.ensures.value ∙ sym c.deref-5.ensures.value) (c.are_spans.ensures.0 c.if-not-are_spans.false) in
     let width = c.number.ensures r.0.node (node-at e (out-Node node).id r.0 r.3) in
     let found = c.deref-4.ensures.value ∙ (c.in_ok-faults.ensures ∙ ap (fields.faults c.number.result) (c.deref-3.ensures.value ∙ sym c.deref-5.ensures.value)) in
     let new : BitTable = record { bits = with_items old.bits c.write_bits.new.table; faults = c.add_all.new.faults } in

@@ -36,7 +36,7 @@ loop-at-preserved c =
       many = (let s = length-append c.loop-at.addresses.items (c.in-Some.next ∷ []) in let m = c.loop-at.invariant.many in ap length c.in_ok-push.ensures.items ∙ (omega (arith, s, m)));
       first =
           addresses-more e c.args.rows.now c.requires.rows c.args.sizes.now c.requires.sizes i x c.loop-at-test.true c.index-rows-at.is c.loop-at.addresses.items c.loop-at.invariant.many c.loop-at.invariant.first c.in-Some.next
-          (c.in-Some.ensures ∙ (λ j. address_by (c.deref.ensures.value j) x.parent (offset j))) c.push.new.self.items c.in_ok-push.ensures.items;
+          (c.in-Some.ensures.1 ∙ (λ j. address_by (c.deref.ensures.value j) x.parent (offset j))) c.push.new.self.items c.in_ok-push.ensures.items;
     }
 
 pub returns : goal.returns
