@@ -1,6 +1,6 @@
 //! The items that a block's behaviour needs.
 
-ghost use Rattle.std.specs.Prelude.{◌≡◌, ◌<◌, ◌∷◌, [], ℕ, IfOk, OnOk, Some, length, slice_get};
+ghost use Rattle.std.specs.Prelude.{◌≡◌, ◌<◌, ◌≤◌, ◌^◌, ◌∷◌, [], ℕ, IfOk, OnErr, OnOk, Some, length, slice_get};
 ghost use Rattle.rb_model.specs.declared.block.Field.{Field};
 ghost use Rattle.rb_model.specs.declared.block.View.{View};
 ghost use Rattle.rb_model.specs.declared.kinds.RefItem.{RefItem};
@@ -39,10 +39,11 @@ fn want_outlets(wanted: &mut [bool], plan: &Plan)
     }
 }
 
-/// Wants the values of all fields, and what hardware's steps on them refer to.
+/// Wants the values of all fields, and what hardware's steps on them refer to. The only error is 2^32 fields or more.
 fn want_fields(wanted: &mut [bool], block: &Block) -> Result<(), NoMemory>
     ensures older { OnOk result (IsMore wanted.old wanted.new) }
     ensures fields { OnOk result ((k : ℕ) (f : Field) → slice_get block.now.fields k ≡ Some f → AreIn wanted.new (field_needs k f)) }
+    ensures over { OnErr result (2 ^ 32 ≤ length block.now.fields) }
 {
     for (index, field) in block.fields.items.iter().enumerate() {
         // A list of so many fields would have ended memory long before.
@@ -82,13 +83,14 @@ fn close(wanted: &mut [bool], block: &Block, plan: &Plan)
     }
 }
 
-/// Wants the items that the behaviour of the whole block needs.
+/// Wants the items that the behaviour of the whole block needs. The only error is 2^32 fields or more.
 fn want_all(wanted: &mut [bool], block: &Block, plan: &Plan) -> Result<(), NoMemory>
     requires sound { IsSound block.now }
     requires planned { IsPlanOf block.now plan.now }
     requires room { (k : ℕ) (i : RefItem) → slice_get block.now.order k ≡ Some i → places.item_place i < length wanted.old }
     ensures all { OnOk result (IsAllWanted block.now wanted.new) }
     ensures closed { OnOk result (IsClosed block.now wanted.new) }
+    ensures over { OnErr result (2 ^ 32 ≤ length block.now.fields) }
 {
     want_outlets(wanted, plan);
     want_fields(wanted, block)?;

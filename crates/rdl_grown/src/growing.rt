@@ -1,6 +1,6 @@
 //! A tree that grows.
 
-ghost use Rattle.std.specs.Prelude.{◌≡◌, ◌+◌, IfOk};
+ghost use Rattle.std.specs.Prelude.{◌≡◌, ◌+◌, ◌^◌, IfOk, OnErr};
 
 use rb_base::NoMemory;
 use rdl_walk::Walk;
@@ -13,11 +13,12 @@ pub(crate) struct Growing<'a> {
 }
 
 impl<'a> Growing<'a> {
-    /// The number of the next node.
+    /// The number of the next node. The only error is a number behind which a u32 has none.
     pub(crate) fn number(&mut self) -> Result<u32, NoMemory>
         ensures walk { self.new.walk ≡ self.old.walk }
         ensures number { IfOk result (λ k. k ≡ self.old.count) }
         ensures next { IfOk result (λ k. self.new.count ≡ self.old.count + 1) }
+        ensures over { OnErr result (self.old.count + 1 ≡ 2 ^ 32) }
     {
         let number = self.count;
         // No memory holds so many nodes.

@@ -1,6 +1,6 @@
 //! All items in order, and where those of each node start.
 
-ghost use Rattle.std.specs.Prelude.{◌≡◌, ◌<◌, ◌^◌, IfOk, slice_get};
+ghost use Rattle.std.specs.Prelude.{◌≡◌, ◌<◌, ◌≤◌, ◌^◌, IfOk, OnErr, slice_get};
 ghost use Rattle.rdl_values.specs.Elaboration.{IsClean};
 ghost use Rattle.rdl_index.specs.Rows.{AreRows};
 ghost use Rattle.rdl_item_numbers.specs.Numbered.{AreNumbers};
@@ -52,10 +52,11 @@ impl Numbers {
     }
 }
 
-/// A count below 2^32.
+/// A count below 2^32. The only error is another.
 fn small(count: usize) -> Result<u32, NoMemory>
     ensures is { IfOk result (λ n. n ≡ count) }
     ensures below { IfOk result (λ n. count < 2 ^ 32) }
+    ensures over { OnErr result (2 ^ 32 ≤ count) }
 {
     match u32::try_from(count) {
         Ok(small) => Ok(small),

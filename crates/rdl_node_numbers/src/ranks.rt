@@ -1,6 +1,6 @@
 //! Numbers among those that are marked.
 
-ghost use Rattle.std.specs.Prelude.{◌≡◌, ◌<◌, ◌^◌, IfOk, length};
+ghost use Rattle.std.specs.Prelude.{◌≡◌, ◌<◌, ◌≤◌, ◌^◌, IfOk, OnErr, length};
 ghost use Rattle.rdl_node_numbers.specs.Ranks as ranks_of;
 ghost use Rattle.rdl_node_numbers.specs.Ranks.{AreRanksTo};
 
@@ -20,10 +20,11 @@ fn marked(marks: &[bool]) -> usize
     count
 }
 
-/// A count below 2^32.
+/// A count below 2^32. The only error is another.
 fn small(count: usize) -> Result<u32, NoMemory>
     ensures is { IfOk result (λ n. n ≡ count) }
     ensures below { IfOk result (λ n. count < 2 ^ 32) }
+    ensures over { OnErr result (2 ^ 32 ≤ count) }
 {
     match u32::try_from(count) {
         Ok(small) => Ok(small),

@@ -1,6 +1,6 @@
 //! The registers of a tree, in node order.
 
-ghost use Rattle.std.specs.Prelude.{◌≡◌, ◌+◌, ◌<◌, ◌^◌, IfOk, IsTrue, OnOk, Some, slice_get, true};
+ghost use Rattle.std.specs.Prelude.{◌≡◌, ◌+◌, ◌<◌, ◌^◌, ◌↔◌, IfOk, IsTrue, OnOk, Some, slice_get, true};
 ghost use Rattle.rdl_props.specs.Same.{same_kind};
 ghost use Rattle.rdl_tree.specs.declared.item.Kind.TheVariants as kinds;
 ghost use Rattle.rdl_tree.specs.declared.node.Node.{out-Node};
@@ -29,7 +29,7 @@ fn is_register(kind: Kind) -> bool
 
 /// Whether a register ends below 2^128.
 fn ends_below(register: &Register) -> bool
-    ensures { IsTrue result → register.now.address + register.now.size < 2 ^ 128 }
+    ensures { IsTrue result ↔ register.now.address + register.now.size < 2 ^ 128 }
 {
     register
         .address

@@ -1,6 +1,6 @@
 //! A register of a tree.
 
-ghost use Rattle.std.specs.Prelude.{◌≡◌, ◌+◌, ◌<◌, ◌^◌, IfOk, Some, slice_get, true};
+ghost use Rattle.std.specs.Prelude.{◌≡◌, ◌+◌, ◌<◌, ◌≤◌, ◌^◌, IfOk, OnErr, Some, slice_get, true};
 ghost use Rattle.rdl_tree.specs.declared.item.Kind.TheVariants as kinds;
 ghost use Rattle.rdl_tree.specs.declared.node.Node.{out-Node};
 ghost use Rattle.rdl_values.specs.Elaborated.{nodes_of};
@@ -44,6 +44,7 @@ fn is_written(side: Side) -> bool
 pub(crate) fn behind(number: u32, count: usize) -> Result<u32, NoMemory>
     ensures is { IfOk result (λ next. next ≡ number + count) }
     ensures below { IfOk result (λ next. number + count < 2 ^ 32) }
+    ensures over { OnErr result (2 ^ 32 ≤ number + count) }
 {
     let Ok(count) = u32::try_from(count) else {
         return Err(NoMemory);

@@ -19,7 +19,7 @@ returns-in_default c = λ e scope clean are seen. nowhere e (no-steps e c.args.p
 pub returns-in_default-nearest : goal.returns-in_default-nearest
 returns-in_default-nearest c = λ e scope clean are seen.
     let ps = map (λ l. l.node) scope in
-    let many = bodies-many scope (around_of c.args.from.env.now) c.in-Some.bodies seen.visible c.in-Some.ensures in
+    let many = bodies-many scope (around_of c.args.from.env.now) c.in-Some.bodies seen.visible c.in-Some.ensures.depth in
     let near = c.nearest.ensures e ps clean are seen.root_ many seen.chain in
     nowhere e (led-nowhere e c.args.path.now scope (out-Path c.args.path.now).steps.now _ (steps_of_code c.args.path.now) c.in-len1-up.len_at_least (subst (IsNearest e _ ps) c.in_default-nearest.is near))
 
@@ -27,7 +27,7 @@ pub returns : goal.returns
 returns c =
     if-ok c.led_on.result _ _ (λ r h e scope clean are seen.
     let ps = map (λ l. l.node) scope in
-    let many = bodies-many scope (around_of c.args.from.env.now) c.in-Some.bodies seen.visible c.in-Some.ensures in
+    let many = bodies-many scope (around_of c.args.from.env.now) c.in-Some.bodies seen.visible c.in-Some.ensures.depth in
     let near = subst (IsNearest e _ ps) c.in-Some-nearest.is (c.nearest.ensures e ps clean are seen.root_ many seen.chain) in
     let there = led-there e c.args.path.now scope (out-Path c.args.path.now).steps.now _ c.in-Some-nearest.body (steps_of_code c.args.path.now) c.in-len1-up.len_at_least near in
     let low = body-low e (count-is e clean) there.0 c.in-Some-nearest.body there.1 in

@@ -41,4 +41,4 @@ returns c =
     let inside = subst (λ y. AreInside (lineages_of e) (r.0.node ∷ r.0.ancestors) (out-Node y).children.now (out-Node y).children.now (children r.0.node)) r.3 r.4.inside in
     let reg : is_register r.0 ≡ true = ap (same_kind kinds.Reg) (sym says.kind) ∙ (sym c.is_register.ensures ∙ c.if-not-is_register.false) in
     taken-up e (out-Node c.args.node.now).id r.0 r.1 c.args.registers.now.items c.requires.before reg c.args.address (r.5 (reg-placed r.0.node reg)) c.numbers_of-register.result
-    (c.numbers_of-register.ensures r.4.beside r.0 r.1 says inside) c.requires.settled (c.ends_below.ensures c.if-not-ends_below.false) c.push.new.self.items c.in_ok-push.ensures.items
+    (c.numbers_of-register.ensures r.4.beside r.0 r.1 says inside) c.requires.settled (c.ends_below.ensures.0 c.if-not-ends_below.false) c.push.new.self.items c.in_ok-push.ensures.items
