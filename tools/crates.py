@@ -1,7 +1,11 @@
-"""The crates of this repository: what each stands on, and in which order they can be proved."""
+"""The crates of this repository: what each stands on, in which order they can be proved, and how some of them are copied."""
 import os
+import shutil
 
 ROOT = os.path.dirname(os.path.dirname(os.path.abspath(__file__)))
+PROGRAM = "regblock_main"
+FOLDERS_OF_A_CRATE = ("src", "specs", "proofs", "data")
+FILES_OF_A_PROGRAM = ("args", "stdin", "stdout", "status")
 
 
 def crates_below(root=ROOT):
@@ -73,3 +77,39 @@ def lines_of(name, root=ROOT):
 
 def is_program(name, root=ROOT):
     return os.path.isfile(f"{root}/crates/{name}/src/main.rt")
+
+
+def program_at_hand(root=ROOT):
+    """The program that the gate built here, or else the one that ./rdlregs-prove did, or else the release."""
+    places = (f"crates/{PROGRAM}/out/{PROGRAM}", ".build/rdlregs", "release/rdlregs-x86_64-linux")
+    return next((f"{root}/{it}" for it in places if os.access(f"{root}/{it}", os.X_OK)), None)
+
+
+def copy_crate(name, folder):
+    """Makes a crate's folder hold what a proof and a run of it read."""
+    source, target = f"{ROOT}/crates/{name}", f"{folder}/crates/{name}"
+    os.makedirs(target, exist_ok=True)
+    for part in FOLDERS_OF_A_CRATE:
+        shutil.rmtree(f"{target}/{part}", ignore_errors=True)
+        if os.path.isdir(f"{source}/{part}"):
+            shutil.copytree(f"{source}/{part}", f"{target}/{part}")
+    for part in FILES_OF_A_PROGRAM:
+        if os.path.isfile(f"{source}/{part}"):
+            shutil.copyfile(f"{source}/{part}", f"{target}/{part}")
+        elif os.path.isfile(f"{target}/{part}"):
+            os.remove(f"{target}/{part}")
+
+
+def lay_out(wanted, folder):
+    """Puts the crates wanted, and no others, into the folder, which is a repository of its own for `rt`."""
+    for it in ("crates", ".git"):
+        os.makedirs(f"{folder}/{it}", exist_ok=True)
+    shutil.copyfile(f"{ROOT}/HANDLES", f"{folder}/HANDLES")
+    with open(f"{ROOT}/crates.txt", encoding="utf-8") as lines:
+        kept = [it for it in lines if it.partition(":")[0].split()[:1] and it.partition(":")[0].split()[0] in wanted]
+    with open(f"{folder}/crates.txt", "w", encoding="utf-8") as it:
+        it.writelines(kept)
+    for name in set(os.listdir(f"{folder}/crates")) - wanted:
+        shutil.rmtree(f"{folder}/crates/{name}")
+    for name in wanted:
+        copy_crate(name, folder)
