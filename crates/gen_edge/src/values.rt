@@ -1,6 +1,6 @@
 //! What fields have next, but for resets.
 
-ghost use Rattle.std.specs.Prelude.{◌≡◌, ◌<◌, ℕ, IfOk, OnOk, Some, length, slice_get, if◌then◌else◌};
+ghost use Rattle.std.specs.Prelude.{◌≡◌, ◌<◌, ◌≤◌, ◌^◌, ℕ, IfOk, OnErr, OnOk, Some, length, slice_get, if◌then◌else◌};
 ghost use Rattle.rtl_net.specs.Net.{Grows};
 ghost use Rattle.rb_model.specs.Items.{Now, ItemValues};
 ghost use Rattle.rb_model.specs.Kept.{Done};
@@ -20,9 +20,10 @@ use rb_model::{Field, RefItem};
 use rtl_net::{Id, Netlist};
 use std::alloc::Global;
 
-/// The number of an index.
+/// The number of an index. The only error is an index at or above 2^32.
 fn number_of(index: usize) -> Result<u32, NoMemory>
-    ensures { IfOk result (λ n. n ≡ index) }
+    ensures is { IfOk result (λ n. n ≡ index) }
+    ensures over { OnErr result (2 ^ 32 ≤ index) }
 {
     // A list of so many fields would have ended memory long before.
     match u32::try_from(index) {

@@ -1,6 +1,6 @@
 //! A block and the bytes of a table, to a run.
 
-ghost use Rattle.std.specs.Prelude.{◌≡◌, Ok, IfOk, IfErr};
+ghost use Rattle.std.specs.Prelude.{◌≡◌, ◌≤◌, ◌^◌, Ok, IfOk, IfErr, OnErr};
 ghost use Rattle.rb_model.specs.Ports.{input_pins};
 ghost use Rattle.rb_model.specs.Sound.{IsSound};
 ghost use Rattle.machine_run.specs.Runs.{IsRunOf, Prevents, output_pins, table_for as table_of_bytes};
@@ -36,9 +36,10 @@ pub fn run_machine(alloc: Global, block: &Block, stimulus: &[u8]) -> Result<Vec<
     }
 }
 
-/// How many outputs a block has.
+/// How many outputs a block has. The only error is a count at or above 2^32.
 fn count(outputs: usize) -> Result<u32, NoMemory>
-    ensures { IfOk result (λ n. n ≡ outputs) }
+    ensures is { IfOk result (λ n. n ≡ outputs) }
+    ensures over { OnErr result (2 ^ 32 ≤ outputs) }
 {
     // A list of so many pins would have ended memory long before.
     match u32::try_from(outputs) {

@@ -1,5 +1,5 @@
 -- Chains of bodies, one more at a time.
-use Rattle.std.proofs.Common.{◌≡◌, ◌∙◌, ℕ, zero, suc, ◌+◌, ◌≤◌, ◌<◌, ◌⊎◌, inl, inr, List, [], ◌∷◌, ◌++◌, drop, get_or, length, map, Option, None, Some, slice_get, refl, sym, ap, subst, arith, length-append}
+use Rattle.std.proofs.Common.{◌≡◌, ◌∙◌, ℕ, zero, suc, ◌+◌, ◌^◌, ◌≤◌, ◌<◌, ◌⊎◌, inl, inr, List, [], ◌∷◌, ◌++◌, drop, get_or, length, map, IfNone, Option, None, Some, slice_get, refl, sym, ap, subst, arith, length-append}
 use Rattle.std.specs.List.{AllByRecursion}
 use Rattle.rdl_tree.specs.declared.item.Source.{Source}
 use Rattle.rdl_tree.specs.declared.node.Elab.{Elab}
@@ -15,12 +15,12 @@ use Rattle.rdl_index.specs.declared.table.Row.{Row}
 use Rattle.rdl_index.specs.Rows.{AreRows, IsParent}
 use Rattle.rdl_lineages.proofs.Members.{each-in, get-within, place-in}
 use Rattle.rdl_lineages.proofs.Order.{behind}
-use Rattle.rdl_sizes.proofs.Facts.{count-is, node-at, nodes-many, row-at}
+use Rattle.rdl_sizes.proofs.Facts.{count-is, node-at, nodes-many, row-at, rows-many}
 use Rattle.rdl_sizes.proofs.Moding.{parent-before}
 use Rattle.rdl_collected.proofs.Descending.{at-top}
 use Rattle.rdl_scoped.specs.Scoped.{IsEnd, bodies_of}
 use Rattle.rdl_leads.specs.Outward.{IsChain, outer_at}
-use Rattle.rdl_outer.specs.Outers.{AreOuters, AreOutersTo, IsChainBelow}
+use Rattle.rdl_outer.specs.Outers.{AreOuters, AreOutersTo, IsChainBelow, IsTooDeep}
 
 -- Going outwards.
 
@@ -115,6 +115,15 @@ long-map : {X Y : Type 0} (f : X → Y) (xs : List X) → length (map f xs) ≡ 
 long-map f [] = refl
 long-map f (x ∷ xs) = ap suc (long-map f xs)
 
+pub if-none : {X : Type 0} (o : Option X) (P : Type 0) → P → IfNone o P
+if-none None P h = h
+if-none (Some x) P h = tt
+
+no-end : {X : Type 0} (xs : List X) (k : ℕ) → k < length xs → slice_get xs k ≡ None → ⊥
+no-end [] k l e = omega (arith, l)
+no-end (x ∷ xs) zero l e = cc e
+no-end (x ∷ xs) (suc k) l e = no-end xs k (omega (arith, l)) e
+
 abbrev pub TextsOfChildren : Type 0
 TextsOfChildren = (n : Instance) → AllByRecursion (λ c. IsEnd (bodies_of c.closure.scope) (Some n.path ∷ bodies_of n.closure.scope)) (children n)
 
@@ -149,6 +158,38 @@ module _ (e : Elab) (clean : IsClean e) (rows : List Row) (are : AreRows e rows)
       let many = nodes-many e in
       let number : IsBodyNumber (nodes_of e) None root = is ∙ (count ∙ sym many) in
       subst (λ ps. IsChainBelow e outers i ps root) (sym bodies) (number, refl)
+
+  above-of : (p : ℕ) → x.parent ≡ Some p → (q : Lineage) × (slice_get (lineages_of e) p ≡ Some q) × (l.ancestors ≡ q.node ∷ q.ancestors)
+  above-of p parent = subst (λ o. IsParent (lineages_of e) o l.ancestors) parent parent-of
+
+  -- the parent has a row
+  pub has-row : (p : ℕ) → x.parent ≡ Some p → slice_get rows p ≡ None → ⊥
+  has-row p parent none =
+      let q = above-of p parent in
+      let low = get-within (lineages_of e) p q.0 q.1 in
+      let many = rows-many e rows are in
+      no-end rows p (omega (arith, low, many)) none
+
+  -- at most one body more is seen in a body than in that which its node stands in
+  one-more : TextsOfChildren → (p : ℕ) → x.parent ≡ Some p → (y : Row) → slice_get rows p ≡ Some y → length (around_of (out-Node x.node.now).env.now) ≤ length (around_of (out-Node y.node.now).env.now) + 1
+  one-more texts p parent y at =
+      let q = above-of p parent in
+      let inside = (behind (Some (top_name e)) e.source.now i l q.0.node q.0.ancestors here q.2).3 in
+      let end = each-in (λ c. IsEnd (bodies_of c.closure.scope) (Some q.0.node.path ∷ bodies_of q.0.node.closure.scope)) (children q.0.node) l.node (texts q.0.node) inside in
+      let a = own-bodies i x l row here (length (around_of (out-Node x.node.now).env.now)) refl in
+      let b = own-bodies p y q.0 at q.1 (length (around_of (out-Node y.node.now).env.now)) refl in
+      let n = length-append end.0 (bodies_of l.node.closure.scope) in
+      let m = ap length end.1 in
+      omega (arith, a, b, n, m)
+
+  pub too-deep : TextsOfChildren → (p : ℕ) → x.parent ≡ Some p → (y : Row) → slice_get rows p ≡ Some y → (own : ℕ) → own ≡ length (around_of (out-Node x.node.now).env.now) → (round : ℕ) → round ≡ length (around_of (out-Node y.node.now).env.now)
+      → (2 ^ 64 ≤ own) ⊎ ((2 ^ 64 ≤ round + 1) ⊎ (round + 1 < own)) → IsTooDeep rows x
+  too-deep texts p parent y at own mine round theirs cause = (p, y, parent, at, by cause)
+    where
+      by : (2 ^ 64 ≤ own) ⊎ ((2 ^ 64 ≤ round + 1) ⊎ (round + 1 < own)) → 2 ^ 64 ≤ length (around_of (out-Node y.node.now).env.now) + 1
+      by (inl h) = let most = one-more texts p parent y at in omega (arith, h, mine, most)
+      by (inr (inl h)) = omega (arith, h, theirs)
+      by (inr (inr h)) = let most = one-more texts p parent y at in absurd (omega (arith, h, mine, theirs, most))
 
   -- the chain of the parent's body
   module _ (p : ℕ) (parent : x.parent ≡ Some p) (outers : List ℕ) (before : AreOutersTo e (out-Node x.node.now).id outers) where

@@ -1,5 +1,5 @@
 -- What is seen from where a setting's text stands.
-use Rattle.std.proofs.Common.{◌≡◌, ◌∙◌, ℕ, zero, suc, ◌≤◌, ◌⊎◌, inl, inr, List, [], ◌∷◌, ◌++◌, flat_map, length, map, option_to_list, IfSome, Option, None, Some, slice_get, refl, sym, ap, subst, arith}
+use Rattle.std.proofs.Common.{◌≡◌, ◌∙◌, ℕ, zero, suc, ◌≤◌, ◌⊎◌, inl, inr, List, [], ◌∷◌, ◌++◌, flat_map, length, map, option_to_list, IfNone, IfSome, IsSome, Option, None, Some, slice_get, refl, sym, ap, subst, arith}
 use Rattle.std.specs.List.{AllByRecursion}
 use Rattle.rb_base.specs.declared.place.Place.{Place}
 use Rattle.rdl_tree.specs.declared.expr.Name.{Name}
@@ -215,6 +215,22 @@ env-of-root e clean scopes texts rows are k past o round =
     let bodies = each-in (λ n. bodies_of n.closure.scope ≡ None ∷ []) (top_of w s) top.0 (texts w s) top.1 in
     let within = each-in (λ n. AreScopesIn (root s ∷ n.above) n.closure.scope) (nodes_of e) top.0 (scopes w s) (top-in w s top.0 top.1) in
     round (body top.0).names (around top.0.closure.scope) top.2 ∙ (top-text s top.0 above within bodies ∙ sym (ap (around_if e) (past-rows e rows are k past)))
+
+-- round the top's body is that of the root
+pub root-found : {X : Type 0} (e : Elab) → IsClean e → ((wanted : Option (List ℕ)) (s : Source) → AllByRecursion (λ n. AreScopesIn (root s ∷ n.above) n.closure.scope) (nodes wanted s)) → ((wanted : Option (List ℕ)) (s : Source) → AllByRecursion (λ n. bodies_of n.closure.scope ≡ None ∷ []) (top_of wanted s))
+    → (o : Option X) → IfNone o ((names : Names) (rest : Around) → around_of (out-Node e.top.now).env.now ≡ names ∷ rest → rest ≡ []) → IsSome o
+root-found e clean scopes texts (Some x) h = refl
+root-found e clean scopes texts None h =
+    let w = Some (top_name e) in
+    let s = e.source.now in
+    let top = top-says e e.top.now (top_of w s) clean.elaborated.tree.top in
+    let above = each-in (λ n. n.above ≡ []) (top_of w s) top.0 (tops-above w s) top.1 in
+    let bodies = each-in (λ n. bodies_of n.closure.scope ≡ None ∷ []) (top_of w s) top.0 (texts w s) top.1 in
+    let within = each-in (λ n. AreScopesIn (root s ∷ n.above) n.closure.scope) (nodes_of e) top.0 (scopes w s) (top-in w s top.0 top.1) in
+    let one = top-text s top.0 above within bodies in
+    let none = h (body top.0).names (around top.0.closure.scope) top.2 in
+    let q = sym none ∙ one in
+    cc q
 
 pub if-some : {X : Type 0} (o : Option X) (P Q : X → Type 0) → ((x : X) → P x → Q x) → IfSome o P → IfSome o Q
 if-some None P Q f h = tt

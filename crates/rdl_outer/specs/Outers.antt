@@ -1,12 +1,15 @@
 -- The body next round each definition's text.
-use Rattle.std.specs.Prelude.{◌≡◌, ℕ, ◌<◌, List, [], ◌∷◌, length, Option, None, Some, slice_get}
+use Rattle.std.specs.Prelude.{◌≡◌, ℕ, ◌+◌, ◌^◌, ◌<◌, ◌≤◌, List, [], ◌∷◌, length, Option, None, Some, slice_get}
 use Rattle.rdl_tree.specs.declared.node.Elab.{Elab}
+use Rattle.rdl_tree.specs.declared.node.Node.{out-Node}
 use Rattle.rdl_values.specs.Bodies.{Path}
 use Rattle.rdl_values.specs.Elaborated.{around_body, nodes_of}
 use Rattle.rdl_values.specs.Instances.{Instance, root}
+use Rattle.rdl_values.specs.Seen.{around_of}
 use Rattle.rdl_values.specs.Values.{Around}
 use Rattle.rdl_values.specs.Lineages.{Lineage, lineages_of}
 use Rattle.rdl_layers.specs.Says.{IsBodyNumber}
+use Rattle.rdl_index.specs.declared.table.Row.{Row}
 use Rattle.rdl_scoped.specs.Scoped.{bodies_of}
 use Rattle.rdl_leads.specs.Outward.{IsChain, outer_at}
 
@@ -33,3 +36,7 @@ around_if e None = (root e.source.now).names ∷ []
 -- what is visible in the body of a number
 abbrev pub around_at : Elab → ℕ → Around
 around_at e b = around_if e (slice_get (nodes_of e) b)
+
+-- a node stands in one in whose body as many bodies are seen as no number counts
+abbrev pub IsTooDeep : List Row → Row → Type 0
+IsTooDeep rows x = (p : ℕ) × (y : Row) × (x.parent ≡ Some p) × (slice_get rows p ≡ Some y) × (2 ^ 64 ≤ length (around_of (out-Node y.node.now).env.now) + 1)

@@ -1,6 +1,6 @@
 //! For each node the body next round its definition's text.
 
-ghost use Rattle.std.specs.Prelude.{◌≡◌, ◌+◌, drop, IfOk, IfSome, List, Option, Some, slice_get, ℕ};
+ghost use Rattle.std.specs.Prelude.{◌≡◌, ◌+◌, ◌^◌, ◌<◌, ◌≤◌, ◌⊎◌, drop, IfNone, IfOk, IfSome, List, Option, Some, slice_get, ℕ};
 ghost use Rattle.rdl_tree.specs.declared.node.Elab.{Elab as AnyElab};
 ghost use Rattle.rdl_tree.specs.declared.node.Node.{out-Node};
 ghost use Rattle.rdl_values.specs.Bodies.{Path};
@@ -8,7 +8,7 @@ ghost use Rattle.rdl_values.specs.Elaboration.{IsClean};
 ghost use Rattle.rdl_values.specs.Lineages.{Lineage, lineages_of};
 ghost use Rattle.rdl_index.specs.Rows.{AreRows};
 ghost use Rattle.rdl_scoped.specs.Scoped.{bodies_of};
-ghost use Rattle.rdl_outer.specs.Outers.{AreOuters, AreOutersTo, IsChainBelow};
+ghost use Rattle.rdl_outer.specs.Outers.{AreOuters, AreOutersTo, IsChainBelow, IsTooDeep};
 
 use rb_base::NoMemory;
 use rdl_index::Row;
@@ -35,18 +35,21 @@ pub(crate) fn row_of<'a>(rows: &[Row<'a>], node: u32) -> Option<Row<'a>>
     rows.get(node as usize).copied()
 }
 
-/// How many of the bodies round an inner one, and itself, are nearer than those round a text that is seen from one more.
+/// How many of the bodies round an inner one, and itself, are nearer than those round a text that is seen from one more. None where
+/// no number counts them all, or where the text's are more.
 fn nearer(round: usize, own: usize) -> Option<usize>
-    ensures { IfSome result (λ b. b + own ≡ round + 1) }
+    ensures some { IfSome result (λ b. b + own ≡ round + 1) }
+    ensures none { IfNone result ((2 ^ 64 ≤ round + 1) ⊎ (round + 1 < own)) }
 {
     round.checked_add(1)?.checked_sub(own)
 }
 
 /// The body next round the text of a node's definition: the text stands in a body round its parent's body, or in that. None where no
-/// memory holds so many bodies.
+/// number counts the bodies.
 fn body_round(rows: &[Row<'_>], outers: &[u32], row: &Row<'_>, root: u32) -> Option<u32>
-    ensures { IfSome result (λ o. (e : AnyElab) (l : Lineage) → IsClean e → AreRows e rows.now → root ≡ e.count → slice_get rows.now (out-Node row.now.node.now).id ≡ Some row.now → slice_get (lineages_of e) (out-Node row.now.node.now).id ≡ Some l
+    ensures body { IfSome result (λ o. (e : AnyElab) (l : Lineage) → IsClean e → AreRows e rows.now → root ≡ e.count → slice_get rows.now (out-Node row.now.node.now).id ≡ Some row.now → slice_get (lineages_of e) (out-Node row.now.node.now).id ≡ Some l
         → AreOutersTo e (out-Node row.now.node.now).id outers.now → IsChainBelow e outers.now (out-Node row.now.node.now).id (bodies_of l.node.closure.scope) o) }
+    ensures none { IfNone result ((e : AnyElab) (l : Lineage) → IsClean e → AreRows e rows.now → slice_get rows.now (out-Node row.now.node.now).id ≡ Some row.now → slice_get (lineages_of e) (out-Node row.now.node.now).id ≡ Some l → IsTooDeep rows.now row.now) }
 {
     texts_in_bodies();
     let Some(parent) = row.parent else {

@@ -1,6 +1,6 @@
 //! What is seen from a body.
 
-ghost use Rattle.std.specs.Prelude.{◌≡◌, ◌∷◌, Contains, IfSome, List, Option};
+ghost use Rattle.std.specs.Prelude.{◌≡◌, ◌∷◌, [], Contains, IfNone, IfSome, IsSome, List, Option};
 ghost use Rattle.rb_base.specs.declared.place.Place.{Place};
 ghost use Rattle.rdl_tree.specs.declared.expr.Name.{Name};
 ghost use Rattle.rdl_tree.specs.declared.expr.Path.{Path};
@@ -24,18 +24,20 @@ use rdl_scoped::{settings_in_bodies, texts_in_bodies};
 use rdl_tree::{Elab, Env};
 use rdl_values::scopes_are_bodies;
 
-/// The environment round one.
+/// The environment round one. None where it has one body.
 fn round<'a>(env: &Env<'a>) -> Option<&'a Env<'a>>
-    ensures { IfSome result (λ o. (names : Names) (rest : Around) → around_of env.now ≡ names ∷ rest → around_of o.now ≡ rest) }
+    ensures some { IfSome result (λ o. (names : Names) (rest : Around) → around_of env.now ≡ names ∷ rest → around_of o.now ≡ rest) }
+    ensures none { IfNone result ((names : Names) (rest : Around) → around_of env.now ≡ names ∷ rest → rest ≡ []) }
 {
     env.outer
 }
 
-/// What is visible in the body of a number: of a node, or the root's, whose number is the count of nodes.
+/// What is visible in the body of a number: of a node, or the root's, whose number is the count of nodes. It is always found.
 fn env_at<'a>(elab: &Elab<'a>, rows: &[Row<'a>], body: u32) -> Option<&'a Env<'a>>
     requires clean { IsClean elab.now }
     requires rows { AreRows elab.now rows.now }
-    ensures { IfSome result (λ o. around_of o.now ≡ around_at elab.now body) }
+    ensures visible { IfSome result (λ o. around_of o.now ≡ around_at elab.now body) }
+    ensures found { IsSome result }
 {
     texts_in_bodies();
     scopes_are_bodies();
@@ -55,8 +57,9 @@ pub fn view_from<'t, 'a>(
     requires clean { IsClean elab.now }
     requires rows { AreRows elab.now rows.now }
     requires outers { AreOuters elab.now outers.now }
-    ensures { IfSome result (λ v. (n : Instance) (p : Prop) (path : Path) (item : Option Name) (scope : Scope) (place : Place) → Contains (nodes_of elab.now) n → setting n p ≡ reference path item scope place → IsScopeNumber (nodes_of elab.now) scope body
+    ensures seen { IfSome result (λ v. (n : Instance) (p : Prop) (path : Path) (item : Option Name) (scope : Scope) (place : Place) → Contains (nodes_of elab.now) n → setting n p ≡ reference path item scope place → IsScopeNumber (nodes_of elab.now) scope body
         → IsSeen elab.now v scope) }
+    ensures found { IsSome result }
 {
     settings_in_bodies();
     let env = env_at(elab, rows, body)?;

@@ -18,7 +18,7 @@ loop-at-preserved c =
     let r = row-at e rows c.requires.rows i x at in
     let id : i ≡ (out-Node x.node.now).id = sym r.2.number in
     let before = subst (λ os. AreOutersTo e i os) (sym c.deref.ensures.value) c.loop-at.invariant in
-    let chain = c.in-Some.ensures e r.0 c.requires.clean c.requires.rows refl (subst (λ k. slice_get rows k ≡ Some x) id at) (subst (λ k. slice_get (lineages_of e) k ≡ Some r.0) id r.1) (subst (λ k. AreOutersTo e k c.deref.result.now) id before) in
+    let chain = c.in-Some.ensures.body e r.0 c.requires.clean c.requires.rows refl (subst (λ k. slice_get rows k ≡ Some x) id at) (subst (λ k. slice_get (lineages_of e) k ≡ Some r.0) id r.1) (subst (λ k. AreOutersTo e k c.deref.result.now) id before) in
     outers-more e c.loop-at.outers.items c.push.new.self.items i c.in-Some.outer r.0 r.1 c.loop-at.invariant
     (subst (λ os. IsChainBelow e os i (bodies_of r.0.node.closure.scope) c.in-Some.outer) c.deref.ensures.value (subst (λ k. IsChainBelow e c.deref.result.now k (bodies_of r.0.node.closure.scope) c.in-Some.outer) (sym id) chain)) c.in_ok-push.ensures.items
 
