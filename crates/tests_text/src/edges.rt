@@ -1,7 +1,7 @@
 //! Files, streams and memory.
 use rb_edge::{CountSink, FileShelf, LoadError, MemShelf, MemSink, StdSink, load, write_all};
-use std::fs;
 use std::test::Fail;
+use std::{fs, io};
 
 #[test]
 fn files_of_the_system_are_read_whole(rt: HostRuntime) -> Result<(), Fail> {
@@ -13,6 +13,46 @@ fn files_of_the_system_are_read_whole(rt: HostRuntime) -> Result<(), Fail> {
     assert_eq!(rt; shorter, Some(LoadError::TooLong));
     let absent = load(rt.alloc(), &mut shelf, "b.txt", 9).err();
     assert_eq!(rt; absent, Some(LoadError::Failed));
+    Ok(())
+}
+
+// Longer than many reads of the system, and no page of it like another.
+const LONG: u32 = 100_003;
+
+#[test]
+fn a_file_of_many_reads_is_read_whole(rt: HostRuntime) -> Result<(), Fail> {
+    let mut long = Vec::new(rt.alloc());
+    for at in 0..LONG {
+        long.push((at % 251) as u8)?;
+    }
+    fs::write(&rt, "long.txt", long.as_slice())?;
+    let mut shelf = FileShelf::new(&rt);
+    let bytes = load(rt.alloc(), &mut shelf, "long.txt", LONG)?;
+    assert_eq!(rt; bytes.as_slice(), long.as_slice());
+    Ok(())
+}
+
+// A stream that takes a byte at a time.
+#[derive(Drop)]
+struct Slow<'b> {
+    bytes: &'b mut Vec<u8>,
+}
+
+impl<'b> io::Write for Slow<'b> {
+    fn write(&mut self, piece: &[u8]) -> io::Result<usize> {
+        self.bytes.write(&piece[..piece.len().min(1)])
+    }
+
+    fn flush(&mut self) -> io::Result<()> {
+        Ok(())
+    }
+}
+
+#[test]
+fn a_slow_stream_takes_all(rt: HostRuntime) -> Result<(), Fail> {
+    let mut bytes = Vec::new(rt.alloc());
+    write_all(&mut StdSink::new(Slow { bytes: &mut bytes }), b"some text")?;
+    assert_eq!(rt; bytes.as_slice(), b"some text".as_slice());
     Ok(())
 }
 
