@@ -1,10 +1,8 @@
-//! Tests of the front end: refusals and near misses of SystemRDL's lexemes, grammar, constants and properties.
+//! Tests of the front end by its calls: trees, constants on built expressions, and the table of properties.
 #![tactic(auto)]
 
 #[cfg(test)]
 mod constants;
-#[cfg(test)]
-mod lexemes;
 #[cfg(test)]
 mod properties;
 #[cfg(test)]

@@ -1,7 +1,7 @@
-//! Faults of syntax, what is near them, and a tree.
+//! A tree of a source, and how tightly operators bind.
 use bumpalo::Bump;
-use rb_base::{Fault, Place, Rule};
-use rdl_parser::{ParseError, parse};
+use rb_base::Place;
+use rdl_parser::parse;
 use rdl_tree::{Expr, Item, Kind, Op};
 use std::test::Fail;
 
@@ -16,99 +16,6 @@ addrmap uart {
   isr.ev->enable = !ier.en | a == b ? parity_t::EVEN : more[0][1]->intr;
 };
 ";
-
-// The error of a source, None where it has a tree.
-fn error_of(arena: &Bump, source: &str) -> Result<Option<ParseError>, Fail> {
-    if source.len() > 4096 {
-        return Err(Fail::new("a short source"));
-    }
-    Ok(parse(arena, source.as_bytes()).err())
-}
-
-// A refusal for each rule of syntax, with its place.
-#[test]
-fn refusals(rt: HostRuntime) -> Result<(), Fail> {
-    let arena = Bump::new(rt.alloc());
-    let refused = [
-        ("addrmap a", 9, Rule::S1),
-        ("addrmap a {} ", 13, Rule::S1),
-        ("a b[1:2][3];", 8, Rule::S1),
-        ("constraint c {};", 0, Rule::O1),
-        ("mem m {};", 0, Rule::O2),
-        ("external a b;", 0, Rule::O3),
-        ("struct s {};", 0, Rule::O4),
-        ("abstract s {};", 0, Rule::O4),
-        ("property p {};", 0, Rule::O5),
-        ("p = ruser;", 4, Rule::O6),
-        ("addrmap a { ~", 12, Rule::O7),
-        ("reg q #(accesstype A) {};", 8, Rule::O8),
-        ("p = '(1);", 4, Rule::O9),
-    ];
-    for (source, place, rule) in refused {
-        let expected = ParseError::Syntax {
-            place: Place(place),
-            rule,
-        };
-        assert_eq!(rt; error_of(&arena, source)?, Some(expected));
-    }
-    let perl = Fault {
-        place: Place(12),
-        rule: Rule::L5,
-    };
-    assert_eq!(rt;
-        error_of(&arena, "addrmap a { <%")?,
-        Some(ParseError::Lex(perl))
-    );
-    Ok(())
-}
-
-// Near what is refused, what is accepted.
-#[test]
-fn near_misses(rt: HostRuntime) -> Result<(), Fail> {
-    let arena = Bump::new(rt.alloc());
-    let accepted = [
-        "addrmap a {};",
-        "a b[1][3];",
-        "\\constraint c;",
-        "\\mem = 1;",
-        "internal a b;",
-        "\\struct = 1;",
-        "\\property = 1;",
-        "p = rw;",
-        "p = !a;",
-        "reg q #(bit A) {};",
-        "p = 8'h1;",
-        "p = ((((((((((((((((((((((((((((((((((((((((((((((((((((((((((((((((1))))))))))))))))))))))))))))))))))))))))))))))))))))))))))))))));",
-        "p = 1+1+1+1+1+1+1+1+1+1+1+1+1+1+1+1+1+1+1+1+1+1+1+1+1+1+1+1+1+1+1+1+1+1+1+1+1+1+1+1+1+1+1+1+1+1+1+1+1+1+1+1+1+1+1+1+1+1+1+1+1+1+1+1+1;",
-    ];
-    for source in accepted {
-        assert_eq!(rt; error_of(&arena, source)?, None);
-    }
-    Ok(())
-}
-
-// The 65th open bracket and the 65th operator.
-#[test]
-fn too_deep(rt: HostRuntime) -> Result<(), Fail> {
-    let arena = Bump::new(rt.alloc());
-    let deep = [
-        (
-            "p = (((((((((((((((((((((((((((((((((((((((((((((((((((((((((((((((((",
-            68,
-        ),
-        (
-            "p = 1+1+1+1+1+1+1+1+1+1+1+1+1+1+1+1+1+1+1+1+1+1+1+1+1+1+1+1+1+1+1+1+1+1+1+1+1+1+1+1+1+1+1+1+1+1+1+1+1+1+1+1+1+1+1+1+1+1+1+1+1+1+1+1+1+1",
-            133,
-        ),
-    ];
-    for (source, place) in deep {
-        let expected = ParseError::TooDeep {
-            place: Place(place),
-        };
-        assert_eq!(rt; error_of(&arena, source)?, Some(expected));
-    }
-    Ok(())
-}
 
 #[test]
 fn a_source_is_read(rt: HostRuntime) -> Result<(), Fail> {

@@ -1,9 +1,5 @@
-//! Tests of tables of pin values, and of modules run over them.
+//! A test of the simulator by its calls: registers that start at a number of choice.
 #![tactic(auto)]
 
 #[cfg(test)]
-mod larger;
-#[cfg(test)]
 mod runs;
-#[cfg(test)]
-mod tables;

@@ -1,11 +1,9 @@
-//! Tests of Verilog read and judged.
+//! Tests of Verilog by calls that no command shows: tokens, a tree, and a module of built values.
 #![tactic(auto)]
 
 #[cfg(test)]
 mod faults;
 #[cfg(test)]
 mod lexemes;
-#[cfg(test)]
-mod modules;
 #[cfg(test)]
 mod syntax;

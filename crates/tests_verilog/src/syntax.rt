@@ -1,9 +1,9 @@
-//! Faults of syntax, what is near them, and a tree.
+//! A tree of tokens.
 use rb_base::Place;
 use std::alloc::{AllocError, Global};
 use std::test::Fail;
 use v_design::VExpr;
-use v_parser::{ParseError, parse};
+use v_parser::parse;
 use v_syntax::{Event, VKind, VToken};
 
 // The kind of a word: names begin with a capital here.
@@ -90,40 +90,5 @@ fn a_module_is_read(rt: HostRuntime) -> Result<(), Fail> {
         return Err(Fail::new("the event of a reset"));
     };
     assert_eq!(rt; (negated, test, again), (true, &b"T"[..], &b"Q"[..]));
-    Ok(())
-}
-
-// Where tokens stop being a module.
-#[test]
-fn refusals_tell_tokens(rt: HostRuntime) -> Result<(), Fail> {
-    let refused = [
-        (
-            "module M ( input [ 128 : 0 ] A ) ; endmodule",
-            ParseError::Syntax(5),
-        ),
-        (
-            "module M ( input [ 3 : 1 ] A ) ; endmodule",
-            ParseError::Syntax(7),
-        ),
-        ("module M ( input A ) endmodule", ParseError::Syntax(6)),
-        ("module M ( input A ) ;", ParseError::Syntax(7)),
-        (
-            "module M ( input A ) ; endmodule endmodule",
-            ParseError::Syntax(8),
-        ),
-        (
-            "module M ( output A ) ; assign A = B + C + D ; endmodule",
-            ParseError::Syntax(13),
-        ),
-        (
-            "module M ( output A ) ; assign A = ( ( ( ( ( ( ( ( ( ( ( ( ( ( ( ( ( ( ( ( ( ( ( ( ( ( ( ( ( ( ( ( ( ( ( ( ( ( ( ( ( ( ( ( ( ( ( ( ( ( ( ( ( ( ( ( ( ( ( ( ( ( ( ( (",
-            ParseError::TooDeep(74),
-        ),
-    ];
-    for (source, expected) in refused {
-        let tokens = tokens(rt.alloc(), source)?;
-        let error = parse(rt.alloc(), &tokens).err();
-        assert_eq!(rt; error, Some(expected));
-    }
     Ok(())
 }

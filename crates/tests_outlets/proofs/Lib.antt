@@ -1,4 +1,0 @@
-mod SelfDriven
-mod FirstPins
-mod Outputs
-mod OutputCounts
