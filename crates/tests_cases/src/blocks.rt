@@ -57,7 +57,7 @@ fn print_order(rt: HostRuntime, block: &Block) -> io::Result<()> {
     for item in &block.order.items {
         print!(rt; " {item:?}")?;
     }
-    println!(rt;)
+    println!(rt; "")
 }
 
 fn print_parts(rt: HostRuntime, block: &Block) -> io::Result<()> {

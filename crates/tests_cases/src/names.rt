@@ -104,7 +104,7 @@ fn bound_of<'a>(
 }
 
 // What the references of a source name. None where a rule is broken before.
-fn bound(alloc: Global, text: &str) -> Result<Option<Bound>, NoMemory> {
+fn read_names(alloc: Global, text: &str) -> Result<Option<Bound>, NoMemory> {
     let arena = Bump::new(alloc);
     match instances(alloc, &arena, text)? {
         Some(elab) => bound_of(alloc, &arena, &elab),
@@ -143,7 +143,7 @@ fn print_sizes(rt: HostRuntime, bound: &Bound) -> io::Result<()> {
 /// Prints what the settings of a source name, and how many items there are in order, or the length of a circle with the
 /// failures that come of it.
 pub(crate) fn print_names(rt: HostRuntime, text: &str) -> io::Result<()> {
-    match bound(rt.alloc(), text) {
+    match read_names(rt.alloc(), text) {
         Ok(Some(bound)) => print_bound(rt, &bound),
         Ok(None) => println!(rt; "  a rule is broken"),
         Err(NoMemory) => println!(rt; "  no memory"),
@@ -152,7 +152,7 @@ pub(crate) fn print_names(rt: HostRuntime, text: &str) -> io::Result<()> {
 
 /// Prints how many items a source has, how many of them make a circle, and how many failures come of it.
 pub(crate) fn print_circle(rt: HostRuntime, text: &str) -> io::Result<()> {
-    match bound(rt.alloc(), text) {
+    match read_names(rt.alloc(), text) {
         Ok(Some(bound)) => print_sizes(rt, &bound),
         Ok(None) => println!(rt; "  a rule is broken"),
         Err(NoMemory) => println!(rt; "  no memory"),

@@ -14,7 +14,7 @@ use std::io;
 /// How many nodes are counted, and how many a tree of instances has. None where the instances break a rule.
 type Counts = (u32, Option<u32>);
 
-fn counts<'a>(
+fn count<'a>(
     alloc: Global,
     arena: &'a Bump,
     source: &'a Source<'a>,
@@ -44,7 +44,7 @@ pub(crate) fn print_nodes(rt: HostRuntime, text: &str, name: &str) -> io::Result
     let Some(source) = read(&arena, text.as_bytes()) else {
         return println!(rt; "  no tree of syntax");
     };
-    match counts(rt.alloc(), &arena, source, top) {
+    match count(rt.alloc(), &arena, source, top) {
         Ok(counts) => print_counts(rt, counts),
         Err(NoMemory) => println!(rt; "  no memory"),
     }

@@ -33,7 +33,7 @@ fn sink(alloc: Global, stream: Stream) -> Result<MemSink, NoMemory> {
     MemSink::new(alloc, piece, stream.room as usize, &[stream.fails])
 }
 
-fn ran(rt: HostRuntime, line: &str, setup: Setup) -> Result<Ran, NoMemory> {
+fn run_of(rt: HostRuntime, line: &str, setup: Setup) -> Result<Ran, NoMemory> {
     let words = words_of(rt.alloc(), line)?;
     let mut shelf = shelf_of(rt, &words, setup)?;
     let mut out = sink(rt.alloc(), setup.out)?;
@@ -51,7 +51,7 @@ fn print_text(rt: HostRuntime, name: &str, bytes: &[u8]) -> io::Result<()> {
 
 /// Runs the program by a command line, and prints how it ended and what it wrote.
 pub(crate) fn print_run(rt: HostRuntime, line: &str, setup: Setup) -> io::Result<()> {
-    let Ok(ran) = ran(rt, line, setup) else {
+    let Ok(ran) = run_of(rt, line, setup) else {
         return println!(rt; "  no memory");
     };
     println!(rt; "  status {}", ran.status.number())?;

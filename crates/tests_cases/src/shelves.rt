@@ -1,9 +1,5 @@
 //! Shelves in memory, with files of `data/`.
 
-ghost use Rattle.std.specs.Prelude.{◌≡◌, ◌≢◌, List, None, ℕ};
-ghost use Rattle.rb_edge.specs.MemShelf.{files_of};
-ghost use Rattle.std.specs.String.{string_bytes};
-
 use crate::setup::Setup;
 use rb_base::NoMemory;
 use rb_edge::{FileShelf, LoadError, MemShelf, load};
@@ -36,32 +32,49 @@ fn named(rt: HostRuntime, words: &[String]) -> Result<Vec<Kept>, NoMemory> {
     Ok(kept)
 }
 
-// The first of these files whose name is another.
-fn other<'f>(kept: &'f [Kept], name: &str) -> Option<&'f Kept>
-    ensures { IfSome result (λ file. string_bytes file.now.name ≢ name.now) }
-{
+// The last of these files whose name is another, or else the first of all.
+fn second<'f>(kept: &'f [Kept], first: &'f Kept) -> &'f Kept {
+    let mut found = first;
     for file in kept {
-        if file.name.as_str() != name {
-            return Some(file);
+        if file.name.as_str() != first.name.as_str() {
+            found = file;
         }
     }
-    None
+    found
 }
 
-// A shelf of one file, and of the first of these files that has another name.
+// A shelf of two files, or of the first where both have one name.
 fn filled(
     alloc: Global,
     fails: u64,
-    name: &str,
+    one: &str,
     bytes: &[u8],
-    kept: &[Kept],
+    two: &str,
+    more: &[u8],
 ) -> Result<MemShelf, NoMemory> {
     let mut shelf = MemShelf::new(alloc, &[fails])?;
-    shelf.put(name, bytes)?;
-    if let Some(file) = other(kept, name) {
-        shelf.put(file.name.as_str(), &file.bytes)?;
+    shelf.put(one, bytes)?;
+    if one != two {
+        shelf.put(two, more)?;
     }
     Ok(shelf)
+}
+
+// A shelf of those files of `data/` that the words name, two at most.
+fn of_words(rt: HostRuntime, words: &[String], fails: u64) -> Result<MemShelf, NoMemory> {
+    let kept = named(rt, words)?;
+    let Some(first) = kept.first() else {
+        return MemShelf::new(rt.alloc(), &[fails]);
+    };
+    let other = second(&kept, first);
+    filled(
+        rt.alloc(),
+        fails,
+        first.name.as_str(),
+        &first.bytes,
+        other.name.as_str(),
+        &other.bytes,
+    )
 }
 
 /// A shelf of those files of `data/` that the words name, two at most, or of the one file that the setup asks for.
@@ -70,19 +83,11 @@ pub(crate) fn shelf_of(
     words: &[String],
     setup: Setup,
 ) -> Result<MemShelf, NoMemory> {
-    if setup.spaces > 0 {
-        let spaces = vec![in rt.alloc(); b' '; setup.spaces as usize]?;
-        return filled(rt.alloc(), setup.fails, "spaces.rdl", &spaces, &[]);
+    if setup.spaces == 0 {
+        return of_words(rt, words, setup.fails);
     }
-    let kept = named(rt, words)?;
-    match kept.first() {
-        Some(first) => filled(
-            rt.alloc(),
-            setup.fails,
-            first.name.as_str(),
-            &first.bytes,
-            &kept,
-        ),
-        None => Ok(MemShelf::new(rt.alloc(), &[setup.fails])?),
-    }
+    let spaces = vec![in rt.alloc(); b' '; setup.spaces as usize]?;
+    let mut shelf = MemShelf::new(rt.alloc(), &[setup.fails])?;
+    shelf.put("spaces.rdl", &spaces)?;
+    Ok(shelf)
 }
