@@ -72,7 +72,7 @@ fn look(rt: HostRuntime, text: &str, what: &str) -> io::Result<()> {
         "ports" => print_ports(rt, text),
         "plan" => print_plan(rt, text),
         "wanted" => print_wanted(rt, text),
-        "start" => print_start(rt, text, rest),
+        "start" => print_start(rt, text),
         _ => println!(rt; "no such look: {what}"),
     }
 }

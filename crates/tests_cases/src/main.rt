@@ -13,7 +13,7 @@
 //! are; `value NODE PROPERTY`, what a property is set to; `names`, what settings refer to, and how many items there are in
 //! order or in a circle; `circle`, these numbers alone; `block`, the register block part by part; `lengths`, how long its
 //! lists are; `ports`; `plan`, what its fields keep and where its outputs come from; `wanted`, the items that its module
-//! needs; `start N`, the outputs of its module at three vectors of zeros, with N in its one register before the first.
+//! needs; `start`, the outputs of its module at three vectors of zeros, with 7 in its one register of 32 bits before.
 #![tactic(auto)]
 
 mod blocks;

@@ -1,13 +1,13 @@
-//! Modules that start from a number in their register.
+//! Modules that start with a number in their register.
 
-ghost use Rattle.std.specs.Prelude.{◌≡◌, IfOk, IfSome, length};
-ghost use Rattle.v_design.specs.Design.{inputs, outputs};
+ghost use Rattle.std.specs.Prelude.{◌≡◌, IfOk, length};
+ghost use Rattle.v_design.specs.Design.{inputs, outputs, registers};
 ghost use Rattle.v_design.specs.Seen.{module_seen};
 ghost use Rattle.v_design.specs.Fits.{FitsPins};
 ghost use Rattle.cyc_sim.specs.Accepted.{IsAccepted};
+ghost use Rattle.cyc_sim.specs.Simulation.{IsSimOf};
 ghost use Rattle.tests_cases.specs.Going.{Goes};
 
-use crate::lists::number;
 use cyc_sim::Sim;
 use rb_base::NoMemory;
 use rb_edge::{MemShelf, MemSink};
@@ -39,21 +39,16 @@ fn module_of(alloc: Global, text: &str) -> Option<MemSink> {
 fn zeros(alloc: Global, design: &Design) -> Result<Vec<u128>, NoMemory>
     ensures { IfOk result (λ v. FitsPins (inputs (module_seen design.now)) v.items) }
 {
-    Ok(vec![in alloc; 0u128; design.inputs().len()]?)
+    let zeros = vec![in alloc; 0u128; design.inputs().len()]?;
+    Ok(zeros)
 }
 
-// A simulation of a module of one register, which contains the number. None where the module has others.
-fn started(alloc: Global, design: &Design, start: u64) -> Result<Option<Sim>, NoMemory>
-    requires { IsAccepted (module_seen design.now) }
-    ensures { IfOk result (λ o. IfSome o (λ s. Goes (module_seen design.now) s)) }
+// A simulation of a module of one register goes on.
+fn one_register_goes(design: &Design, sim: &Sim)
+    requires is_sim { IsSimOf (module_seen design.now) sim.now }
+    requires one { length (registers (module_seen design.now)) ≡ 1 }
+    ensures { Goes (module_seen design.now) sim.now }
 {
-    let [register] = design.registers() else {
-        return Ok(None);
-    };
-    if register.width != 32 || start > u32::MAX as u64 {
-        return Ok(None);
-    }
-    Ok(Some(Sim::new(alloc, design, &[start as u128])?))
 }
 
 // One edge.
@@ -86,34 +81,47 @@ fn print_edges(
     println!(rt; "  {outs:?}")
 }
 
-fn print_run(rt: HostRuntime, design: &Design, start: u64) -> io::Result<()>
-    requires { IsAccepted (module_seen design.now) }
+fn print_sim(rt: HostRuntime, design: &Design, sim: &mut Sim) -> io::Result<()>
+    requires { Goes (module_seen design.now) sim.old }
 {
-    let Ok(Some(mut sim)) = started(rt.alloc(), design, start) else {
-        return println!(rt; "  no register of 32 bits alone");
-    };
     let Ok(pins) = zeros(rt.alloc(), design) else {
         return println!(rt; "  no memory");
     };
     let mut outs = vec![in rt.alloc(); 0u128; design.outputs().len()]?;
-    print_edges(rt, design, &mut sim, &pins, &mut outs)
+    print_edges(rt, design, sim, &pins, &mut outs)
 }
 
-fn print_module(rt: HostRuntime, module: &[u8], start: u64) -> io::Result<()> {
+fn print_run(rt: HostRuntime, design: &Design) -> io::Result<()>
+    requires { IsAccepted (module_seen design.now) }
+{
+    let [register] = design.registers() else {
+        return println!(rt; "  no register, or more than one");
+    };
+    if register.width != 32 {
+        return println!(rt; "  a register of another width");
+    }
+    let Ok(mut sim) = Sim::new(rt.alloc(), design, &[7]) else {
+        return println!(rt; "  no memory");
+    };
+    one_register_goes(design, &sim);
+    print_sim(rt, design, &mut sim)
+}
+
+fn print_module(rt: HostRuntime, module: &[u8]) -> io::Result<()> {
     if module.len() >= u32::MAX as usize {
         return println!(rt; "  no module");
     }
     match read(rt.alloc(), module) {
-        Ok(design) => print_run(rt, &design, start),
+        Ok(design) => print_run(rt, &design),
         Err(_) => println!(rt; "  no module"),
     }
 }
 
-/// Prints the outputs of a source's module at three vectors of zeros, its one register of 32 bits containing a number
-/// before the first.
-pub(crate) fn print_start(rt: HostRuntime, text: &str, start: &str) -> io::Result<()> {
-    match (module_of(rt.alloc(), text), number(start)) {
-        (Some(module), Some(start)) => print_module(rt, module.bytes(), start),
-        _ => println!(rt; "  no module"),
+/// Prints the outputs of a source's module at three vectors of zeros, its one register of 32 bits containing 7 before the
+/// first.
+pub(crate) fn print_start(rt: HostRuntime, text: &str) -> io::Result<()> {
+    match module_of(rt.alloc(), text) {
+        Some(module) => print_module(rt, module.bytes()),
+        None => println!(rt; "  no module"),
     }
 }
