@@ -84,11 +84,7 @@ fn found(alloc: Global, refs: &Refs<'_>, count: u32) -> Result<Bound, NoMemory>
 }
 
 // What the references of a tree name. None where settings or references break a rule.
-fn bound_of<'a>(
-    alloc: Global,
-    arena: &'a Bump,
-    elab: &Elab<'a>,
-) -> Result<Option<Bound>, NoMemory>
+fn bound_of<'a>(alloc: Global, arena: &'a Bump, elab: &Elab<'a>) -> Result<Option<Bound>, NoMemory>
     requires { IsClean elab.now }
 {
     let settled = match settle(alloc, arena, elab) {

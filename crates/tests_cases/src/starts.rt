@@ -48,8 +48,7 @@ fn one_register_goes(design: &Design, sim: &Sim)
     requires is_sim { IsSimOf (module_seen design.now) sim.now }
     requires one { length (registers (module_seen design.now)) ≡ 1 }
     ensures { Goes (module_seen design.now) sim.now }
-{
-}
+{}
 
 // One edge.
 fn edge(design: &Design, sim: &mut Sim, pins: &[u128], outs: &mut [u128])
