@@ -1,6 +1,6 @@
 //! The register block of a source, as lines of text.
 
-ghost use Rattle.std.specs.Prelude.{IfSome};
+ghost use Rattle.std.specs.Prelude.{◌<◌, ◌^◌, ◌-◌, IfSome, length};
 ghost use Rattle.rb_model.specs.Sound.{IsSound};
 
 use crate::lines::{field_line, name_of, register_line, signal_line, view_line, word_line};
@@ -11,19 +11,27 @@ use rdl_verdict::judge;
 use std::alloc::Global;
 use std::io;
 
-/// The register block of a source. None where it breaks a rule, or for want of memory.
-pub(crate) fn block_of(alloc: Global, text: &str) -> Option<Block>
+// The register block of a text. None where it breaks a rule, or for want of memory.
+fn described(alloc: Global, text: &[u8]) -> Option<Block>
+    requires { length text.now < 2 ^ 32 - 1 }
     ensures { IfSome result (λ b. IsSound b) }
 {
     let arena = Bump::new(alloc);
-    let text = text.as_bytes();
-    if text.len() >= u32::MAX as usize {
-        return None;
-    }
     match judge(alloc, &arena, text, None) {
         Ok(judged) => Some(judged.block),
         Err(_) => None,
     }
+}
+
+/// The register block of a source. None where it breaks a rule, or for want of memory.
+pub(crate) fn block_of(alloc: Global, text: &str) -> Option<Block>
+    ensures { IfSome result (λ b. IsSound b) }
+{
+    let text = text.as_bytes();
+    if text.len() >= u32::MAX as usize {
+        return None;
+    }
+    described(alloc, text)
 }
 
 fn print_nodes(rt: HostRuntime, block: &Block) -> io::Result<()> {

@@ -1,6 +1,5 @@
 //! How many nodes a source has.
 
-ghost use Rattle.std.specs.Prelude.{IfOk};
 ghost use Rattle.rdl_tree.specs.InOrder.{IsInOrder};
 
 use crate::trees::read;

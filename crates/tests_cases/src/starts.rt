@@ -39,8 +39,8 @@ fn module_of(alloc: Global, text: &str) -> Option<MemSink> {
 fn zeros(alloc: Global, design: &Design) -> Result<Vec<u128>, NoMemory>
     ensures { IfOk result (λ v. FitsPins (inputs (module_seen design.now)) v.items) }
 {
-    let zeros = vec![in alloc; 0u128; design.inputs().len()]?;
-    Ok(zeros)
+    let numbers = vec![in alloc; 0u128; design.inputs().len()]?;
+    Ok(numbers)
 }
 
 // A simulation of a module of one register goes on.
