@@ -1,5 +1,9 @@
 //! Shelves in memory, with files of `data/`.
 
+ghost use Rattle.std.specs.Prelude.{◌≡◌, ◌≢◌, ℕ, false, List, None};
+ghost use Rattle.std.specs.Str.{bytes_eq};
+ghost use Rattle.rb_edge.specs.MemShelf.{files_of};
+
 use crate::setup::Setup;
 use rb_base::NoMemory;
 use rb_edge::{FileShelf, LoadError, MemShelf, load};
@@ -43,6 +47,22 @@ fn second<'f>(kept: &'f [Kept], first: &'f Kept) -> &'f Kept {
     found
 }
 
+// Whether two names are one.
+fn is_same(one: &str, two: &str) -> bool
+    ensures { result ≡ bytes_eq one.now two.now }
+{
+    one == two
+}
+
+// Adds a file to a shelf of one file, which has another name.
+fn put_other(shelf: &mut MemShelf, one: &str, two: &str, bytes: &[u8]) -> Result<(), NoMemory>
+    requires held { (any : List ℕ) → any ≢ one.now → files_of shelf.old any ≡ None }
+    requires other { bytes_eq one.now two.now ≡ false }
+{
+    shelf.put(two, bytes)?;
+    Ok(())
+}
+
 // A shelf of two files, or of the first where both have one name.
 fn filled(
     alloc: Global,
@@ -54,8 +74,8 @@ fn filled(
 ) -> Result<MemShelf, NoMemory> {
     let mut shelf = MemShelf::new(alloc, &[fails])?;
     shelf.put(one, bytes)?;
-    if one != two {
-        shelf.put(two, more)?;
+    if !is_same(one, two) {
+        put_other(&mut shelf, one, two, more)?;
     }
     Ok(shelf)
 }
