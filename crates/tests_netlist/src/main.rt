@@ -1,30 +1,29 @@
-//! Netlists built and printed: what holds of them, and their modules' texts with the length that a sink counts.
+//! Netlists built and printed: what holds of them, and the text of a module.
 #![tactic(auto)]
 
-mod fault;
 mod netlist;
 mod printed;
 
-use crate::fault::Fault;
 use crate::netlist::{one_expression_is_one_wire, seats_keep_their_order, sums_of_constants_wrap};
-use crate::printed::{Module, registers_have_blocks, wires_are_assigned};
+use crate::printed::wires_are_assigned;
+use rb_base::NoMemory;
 use std::io;
 
-fn show(rt: HostRuntime, title: &str, held: Result<bool, Fault>) -> io::Result<()> {
+fn show(rt: HostRuntime, title: &str, held: Result<bool, NoMemory>) -> io::Result<()> {
     match held {
         Ok(true) => println!(rt; "{}: holds", title),
         Ok(false) => println!(rt; "{}: does not hold", title),
-        Err(fault) => println!(rt; "{}: {}", title, fault.words()),
+        Err(NoMemory) => println!(rt; "{}: no memory", title),
     }
 }
 
-fn show_text(rt: HostRuntime, title: &str, printed: Result<Module, Fault>) -> io::Result<()> {
+fn show_text(rt: HostRuntime, title: &str, printed: Result<Vec<u8>, NoMemory>) -> io::Result<()> {
     match printed {
-        Ok(printed) => {
-            println!(rt; "{}: {} bytes", title, printed.length)?;
-            rt.stdout().write_all(&printed.text)
+        Ok(text) => {
+            println!(rt; "{}:", title)?;
+            rt.stdout().write_all(&text)
         }
-        Err(fault) => println!(rt; "{}: {}", title, fault.words()),
+        Err(NoMemory) => println!(rt; "{}: no memory", title),
     }
 }
 
@@ -37,6 +36,5 @@ fn main(rt: HostRuntime) -> io::Result<()> {
         one_expression_is_one_wire(alloc),
     )?;
     show(rt, "sums of constants wrap", sums_of_constants_wrap(alloc))?;
-    show_text(rt, "wires are assigned", wires_are_assigned(alloc))?;
-    show_text(rt, "registers have blocks", registers_have_blocks(alloc))
+    show_text(rt, "wires are assigned", wires_are_assigned(alloc))
 }

@@ -1,10 +1,10 @@
 //! Ports in their order, wires that are shared, and constants folded.
 
-use crate::fault::Fault;
+use rb_base::NoMemory;
 use rtl_net::{NetExpr, NetNode, Netlist, Taken};
 use std::alloc::Global;
 
-pub(crate) fn seats_keep_their_order(alloc: Global) -> Result<bool, Fault> {
+pub(crate) fn seats_keep_their_order(alloc: Global) -> Result<bool, NoMemory> {
     let mut net = Netlist::new(alloc, b"m")?;
     net.seat(b"b", 1)?;
     net.seat(b"a", 1)?;
@@ -17,7 +17,7 @@ pub(crate) fn seats_keep_their_order(alloc: Global) -> Result<bool, Fault> {
     Ok(taken == Some((Some(Taken::Output(a)), Some(Taken::Input(a)))))
 }
 
-pub(crate) fn one_expression_is_one_wire(alloc: Global) -> Result<bool, Fault> {
+pub(crate) fn one_expression_is_one_wire(alloc: Global) -> Result<bool, NoMemory> {
     let mut net = Netlist::new(alloc, b"m")?;
     let a = net.input(b"a", 1)?;
     let b = net.input(b"b", 1)?;
@@ -26,7 +26,7 @@ pub(crate) fn one_expression_is_one_wire(alloc: Global) -> Result<bool, Fault> {
     Ok(first == second && net.nodes().len() == 3)
 }
 
-pub(crate) fn sums_of_constants_wrap(alloc: Global) -> Result<bool, Fault> {
+pub(crate) fn sums_of_constants_wrap(alloc: Global) -> Result<bool, NoMemory> {
     let mut net = Netlist::new(alloc, b"m")?;
     let a = net.wire(NetExpr::Const(4, 15))?;
     let b = net.wire(NetExpr::Const(4, 3))?;
