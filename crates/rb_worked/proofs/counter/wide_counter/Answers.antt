@@ -1,8 +1,0 @@
-use Rattle.std.proofs.Common.{sym, subst}
-use Rattle.std.proofs.lemmas.Result.{IfOk-weaker}
-use Rattle.rb_model.specs.Sound.{IsSound}
-use Rattle.rb_worked.proofs.WorkedSound.{wrapping_sound}
-use Rattle.rb_worked.proofs.counter.wide_counter.Goals as goal
-
-pub returns-clause-sound : goal.returns-clause-sound
-returns-clause-sound c = IfOk-weaker _ _ IsSound (λ b same. subst IsSound (sym same) (wrapping_sound)) c.built.ensures
