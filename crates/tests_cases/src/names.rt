@@ -70,7 +70,7 @@ fn found(alloc: Global, refs: &Refs<'_>, count: u32) -> Result<Bound, NoMemory>
 {
     let names = names_of(alloc, refs, count)?;
     let circle = match order(alloc, refs) {
-        Ok(_) => None,
+        Ok(_order) => None,
         Err(OrderError::Loop(items)) => Some(items.len()),
         Err(OrderError::NoMemory) => return Err(NoMemory),
     };
