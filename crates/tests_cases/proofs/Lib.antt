@@ -1,2 +1,2 @@
-mod Names
+mod Apart
 mod Starting

@@ -1,4 +1,4 @@
-use Rattle.tests_cases.proofs.Names.{apart}
+use Rattle.tests_cases.proofs.Apart.{apart}
 use Rattle.tests_cases.proofs.shelves.put_other.Goals as goal
 
 pub put-requires : goal.put-requires
