@@ -8,7 +8,8 @@ use Rattle.std.proofs.lemmas.Fmt.{decimal_digit}
 use Rattle.std.proofs.lemmas.List.{length-map}
 use Rattle.std.proofs.lemmas.List.Elements.{All-from_recursion, recursion_from_All}
 use Rattle.std.proofs.lemmas.List.Folds.{list_all-map}
-use Rattle.std.proofs.lemmas.Slice.Eq.{bytes_eq-Decides}
+use Rattle.plain_lemmas.proofs.Bools.{and-both}
+use Rattle.plain_lemmas.proofs.Lists.{bytes_eq-same as same-text}
 use Rattle.rdl_tree.specs.Words.{is_word}
 use Rattle.command_line.specs.Words.{AreFileWords, Asks, AsksNothing, Command, IsCommand, IsFileWord, IsTop, IsWaits, check, compile, gen_of, map_of, run_of, sim, texts, top_words, waits_words, words_of}
 use Rattle.command_line.specs.Found.{Topped, Waited, are_files, compiled, count_in, counted, file_pair, found_in, is_file, named, one_count, one_file, ran, some_files, some_gen, topped, two_files, waited}
@@ -41,10 +42,6 @@ file-word (b ∷ bs) e = record { some = omega arith; no_dash = λ q. differs b 
   where
     differs : (n : ℕ) → n ≡ 45 → not (n == 45) ≡ true → ⊥
     differs n q r = let bad : false ≡ true = sym (ap (λ m. not (m == 45)) q) ∙ r in cc bad
-
-and-both : (a b : Bool) → (a && b) ≡ true → (a ≡ true) × (b ≡ true)
-and-both true b e = (refl, e)
-and-both false b e = cc e
 
 files-yes : (ws : List (List ℕ)) → AllByRecursion IsFileWord ws → list_all is_file ws ≡ true
 files-yes [] h = refl
@@ -100,9 +97,6 @@ top-found (Some n) ws h b = ap (λ t. cond t (Some (record { top = Some n; rest 
 pub record IsTopped (ws : List (List ℕ)) (t : Topped) : Type 0 where
   pub spelled : ws ≡ top_words t.top ++ t.rest
   pub formed : IsTop t.top
-
-same-text : (v w : List ℕ) → bytes_eq v w ≡ true → v ≡ w
-same-text v w e = (bytes_eq-Decides v w).0 e
 
 found-named : (ws : List (List ℕ)) (t : Topped) → named ws ≡ Some t → IsTopped (codes "--top" ∷ ws) t
 found-named [] t e = cc e

@@ -4,6 +4,7 @@ use Rattle.std.specs.Str.Parse.{ParsesUnsigned, digits_value}
 use Rattle.std.proofs.lemmas.Bool.{le-leb, leb-true}
 use Rattle.std.proofs.lemmas.Fmt.{decimal_is_IsNumeral, parse-decimal}
 use Rattle.std.proofs.lemmas.Slice.Eq.{bytes_eq-Decides}
+use Rattle.plain_lemmas.proofs.Bools.{and-both as both}
 use Rattle.command_line.specs.Found.{count_in, gives}
 
 -- the word is the decimal of the number, which is 1 to 8,192
@@ -11,10 +12,6 @@ pub record IsCount (word : List ℕ) (n : ℕ) : Type 0 where
   pub spelled : word ≡ decimal n
   pub some : 1 ≤ n
   pub few : n ≤ 8192
-
-both : (a b : Bool) → (a && b) ≡ true → (a ≡ true) × (b ≡ true)
-both true b e = (refl, e)
-both false b e = cc e
 
 pub count-gives : (word : List ℕ) (n : ℕ) → IsCount word n → gives word n ≡ true
 count-gives word n h =

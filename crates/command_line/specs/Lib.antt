@@ -1,3 +1,4 @@
-pub mod Words
-pub mod Found
 pub mod Command
+pub mod Found
+pub mod Source
+pub mod Words

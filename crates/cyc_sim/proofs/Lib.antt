@@ -1,15 +1,15 @@
-mod Numbers
-mod Settling
 mod Compiling
 mod Concatenating
-mod Sizes
-mod Places
-mod Stepping
-mod Knowing
 pub mod Facts
+mod Knowing
+mod Numbers
 mod Ordering
+mod Places
+mod Programs
+mod Readying
+mod Settling
+mod Sizes
 mod Stages
 mod Standing
-mod Readying
 mod Statements
-mod Programs
+mod Stepping

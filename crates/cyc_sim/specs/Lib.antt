@@ -1,6 +1,6 @@
-pub mod Order
-pub mod Operations
-pub mod Compiled
-pub mod Simulation
 pub mod Accepted
+pub mod Compiled
+pub mod Operations
+pub mod Order
 pub mod Preparing
+pub mod Simulation

@@ -1,5 +1,5 @@
-pub mod Reaching
-mod Puts
-pub mod Turns
 mod Loops
 mod MarkSteps
+mod Puts
+pub mod Reaching
+pub mod Turns

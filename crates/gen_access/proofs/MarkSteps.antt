@@ -4,6 +4,8 @@ use Rattle.std.specs.List.{list_any}
 use Rattle.std.specs.Option.{option_map_or}
 use Rattle.std.proofs.lemmas.List.{get_or-replicate, length-replicate, length-append, get_or_append_left, get_or_at}
 use Rattle.std.proofs.lemmas.Option.{slice_get_within}
+use Rattle.plain_lemmas.proofs.Bools.{and-false as and_false, if-same as same_either}
+use Rattle.plain_lemmas.proofs.Numbers.{below-nat_lt as within}
 use Rattle.rtl_net.specs.Value.{bit_of}
 use Rattle.rtl_net.specs.Net.{Net, Grows, IsNode, Stands}
 use Rattle.rtl_net.specs.Ids.{at}
@@ -15,10 +17,10 @@ use Rattle.rb_model.specs.declared.block.Field.{Field}
 use Rattle.rb_model.specs.declared.block.View.{View}
 use Rattle.rb_model.specs.declared.block.Slot.{Slot}
 use Rattle.rb_model.specs.Items.{Access, NoAccess, Read, Write, Now, ItemValues, made, reaches, shows, slots_of}
-use Rattle.rb_plan.specs.Behind.{IsThere}
+use Rattle.block_plan.specs.Behind.{IsThere}
 use Rattle.gen_scene.specs.declared.base.Inlet.{Inlet}
 use Rattle.gen_scene.specs.declared.items.Marks.{Marks}
-use Rattle.rb_wanted.specs.Wanted.{is_wanted}
+use Rattle.block_plan.specs.Wanted.{is_wanted}
 use Rattle.gen_scene.specs.Items.{AreMarks, mark_at}
 use Rattle.gen_scene.specs.Worth.{IsWorth}
 use Rattle.gen_access.specs.declared.touched.Mark.{Mark}
@@ -29,13 +31,9 @@ use Rattle.gen_access.specs.Tables.{AreNodes, AreWorth}
 use Rattle.gen_access.specs.Words.{is_at, written_word}
 use Rattle.gen_access.specs.Touches.{ArePaired, IsReading, mark_item, mark_value, marks_step, one_bit, slot_mark, touch_reached, touch_words, touches}
 use Rattle.gen_access.proofs.Puts.{shows_here, shows_other}
-use Rattle.gen_access.proofs.Turns.{same_either, same_or_other}
+use Rattle.gen_access.proofs.Turns.{same_or_other}
 
 -- A slot
-
-and_false : (c : Bool) → (c && false) ≡ false
-and_false true = refl
-and_false false = refl
 
 module _ (b : Block) (wanted : List Bool) (m : Mark) (t : Touch) (s : Slot) (u : View) (here : slice_get b.views s.view ≡ Some u) where
   pub mark_other : (n : Now) (v : ItemValues) (k : ℕ) (f : Field) (x : ℕ) → k ≢ u.field → slot_mark b wanted m t n v k f x s ≡ x
@@ -92,9 +90,6 @@ if_bit false c = refl
 none_marked : (w : Bool) → 0 ≡ (if w then bit_of false else 0)
 none_marked true = refl
 none_marked false = refl
-
-within : (i j : ℕ) → i < j → nat_lt i j ≡ true
-within i j l = grind arith
 
 module _ (b : Block) (wanted : List Bool) (m : Mark) where
   by_reads : (t : Touch) (n : Now) (v : ItemValues) (k : ℕ) (f : Field) (a : Access) → IsReading t → IsThere b a

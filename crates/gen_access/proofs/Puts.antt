@@ -2,6 +2,7 @@
 use Rattle.std.proofs.Common.{◌≡◌, ◌≢◌, ℕ, zero, suc, ◌+◌, ◌-◌, ◌<◌, ◌==◌, Bool, true, false, not, ◌&&◌, ◌||◌, if◌then◌else◌, Option, Some, List, [], ◌∷◌, slice_get, refl, sym, ap, ◌∙◌, subst, arith}
 use Rattle.std.specs.List.{list_any}
 use Rattle.std.specs.Option.{option_map_or}
+use Rattle.plain_lemmas.proofs.Bools.{same-if as same_either}
 use Rattle.rb_base.specs.Bits.{part}
 use Rattle.rtl_net.specs.Value.{bit_of}
 use Rattle.rtl_net.specs.Net.{Net, Grows, IsNode, Stands, seen_or_zero, width_in}
@@ -166,11 +167,6 @@ module _ (b : Block) (a : Inlet) (old net new : Net) (s : Slot) (u : View) (hit 
       used_value true true h q y p e l = let z : q ≡ 1 = e ∙ rw p refl in rw z refl
       used_value true false h q y p e l = let z : q ≡ 0 = e ∙ rw p refl in rw z (bit_again y l)
       used_value false t h q y p e l = let z : q ≡ 0 = e ∙ rw p refl in rw z (bit_again y l)
-
--- what doesn't act leaves the node
-same_either : (c : Bool) (y : ℕ) → y ≡ (if c then y else y)
-same_either true y = refl
-same_either false y = refl
 
 pub kept_put : (b : Block) (a : Inlet) (net : Net) (e : Effect) (s : Slot) (k : ℕ) (hit v : Id) → ((f : Field) → slice_get b.fields k ≡ Some f → Stands net v (width_of e f))
     → ((n : Now) (u : ItemValues) (f : Field) (x : ℕ) → slot_effect b e n u k f x s ≡ x) → IsPut b a net net e s k hit v v

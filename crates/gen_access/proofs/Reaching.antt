@@ -1,20 +1,18 @@
 -- Which words the nodes of an access reach.
 use Rattle.std.proofs.Common.{◌≡◌, ℕ, ◌<◌, ◌==◌, Bool, true, false, ◌&&◌, if◌then◌else◌, List, length, refl, sym, ap, ◌∙◌, subst, arith, inl, inr, ◌⊎◌}
+use Rattle.plain_lemmas.proofs.Numbers.{below-two as below_two}
 use Rattle.rtl_net.specs.Value.{At, bit_of}
 use Rattle.rtl_net.specs.Net.{Net, IsNode, Settles}
 use Rattle.rtl_net.specs.declared.node.Id.{Id}
 use Rattle.rtl_net.proofs.Nets.{fits_at}
 use Rattle.rb_model.specs.declared.block.Block.{Block}
 use Rattle.rb_model.specs.Items.{Access, NoAccess, Read, Write, Now}
-use Rattle.rb_plan.specs.Behind.{IsThere}
+use Rattle.block_plan.specs.Behind.{IsThere}
 use Rattle.gen_decode.specs.Hits.{AreHits}
 use Rattle.gen_scene.specs.declared.base.Inlet.{Inlet}
 use Rattle.gen_scene.specs.Bases.{HasInlet}
 use Rattle.gen_scene.specs.Worth.{Finds}
 use Rattle.gen_access.specs.Words.{AreHitsOf, data_of, is_at, read_word, written_word}
-
-below_two : (x : ℕ) → x < 2 → (x ≡ 0) ⊎ (x ≡ 1)
-below_two x h = grind arith
 
 -- an access of these nodes
 abbrev pub access_of : (valid write word bits : ℕ) → Access

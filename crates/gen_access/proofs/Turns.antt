@@ -1,9 +1,11 @@
 -- What slots and words in turn make of a table.
-use Rattle.std.proofs.Common.{◌≡◌, ◌≢◌, ℕ, ◌+◌, ◌<◌, ◌≤◌, ◌==◌, nat_lt, Bool, true, false, if◌then◌else◌, Option, Some, None, List, [], ◌∷◌, ◌++◌, length, fold, take, drop, slice_get, get_or, refl, sym, ap, ◌∙◌, subst, arith, get_or-set_other, get_or-set_same, length-set, inl, inr, ◌⊎◌}
+use Rattle.std.proofs.Common.{◌≡◌, ◌≢◌, ℕ, ◌+◌, ◌<◌, ◌≤◌, ◌==◌, nat_lt, Bool, true, false, if◌then◌else◌, Option, Some, None, List, [], ◌++◌, length, fold, take, drop, slice_get, get_or, refl, sym, ap, ◌∙◌, subst, arith, get_or-set_other, get_or-set_same, length-set, inl, inr, ◌⊎◌}
 use Rattle.std.proofs.Math.ListN.{set}
 use Rattle.std.specs.Option.{option_map_or}
 use Rattle.std.proofs.lemmas.List.{take_at, take_more}
 use Rattle.std.proofs.lemmas.Option.{same_Some, slice_get-get_or, slice_get_within}
+use Rattle.plain_lemmas.proofs.Bools.{if-same as same_either}
+use Rattle.plain_lemmas.proofs.Lists.{fold-push}
 use Rattle.rtl_net.specs.Net.{Net, Grows, Stands}
 use Rattle.rtl_net.specs.Ids.{at}
 use Rattle.rtl_net.specs.declared.node.Id.{Id}
@@ -16,7 +18,7 @@ use Rattle.rb_model.specs.declared.block.Word.{Word}
 use Rattle.rb_model.specs.Items.{Access, Now, ItemValues, AreItemValues, slots_of}
 use Rattle.rb_model.specs.Sound.{IsSound, WordIsSound, SlotIsSound}
 use Rattle.rb_model.proofs.Eachs.{Each-at}
-use Rattle.rb_plan.specs.Behind.{IsThere}
+use Rattle.block_plan.specs.Behind.{IsThere}
 use Rattle.gen_scene.specs.declared.base.Inlet.{Inlet}
 use Rattle.gen_scene.specs.declared.scene.Scene.{Scene}
 use Rattle.gen_scene.specs.Worth.{IsWorth}
@@ -160,17 +162,9 @@ steps_more b a first net new start table table' width done one more same to h e 
 abbrev pub slots_step : (Access → Option ℕ) → SlotStep → ℕ → List Slot → Step
 slots_step reached each j slots n v k f x = if is_at j (reached n.access) then fold (each n v k f) x slots else x
 
-fold-push : {A X : Type 0} (f : A → X → A) (a : A) (xs : List X) (x : X) → fold f a (xs ++ x ∷ []) ≡ f (fold f a xs) x
-fold-push f a [] x = refl
-fold-push f a (y ∷ xs) x = fold-push f (f a y) xs x
-
 twice : (c : Bool) (f : ℕ → ℕ) (x y z : ℕ) → f x ≡ z → (if c then f (if c then x else y) else (if c then x else y)) ≡ (if c then z else y)
 twice true f x y z e = e
 twice false f x y z e = refl
-
-pub same_either : (c : Bool) (y : ℕ) → (if c then y else y) ≡ y
-same_either true y = refl
-same_either false y = refl
 
 module _ (reached : Access → Option ℕ) (each : SlotStep) (j : ℕ) where
   pub slots_none : (slots : List Slot) (n : Now) (v : ItemValues) (k : ℕ) (f : Field) (x : ℕ) → slots_step reached each j (take 0 slots) n v k f x ≡ x

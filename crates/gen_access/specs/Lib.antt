@@ -1,4 +1,4 @@
-pub mod Tables
-pub mod Words
 pub mod Effects
+pub mod Tables
 pub mod Touches
+pub mod Words

@@ -12,7 +12,7 @@ use Rattle.rb_model.specs.declared.block.Word.{Word}
 use Rattle.rb_model.specs.Effects.{has_read_effect}
 use Rattle.rb_model.specs.Items.{Access, Now, reaches, shows}
 use Rattle.gen_scene.specs.declared.items.Marks.{Marks}
-use Rattle.rb_wanted.specs.Wanted.{is_wanted}
+use Rattle.block_plan.specs.Wanted.{is_wanted}
 use Rattle.gen_scene.specs.Items.{mark_at}
 use Rattle.gen_access.specs.declared.touched.Mark.{Mark}
 use Rattle.gen_access.specs.declared.touched.Mark.TheVariants as mark

@@ -5,7 +5,7 @@ ghost use Rattle.rtl_net.specs.Value.{bit_of};
 ghost use Rattle.rtl_net.specs.Net.{Grows, Stands};
 ghost use Rattle.rb_model.specs.Sound.{IsSound, WordIsSound};
 ghost use Rattle.gen_scene.specs.Bases.{IsBase};
-ghost use Rattle.rb_wanted.specs.Wanted as wants;
+ghost use Rattle.block_plan.specs.Wanted as wants;
 ghost use Rattle.gen_scene.specs.Items as items;
 ghost use Rattle.gen_scene.specs.Worth.{IsWorth};
 ghost use Rattle.gen_access.specs.Tables.{AreNodes, AreWorth, Changes};
@@ -14,12 +14,12 @@ ghost use Rattle.gen_access.specs.Touches as spec;
 
 use crate::reached::WordHits;
 use crate::software::view_at;
+use block_plan::is_wanted;
 use gen_scene::{Base, Marks};
 use net_gates::{either, zero};
 use rb_base::NoMemory;
 use rb_effects::has_read_effect;
 use rb_model::{Field, RefItem, Slot, View, Word};
-use rb_wanted::is_wanted;
 use rtl_net::{Id, Netlist};
 use std::alloc::Global;
 

@@ -5,6 +5,7 @@ use Rattle.std.specs.List.{enumerate_from}
 use Rattle.std.specs.Option.{option_map_or}
 use Rattle.std.proofs.lemmas.List.Quantifiers.{position-Some}
 use Rattle.std.proofs.lemmas.Option.{slice_get_within, get_or_from_slice_get}
+use Rattle.plain_lemmas.proofs.Lists.{map-alike as all_mapped}
 use Rattle.rtl_net.specs.Value.{At, bit_of}
 use Rattle.rtl_net.specs.Net.{Net, Settles}
 use Rattle.rtl_net.specs.declared.node.Id.{Id}
@@ -22,13 +23,13 @@ use Rattle.rb_model.specs.Run.{all_outputs, carried, carries, closes, data_shown
 use Rattle.rb_model.specs.Sound.{IsSound}
 use Rattle.rb_model.proofs.Eachs.{Each-append, Each-at, Each-flat_map, Each-numbered_all}
 use Rattle.rb_model.proofs.OwnViews.{by_cases}
-use Rattle.rb_plan.specs.Behind.{IsThere}
-use Rattle.rb_plan.specs.Kept.{field_kept}
+use Rattle.block_plan.specs.Behind.{IsThere}
+use Rattle.block_plan.specs.Kept.{field_kept}
 use Rattle.gen_scene.specs.declared.base.Inlet.{Inlet}
 use Rattle.gen_scene.specs.Bases.{kept_number}
 use Rattle.gen_scene.specs.Worth.{Finds, access_at}
-use Rattle.gen_bus.specs.Bus.{Meets, cleared}
-use Rattle.gen_bus.specs.Fronts.{IsClosing, ShowsData}
+use Rattle.gen_apb.specs.Bus.{Meets, cleared}
+use Rattle.gen_apb.specs.Fronts.{IsClosing, ShowsData}
 use Rattle.gen_ports.proofs.Laying.{kept_of_fields}
 use Rattle.gen_apb.proofs.Naming.{contains_at, not_bus}
 use Rattle.gen_apb.specs.Built.{IsBuilt}
@@ -119,10 +120,6 @@ IsQuiet p = p.resetn ≡ 0 → p.select ≡ 0
 
 row : (a b c : ℕ) (x y z : ℕ) (xs ys : List ℕ) → a ≡ x → b ≡ y → c ≡ z → xs ≡ ys → a ∷ b ∷ c ∷ xs ≡ x ∷ y ∷ z ∷ ys
 row a b c x y z xs ys e f g h = cc
-
-all_mapped : {X Y : Type 0} (f g : X → Y) (xs : List X) → ((x : X) → Contains xs x → f x ≡ g x) → map f xs ≡ map g xs
-all_mapped f g [] h = refl
-all_mapped f g (x ∷ xs) h = (λ i. h x (0, omega arith, refl) i ∷ all_mapped f g xs (λ y c. h y (suc c.0, omega (arith, c.1), c.2)) i)
 
 module _ (b : Block) (sound : IsSound b) (net : Net) (built : IsBuilt b net) (v : At) (settles : Settles net v) (m : Map) (holds : Holds b m v.kept) (quiet : IsQuiet (bus_of v.ins)) where
   abbrev here : Now

@@ -21,7 +21,7 @@ use Rattle.rb_model.proofs.Apart.{Apart, Name, bytes_eq-not, bytes_eq-to}
 use Rattle.rb_model.proofs.OwnViews.{by_cases}
 use Rattle.v_printer.specs.Module.{port_of, side_of}
 use Rattle.gen_ports.specs.Laid.{AreSeatsOf, IsSeatOf, IsTakenAs}
-use Rattle.gen_ties.specs.Ties.{SeatsTaken}
+use Rattle.gen_core.specs.Ties.{SeatsTaken}
 
 -- Lists of outputs taken one after the other
 

@@ -1,6 +1,10 @@
-mod Filling
-mod Naming
+mod Accessing
 mod Edging
+mod Filling
+mod Fronting
+mod Naming
+pub mod OfBus
 mod Parts
 mod Running
 mod Titles
+mod WaitSteps

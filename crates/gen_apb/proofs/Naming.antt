@@ -1,10 +1,11 @@
 -- The names of a block's ports and registers differ.
-use Rattle.std.proofs.Common.{◌≡◌, ℕ, zero, suc, ◌+◌, ◌<◌, Bool, true, false, ◌||◌, if◌then◌else◌, Some, None, List, [], ◌∷◌, ◌++◌, codes, length, map, filter, slice_get, refl, sym, ap, ◌∙◌, subst, arith}
+use Rattle.std.proofs.Common.{◌≡◌, ℕ, ◌+◌, ◌<◌, Bool, true, false, ◌||◌, if◌then◌else◌, Some, None, List, [], ◌∷◌, ◌++◌, codes, length, map, filter, slice_get, refl, sym, ap, ◌∙◌, subst, arith}
 use Rattle.std.specs.Prelude.{Contains}
 use Rattle.std.specs.List.{list_any}
 use Rattle.std.specs.Str.{bytes_eq}
 use Rattle.std.proofs.lemmas.List.Folds.{list_any-append}
 use Rattle.std.proofs.lemmas.Option.{same_Some, slice_get_read, slice_get_within}
+use Rattle.plain_lemmas.proofs.Lists.{get-behind as behind, get-front_of as front, get-map_at as mapped_at, map-map as mapped}
 use Rattle.rb_base.specs.declared.ports.Pin.{Pin}
 use Rattle.rb_base.specs.declared.ports.Port.{Port}
 use Rattle.v_design.specs.Design.{is_output, outputs_among, port_pin}
@@ -19,11 +20,11 @@ use Rattle.rb_model.specs.References.{Each}
 use Rattle.rb_model.proofs.Apart.{Apart, Apart-filter, Apart-from, Apart-place, Name, bytes_eq-from, bytes_eq-not}
 use Rattle.rb_model.proofs.Eachs.{Each-append, Each-left, Each-right, Each-weaker}
 use Rattle.rb_model.proofs.InputPins.{output_pins_are}
-use Rattle.rb_plan.specs.Kept.{field_kept, kept_pin}
+use Rattle.block_plan.specs.Kept.{field_kept, kept_pin}
 use Rattle.gen_scene.specs.Bases.{kept_number}
 use Rattle.gen_scene.proofs.ResetPins.{kept_is_of}
 use Rattle.gen_ports.specs.Laid.{AreSeatsOf}
-use Rattle.gen_ties.specs.Ties.{outlet_pin}
+use Rattle.gen_core.specs.Ties.{outlet_pin}
 use Rattle.gen_apb.specs.Built.{bus_shown}
 use Rattle.gen_apb.proofs.Filling.{AreShownBy, names_one}
 
@@ -38,24 +39,6 @@ abbrev pub AllApart : Block → Type 0
 AllApart b = distinct (port_names (ports b) ++ pin_names (kept_pins b)) ≡ true
 
 -- Lists
-
-mapped_at : {X Y : Type 0} (f : X → Y) (xs : List X) (k : ℕ) (x : X) → slice_get xs k ≡ Some x → slice_get (map f xs) k ≡ Some (f x)
-mapped_at f [] k x e = cc
-mapped_at f (y ∷ ys) zero x e = ap (λ o. Some (f o)) (same_Some y x e)
-mapped_at f (y ∷ ys) (suc k) x e = mapped_at f ys k x e
-
-pub mapped : {X Y Z : Type 0} (f : Y → Z) (g : X → Y) (xs : List X) → map f (map g xs) ≡ map (λ x. f (g x)) xs
-mapped f g [] = refl
-mapped f g (x ∷ xs) = ap (λ ys. f (g x) ∷ ys) (mapped f g xs)
-
-front : {X : Type 0} (xs ys : List X) (y : X) (k : ℕ) → slice_get xs k ≡ Some y → slice_get (xs ++ ys) k ≡ Some y
-front [] ys y k e = cc
-front (z ∷ xs) ys y zero e = e
-front (z ∷ xs) ys y (suc k) e = front xs ys y k e
-
-behind : {X : Type 0} (xs ys : List X) (k : ℕ) → slice_get (xs ++ ys) (length xs + k) ≡ slice_get ys k
-behind [] ys k = let z : 0 + k ≡ k = omega arith in ap (slice_get ys) z
-behind (x ∷ xs) ys k = let z : suc (length xs) + k ≡ suc (length xs + k) = omega arith in ap (slice_get (x ∷ xs ++ ys)) z ∙ behind xs ys k
 
 Apart-left : (xs ys : List Name) → Apart (xs ++ ys) → Apart xs
 Apart-left [] ys h = tt

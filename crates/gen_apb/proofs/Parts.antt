@@ -4,6 +4,7 @@ use Rattle.std.specs.Prelude.{Contains, IsSome, get_or}
 use Rattle.std.specs.List.{enumerate_from, flat_map}
 use Rattle.std.specs.Str.{bytes_eq}
 use Rattle.std.proofs.lemmas.List.{map-append}
+use Rattle.plain_lemmas.proofs.Lists.{map-map as mapped}
 use Rattle.rb_base.specs.declared.ports.Pin.{Pin}
 use Rattle.v_design.specs.Design.{is_output, outputs_among, port_pin}
 use Rattle.rtl_net.specs.Names.{Lacks}
@@ -23,19 +24,19 @@ use Rattle.rb_model.specs.References.{Each}
 use Rattle.rb_model.specs.Sound.{IsSound}
 use Rattle.rb_model.proofs.Eachs.{Each-append, Each-map, Each-passing, Each-right, Each-weaker}
 use Rattle.rb_model.proofs.InputPins.{bus_pins, input_pins_are, output_pins_are}
-use Rattle.rb_plan.specs.Kept.{field_kept, kept_pin}
+use Rattle.block_plan.specs.Kept.{field_kept, kept_pin}
 use Rattle.gen_scene.specs.Bases.{kept_number}
-use Rattle.gen_bus.specs.declared.front.Front.{Front}
-use Rattle.gen_bus.specs.Fronts.{IsClosing, IsFront, ShowsData, access_registers, data_registers}
-use Rattle.gen_bus.proofs.OfBus.{of_bus-extends}
+use Rattle.gen_apb.specs.declared.front.Front.{Front}
+use Rattle.gen_apb.specs.Fronts.{IsClosing, IsFront, ShowsData, access_registers, data_registers}
+use Rattle.gen_apb.proofs.OfBus.{of_bus-extends}
 use Rattle.gen_core.specs.Core.{IsCore}
 use Rattle.gen_ports.specs.Laid.{AreInputs, AreSeatsOf}
 use Rattle.gen_ports.proofs.Laying.{kept_of_fields}
-use Rattle.gen_ties.specs.Ties.{SeatsTaken, outlet_pin}
+use Rattle.gen_core.specs.Ties.{SeatsTaken, outlet_pin}
 use Rattle.gen_apb.specs.Built.{IsBuilt, ShowsBus, bus_shown}
 use Rattle.gen_apb.proofs.Edging.{bus_kept}
 use Rattle.gen_apb.proofs.Filling.{room_stays, taken-append}
-use Rattle.gen_apb.proofs.Naming.{AllApart, lacks_kept, mapped, not_bus, outlets_apart, port_lacks}
+use Rattle.gen_apb.proofs.Naming.{AllApart, lacks_kept, not_bus, outlets_apart, port_lacks}
 
 -- The pins of the bus
 

@@ -26,10 +26,10 @@ use Rattle.rb_model.specs.Sound.{IsSound}
 use Rattle.rb_model.specs.Items.{AreItemValues}
 use Rattle.rb_model.proofs.Apart.{Apart}
 use Rattle.rb_model.proofs.InputPins.{output_pins_are, pin_by_place}
-use Rattle.rb_plan.specs.Kept.{field_kept, kept_pin}
-use Rattle.gen_bus.specs.Fronts.{IsClosing, access_registers, data_registers}
+use Rattle.block_plan.specs.Kept.{field_kept, kept_pin}
+use Rattle.gen_apb.specs.Fronts.{IsClosing, access_registers, data_registers}
 use Rattle.gen_text.specs.Netlist.{IsNetlistOf}
-use Rattle.gen_ties.specs.Ties.{outlet_pin}
+use Rattle.gen_core.specs.Ties.{outlet_pin}
 use Rattle.gen_apb.specs.Built.{IsBuilt, bus_shown}
 use Rattle.gen_apb.proofs.Edging.{IsQuiet, held_after, outs_are}
 use Rattle.gen_apb.proofs.Filling.{IsFilled, all_become, all_filled, all_taken, given_pins, ports_of, shown_pins}

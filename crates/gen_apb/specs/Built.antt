@@ -7,12 +7,12 @@ use Rattle.rtl_net.specs.declared.node.Id.{Id}
 use Rattle.rtl_net.specs.declared.node.Seat.{Seat}
 use Rattle.rb_model.specs.declared.block.Block.{Block}
 use Rattle.rb_model.specs.Ports.{outlets, pin, ports}
-use Rattle.rb_plan.specs.Kept.{field_kept, kept_pin}
+use Rattle.block_plan.specs.Kept.{field_kept, kept_pin}
 use Rattle.gen_ports.specs.Laid.{AreSeatsOf}
-use Rattle.gen_bus.specs.declared.front.Front.{Front}
-use Rattle.gen_bus.specs.Fronts.{IsFront, ShowsData, access_registers, data_registers}
+use Rattle.gen_apb.specs.declared.front.Front.{Front}
+use Rattle.gen_apb.specs.Fronts.{IsFront, ShowsData, access_registers, data_registers}
 use Rattle.gen_core.specs.Core.{IsCore}
-use Rattle.gen_ties.specs.Ties.{SeatsTaken, outlet_pin}
+use Rattle.gen_core.specs.Ties.{SeatsTaken, outlet_pin}
 
 -- the outputs of the bus
 abbrev pub bus_shown : List Pin

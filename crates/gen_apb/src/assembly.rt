@@ -7,11 +7,13 @@ ghost use Rattle.rb_model.specs.declared.block.Block.{Block as BlockOf};
 ghost use Rattle.rb_model.specs.Sound.{IsSound};
 ghost use Rattle.gen_ports.specs.Laid.{AreInputs};
 ghost use Rattle.gen_text.specs.Netlist.{IsNetlistOf};
-ghost use Rattle.gen_bus.specs.Pins.{HasBusPins};
+ghost use Rattle.gen_apb.specs.Pins.{HasBusPins};
 ghost use Rattle.gen_apb.specs.Built.{IsBuilt};
 
+use crate::data::data_node;
+use crate::front::bus_front;
 use crate::outputs::bus_outputs;
-use gen_bus::{BusPins, bus_front, data_node};
+use crate::pins::BusPins;
 use gen_core::core;
 use gen_ports::port_nodes;
 use rb_base::NoMemory;

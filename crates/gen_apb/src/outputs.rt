@@ -3,7 +3,7 @@
 ghost use Rattle.std.specs.Prelude.{◌≡◌, OnOk, codes};
 ghost use Rattle.rtl_net.specs.Net.{Extends, Stands, registers_of, undriven};
 ghost use Rattle.rtl_net.specs.Ports.{IsFree};
-ghost use Rattle.gen_ties.specs.Ties.{SeatsTaken};
+ghost use Rattle.gen_core.specs.Ties.{SeatsTaken};
 ghost use Rattle.gen_apb.specs.Built.{ShowsBus, bus_shown};
 
 use rb_base::NoMemory;

@@ -5,10 +5,10 @@ use Rattle.rtl_net.specs.declared.node.Id.{Id}
 use Rattle.rtl_net.specs.declared.node.NetNode.{NetNode}
 use Rattle.rtl_net.proofs.Nets.{Extends-trans}
 use Rattle.rb_model.specs.declared.block.Block.{Block}
-use Rattle.rb_plan.specs.declared.plan.Plan.{Plan}
+use Rattle.block_plan.specs.declared.plan.Plan.{Plan}
 use Rattle.gen_scene.specs.declared.base.Inlet.{Inlet}
 use Rattle.gen_scene.proofs.Worths.{IsWorth-extends}
-use Rattle.gen_ties.specs.Ties.{AreAwaiting, MovesOn, Shows}
+use Rattle.gen_core.specs.Ties.{AreAwaiting, MovesOn, Shows}
 use Rattle.gen_core.specs.declared.nodes.Taken.{Taken}
 use Rattle.gen_core.specs.Core.{IsCore}
 use Rattle.gen_core.specs.Parts.{HasTaken}

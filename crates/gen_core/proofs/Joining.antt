@@ -12,11 +12,11 @@ use Rattle.gen_scene.specs.declared.base.Base.{Base}
 use Rattle.gen_scene.specs.declared.base.Inlet.{Inlet}
 use Rattle.gen_scene.specs.declared.scene.Scene.{Scene}
 use Rattle.gen_scene.specs.Bases.{IsBase}
-use Rattle.rb_wanted.specs.Wanted.{IsAllWanted}
+use Rattle.block_plan.specs.Wanted.{IsAllWanted}
 use Rattle.gen_scene.specs.Items.{HasItems}
 use Rattle.gen_scene.proofs.Wanting.{field_nodes, outlet_node, value_node, view_nodes}
 use Rattle.gen_scene.proofs.Worths.{IsItem-extends}
-use Rattle.gen_edge.specs.Edges.{IsScene}
+use Rattle.gen_clock.specs.Edges.{IsScene}
 use Rattle.gen_core.specs.Parts.{HasShown, IsSceneOf}
 
 whole : (net : Net) (s : Scene) (wanted : List Bool) → IsBase net s.base.now → HasItems s.base.now.block.now s.base.now.inlet net wanted s.items.now → IsAllWanted s.base.now.block.now wanted → IsScene net s

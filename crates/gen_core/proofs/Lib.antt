@@ -1,3 +1,7 @@
 mod Building
+mod Driving
 mod Joining
 mod Naming
+mod Outlets
+mod Running
+mod Showing

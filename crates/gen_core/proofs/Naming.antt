@@ -18,7 +18,7 @@ use Rattle.rb_model.specs.References.{Each}
 use Rattle.rb_model.proofs.Apart.{Apart, Apart-from, Each-filter, Name, bytes_eq-not}
 use Rattle.rb_model.proofs.Eachs.{Each-left, Each-map, Each-right}
 use Rattle.rb_model.proofs.InputPins.{bus_shown, outlet_pin, output_pins_are}
-use Rattle.rb_plan.specs.Kept.{field_kept, kept_pin}
+use Rattle.block_plan.specs.Kept.{field_kept, kept_pin}
 use Rattle.gen_core.proofs.Joining.{contained}
 
 lacks_from : (ms : List Name) (n : Name) → Each (λ m. m ≡ n → ⊥) ms → Lacks ms n

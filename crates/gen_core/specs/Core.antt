@@ -8,7 +8,7 @@ use Rattle.rb_model.specs.Kept.{Kept, register_name}
 use Rattle.rb_model.specs.Items.{Now, ItemValues, AreItemValues}
 use Rattle.rb_model.specs.Machine.{next, read_data}
 use Rattle.rb_model.specs.Ports.{Outlet, outlets}
-use Rattle.rb_plan.specs.Kept.{field_kept}
+use Rattle.block_plan.specs.Kept.{field_kept}
 use Rattle.gen_scene.specs.declared.base.Inlet.{Inlet}
 use Rattle.gen_scene.specs.Worth.{Finds, IsWorth}
 

@@ -10,7 +10,7 @@ use Rattle.gen_scene.specs.declared.base.Inlet.{Inlet}
 use Rattle.gen_scene.specs.declared.scene.Scene.{Scene}
 use Rattle.gen_scene.specs.Items.{IsItem}
 use Rattle.gen_scene.specs.Worth.{IsWorth}
-use Rattle.gen_edge.specs.Edges.{AreNexts, IsScene}
+use Rattle.gen_clock.specs.Edges.{AreNexts, IsScene}
 use Rattle.gen_core.specs.declared.nodes.Taken.{Taken}
 use Rattle.gen_core.specs.declared.nodes.Parts.{Parts}
 

@@ -6,17 +6,18 @@ ghost use Rattle.rtl_net.specs.Ports.{IsFree, IsNew};
 ghost use Rattle.rb_model.specs.Kept.{Kept, register_name};
 ghost use Rattle.rb_model.specs.Ports.{Outlet, outlets};
 ghost use Rattle.rb_model.specs.Sound.{IsSound};
-ghost use Rattle.rb_plan.specs.Kept.{field_kept, kept_pin};
+ghost use Rattle.block_plan.specs.Kept.{field_kept, kept_pin};
 ghost use Rattle.gen_scene.specs.Bases.{HasInlet, HasPins, IsBase};
-ghost use Rattle.gen_ties.specs.Ties.{AreAwaiting, SeatsTaken, outlet_pin};
+ghost use Rattle.gen_core.specs.Ties.{AreAwaiting, SeatsTaken, outlet_pin};
 ghost use Rattle.gen_core.specs.Core.{IsCore};
 
+use crate::drives::drive_nodes;
 use crate::nodes::block_nodes;
+use crate::shows::show_nodes;
+use block_plan::Plan;
 use gen_scene::{Base, Inlet, registers};
-use gen_ties::{drive_nodes, show_nodes};
 use rb_base::NoMemory;
 use rb_model::{Block, names_differ};
-use rb_plan::Plan;
 use rtl_net::{Id, Netlist};
 use std::alloc::Global;
 

@@ -1,9 +1,13 @@
-//! A block's behaviour as a netlist: what its fields keep as registers, what moves them, the read data, and the outputs.
-//!
-//! `core` builds into a netlist that has the block's pins and the nodes of an access, whatever bus they are of.
+//! A block's behaviour as a netlist: its registers driven, its outputs shown, and that it runs as the block's machine.
 #![tactic(auto)]
 
 mod built;
+mod drives;
+mod laws;
 mod nodes;
+mod shows;
 
 pub use built::core;
+pub use drives::drive_nodes;
+pub use laws::core_runs;
+pub use shows::show_nodes;

@@ -4,14 +4,14 @@ ghost use Rattle.std.specs.Prelude.{◌≡◌, IfOk, OnOk};
 ghost use Rattle.rtl_net.specs.Net.{Grows};
 ghost use Rattle.gen_scene.specs.Bases.{IsBase};
 ghost use Rattle.gen_access.specs.Words.{AreHitsOf, read_word, written_word};
-ghost use Rattle.gen_edge.specs.Edges.{AreNexts, IsScene};
+ghost use Rattle.gen_clock.specs.Edges.{AreNexts, IsScene};
 ghost use Rattle.gen_core.specs.Parts.{HasParts, HasShown, HasTaken, IsSceneOf};
 
+use block_plan::wanted;
 use gen_access::{WordHits, marks, word_hits};
-use gen_edge::{answer_node, moved_nodes, next_nodes, used_nodes};
+use gen_clock::{answer_node, moved_nodes, next_nodes, used_nodes};
 use gen_scene::{Base, Scene, item_nodes};
 use rb_base::NoMemory;
-use rb_wanted::wanted;
 use rtl_net::{Id, Netlist};
 use std::alloc::Global;
 

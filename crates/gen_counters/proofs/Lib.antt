@@ -1,2 +1,2 @@
-mod Wraps
 mod Saturating
+mod Wraps

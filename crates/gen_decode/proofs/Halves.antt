@@ -5,11 +5,9 @@ use Rattle.std.specs.List.Sorted.{IsStrictlyIncreasing}
 use Rattle.std.proofs.lemmas.List.Folds.{list_any-append}
 use Rattle.std.proofs.lemmas.Nat.{mod-pow-add}
 use Rattle.std.proofs.Math.Nat.{mod-lt, pow-suc}
+use Rattle.plain_lemmas.proofs.Numbers.{below-two as below_two}
 use Rattle.rb_base.specs.Bits.{part}
 use Rattle.gen_decode.specs.Among.{AreWithin, IsCut}
-
-pub below_two : (x : ℕ) → x < 2 → (x ≡ 0) ⊎ (x ≡ 1)
-below_two x h = grind arith
 
 module _ (p base x y : ℕ) (top : x < 2) (low : y < p) where
   -- an entry of the lower half

@@ -5,6 +5,7 @@ use Rattle.std.specs.Option.{unwrap_or}
 use Rattle.std.specs.List.Sorted.{IsStrictlyIncreasing}
 use Rattle.std.proofs.lemmas.Nat.{pow_pos}
 use Rattle.std.proofs.Math.Nat.{mod-lt, mod-one, mod-eq_of_lt}
+use Rattle.plain_lemmas.proofs.Numbers.{below-two as below_two}
 use Rattle.rb_base.specs.Bits.{part}
 use Rattle.rtl_net.specs.Value.{At, bit_of}
 use Rattle.rtl_net.specs.Net.{Net, Settles, Grows, IsNode, Stands}
@@ -12,7 +13,7 @@ use Rattle.rtl_net.specs.declared.node.Id.{Id}
 use Rattle.rtl_net.proofs.Nets.{fits_at, Stands-grows}
 use Rattle.gen_decode.specs.declared.words.Decoded.{Decoded}
 use Rattle.gen_decode.specs.Among.{AreWithin, IsCut, MayDecode, hit_of, IsAmong, IsJoined}
-use Rattle.gen_decode.proofs.Halves.{below_two, which_half, left_within, right_within, any_halved, by_top_bit, top_bit, single}
+use Rattle.gen_decode.proofs.Halves.{which_half, left_within, right_within, any_halved, by_top_bit, top_bit, single}
 
 pub MayDecode-grows : (a b : Net) (d : Option Decoded) → Grows a b → MayDecode a d → MayDecode b d
 MayDecode-grows a b None p h = tt

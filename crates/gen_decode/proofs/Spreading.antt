@@ -3,6 +3,8 @@ use Rattle.std.proofs.Common.{◌≡◌, ℕ, zero, suc, ◌+◌, ◌-◌, ◌*�
 use Rattle.std.proofs.lemmas.List.{length-append, get_or_append_left, get_or_at}
 use Rattle.std.proofs.lemmas.Nat.{pow_pos, div_below, le-div}
 use Rattle.std.proofs.Math.Nat.{mod-lt, pow-suc, div-one, div-add-mod', div-div-eq-div-mul}
+use Rattle.plain_lemmas.proofs.Numbers.{below-two as below_two}
+use Rattle.plain_lemmas.proofs.Bools.{and-false as and_false, and-true as and_true}
 use Rattle.rb_base.specs.Bits.{part}
 use Rattle.rtl_net.specs.Value.{At, bit_of}
 use Rattle.rtl_net.specs.Net.{Net, Settles, Grows, IsNode, Stands}
@@ -10,7 +12,7 @@ use Rattle.rtl_net.specs.Ids.{at}
 use Rattle.rtl_net.specs.declared.node.Id.{Id}
 use Rattle.rtl_net.proofs.Nets.{fits_at, Stands-grows, IsNode-grows, Grows-refl, Grows-trans}
 use Rattle.gen_decode.specs.Hits.{StandEach, AreHits, AreHitsAbove, AreHalved}
-use Rattle.gen_decode.proofs.Halves.{below_two, top_bit}
+use Rattle.gen_decode.proofs.Halves.{top_bit}
 
 pub StandEach-grows : (a b : Net) (ids : List Id) → Grows a b → StandEach a ids → StandEach b ids
 StandEach-grows a b ids p h = record { each = λ k l. Stands-grows a b (at ids k) 1 p (h.each k l) }
@@ -99,14 +101,6 @@ pairs n level = let f = finer n level in let t = top_bit n level in omega arith
 
 in_pair : (k n level : ℕ) → k < n / 2 ^ level + 1 → k / 2 < n / 2 ^ (level + 1) + 1
 in_pair k n level l = let f = finer n level in let t = top_bit n level in omega arith
-
-and_true : (c : Bool) → (c && true) ≡ c
-and_true true = refl
-and_true false = refl
-
-and_false : (c : Bool) → (c && false) ≡ false
-and_false true = refl
-and_false false = refl
 
 bit_one : (c : Bool) → (bit_of c == 1) ≡ c
 bit_one true = refl

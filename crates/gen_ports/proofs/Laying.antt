@@ -7,6 +7,8 @@ use Rattle.std.specs.Str.{bytes_eq}
 use Rattle.std.proofs.lemmas.Bool.{eq-eqb}
 use Rattle.std.proofs.lemmas.List.{length-append, map-append, take_all}
 use Rattle.std.proofs.lemmas.Option.{same_Some, slice_get_read, get_or_from_slice_get, slice_get_within}
+use Rattle.plain_lemmas.proofs.Bools.{false-of_not as not_false, true-of_not as not_true}
+use Rattle.plain_lemmas.proofs.Lists.{append-none as append_nil, get-front_of as front, get-map_at as mapped_at}
 use Rattle.rb_base.specs.declared.ports.Dir.{Dir}
 use Rattle.rb_base.specs.declared.ports.Dir.TheVariants.{In, Out}
 use Rattle.rb_base.specs.declared.ports.Pin.{Pin}
@@ -29,26 +31,12 @@ use Rattle.rb_model.specs.References.{Each}
 use Rattle.rb_model.specs.Sound.{IsSound}
 use Rattle.rb_model.proofs.Apart.{Apart, Apart-from, Name, bytes_eq-from, bytes_eq-not}
 use Rattle.rb_model.proofs.Eachs.{Each-at, Each-left, Each-map, Each-passing}
-use Rattle.rb_plan.specs.Kept.{field_kept, kept_pin}
+use Rattle.block_plan.specs.Kept.{field_kept, kept_pin}
 use Rattle.gen_scene.specs.Bases.{HasPins, IsPinNode}
 use Rattle.gen_ports.specs.Laid.{AreInputs, AreSeatsOf, HasPort, HasPortIf, IsSeatOf, IsTakenAs}
 use Rattle.gen_ports.proofs.Portals.{IsPort, ports_are}
 
 -- Lists
-
-mapped_at : {X Y : Type 0} (f : X → Y) (xs : List X) (k : ℕ) (x : X) → slice_get xs k ≡ Some x → slice_get (map f xs) k ≡ Some (f x)
-mapped_at f [] k x e = cc
-mapped_at f (y ∷ ys) zero x e = ap (λ o. Some (f o)) (same_Some y x e)
-mapped_at f (y ∷ ys) (suc k) x e = mapped_at f ys k x e
-
-front : {X : Type 0} (xs ys : List X) (y : X) (k : ℕ) → slice_get xs k ≡ Some y → slice_get (xs ++ ys) k ≡ Some y
-front [] ys y k e = cc
-front (z ∷ xs) ys y zero e = e
-front (z ∷ xs) ys y (suc k) e = front xs ys y k e
-
-append_nil : {X : Type 0} (xs : List X) → xs ++ [] ≡ xs
-append_nil [] = refl
-append_nil (x ∷ xs) = ap (λ ys. x ∷ ys) (append_nil xs)
 
 filtered : {X : Type 0} (test : X → Bool) (xs : List X) (x : X) → filter test (xs ++ x ∷ []) ≡ filter test xs ++ (if test x then x ∷ [] else [])
 filtered test [] x = by (test x)
@@ -179,14 +167,6 @@ seat_in old new p name w id n u d is_new e = (
 
 pub seat_out : (old new : Net) (p : Port) (name : Name) (w : ℕ) → name ≡ p.name → w ≡ p.width → p.dir ≡ Out → new.seats ≡ old.seats ++ record { name = name; width = w; taken = None } ∷ [] → (s : Seat) × (new.seats ≡ old.seats ++ s ∷ []) × IsSeatOf s p
 seat_out old new p name w n u d e = (record { name = name; width = w; taken = None }, e, record { name = n; width = u; taken = free_out p.dir d })
-
-not_false : (c : Bool) → not c ≡ true → c ≡ false
-not_false true e = cc
-not_false false e = refl
-
-not_true : (c : Bool) → not c ≡ false → c ≡ true
-not_true true e = refl
-not_true false e = cc
 
 -- what a test against the clock's name tells
 pub other_name : (name other : Name) (r : Bool) → r ≡ not (bytes_eq name other) → r ≡ true → other ≡ clock → bytes_eq name clock ≡ false

@@ -4,6 +4,7 @@ use Rattle.std.proofs.lemmas.Bool.Decides.{nat_tests}
 use Rattle.std.specs.List.{enumerate_from, flat_map, list_all}
 use Rattle.std.specs.Str.{bytes_eq}
 use Rattle.std.proofs.lemmas.Option.{same_Some}
+use Rattle.plain_lemmas.proofs.Bools.{and-both as and_parts}
 use Rattle.rb_base.specs.declared.ports.Pin.{Pin}
 use Rattle.rb_base.specs.declared.ports.Port.{Port}
 use Rattle.v_design.specs.Lexemes as design
@@ -123,10 +124,6 @@ narrow w h = (h.0, (let l = h.1 in omega arith))
 
 byte_wider : (c : ℕ) → design.is_name_byte c ≡ true → names.is_name_byte c ≡ true
 byte_wider c h = grind (arith, nat_tests)
-
-and_parts : (a c : Bool) → (a && c) ≡ true → (a ≡ true) × (c ≡ true)
-and_parts true c h = (refl, h)
-and_parts false c h = cc
 
 path_of : (bs : List ℕ) → is_path bs ≡ true → IsPath bs
 path_of [] h = refl

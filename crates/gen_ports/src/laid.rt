@@ -13,7 +13,7 @@ ghost use Rattle.rb_model.specs.Kept.{Kept, kept, register_name};
 ghost use Rattle.rb_model.specs.Ports as spec;
 ghost use Rattle.rb_model.specs.References.{Each};
 ghost use Rattle.rb_model.specs.Sound.{IsSound};
-ghost use Rattle.rb_plan.specs.Kept.{field_kept};
+ghost use Rattle.block_plan.specs.Kept.{field_kept};
 ghost use Rattle.gen_scene.specs.Bases.{HasPins};
 ghost use Rattle.gen_ports.specs.Laid.{AreInputs, AreSeatsOf, HasPort, IsSeatOf};
 

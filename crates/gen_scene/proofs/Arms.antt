@@ -17,13 +17,13 @@ use Rattle.rb_model.specs.Kept.{of_field}
 use Rattle.rb_model.specs.Ports.{signal_name}
 use Rattle.rb_model.specs.References.{Each, item_width, mask_refs, raise_refs, refs}
 use Rattle.rb_model.proofs.Eachs.{Each-if, Each-made, Each-numbered_all}
-use Rattle.rb_plan.specs.Plan.{is_member, members_among}
-use Rattle.rb_plan.specs.Table.{item_place}
+use Rattle.block_plan.specs.Plan.{is_member, members_among}
+use Rattle.block_plan.specs.Table.{item_place}
 use Rattle.gen_scene.specs.declared.base.Inlet.{Inlet}
 use Rattle.gen_scene.specs.declared.scene.Scene.{Scene}
 use Rattle.gen_scene.specs.Fields.{HasNodes}
 use Rattle.gen_scene.specs.Items.{IsItem}
-use Rattle.rb_wanted.specs.Lines.{has_line, line_mask}
+use Rattle.block_plan.specs.Lines.{has_line, line_mask}
 use Rattle.gen_scene.specs.Lines.{HasLine, raised}
 use Rattle.gen_scene.specs.Worth.{IsWorth, MayBeWorth}
 use Rattle.gen_scene.proofs.Made.{node_worth, present_worth}

@@ -24,23 +24,23 @@ use Rattle.rb_model.specs.Machine.{is_asserted, reset_pin}
 use Rattle.rb_model.specs.References.{AreWide, AreWithin, WithSome, amount_refs, count_refs, feed_refs, item_width, level_refs, part_refs}
 use Rattle.rb_model.specs.SoundField.{AmountFits, CountFits, FieldIsSoundIn, LevelFits, PartFits}
 use Rattle.rb_model.proofs.Eachs.{Each-left, Each-right}
-use Rattle.rb_plan.specs.declared.plan.FieldPlaces.{FieldPlaces}
-use Rattle.rb_plan.specs.declared.plan.PartPlaces.{PartPlaces}
-use Rattle.rb_plan.specs.Pins.{IsDataPin}
-use Rattle.rb_plan.specs.Plan.{AreFieldPlaces, ArePartPlaces, IsPlaceOf}
-use Rattle.rb_plan.specs.Table.{item_place}
-use Rattle.rb_plan.proofs.DataPins.{field_data}
-use Rattle.rb_plan.proofs.PinUses.{CountHas, PartHas}
+use Rattle.block_plan.specs.declared.plan.FieldPlaces.{FieldPlaces}
+use Rattle.block_plan.specs.declared.plan.PartPlaces.{PartPlaces}
+use Rattle.block_plan.specs.Pins.{IsDataPin}
+use Rattle.block_plan.specs.Plan.{AreFieldPlaces, ArePartPlaces, IsPlaceOf}
+use Rattle.block_plan.specs.Table.{item_place}
+use Rattle.block_plan.proofs.DataPins.{field_data}
+use Rattle.block_plan.proofs.PinUses.{CountHas, PartHas}
 use Rattle.gen_scene.specs.declared.base.Base.{Base}
 use Rattle.gen_scene.specs.declared.base.Inlet.{Inlet}
 use Rattle.gen_scene.specs.declared.scene.Scene.{Scene}
 use Rattle.gen_scene.specs.Bases.{IsBase, signal_place}
-use Rattle.rb_wanted.specs.Needs.{limit_refs, limits_refs}
+use Rattle.block_plan.specs.Needs.{limit_refs, limits_refs}
 use Rattle.gen_scene.specs.Fields.{CanAmount, CanLevel, CanStep, HasNodes, fed_node, high_value, low_value}
 use Rattle.gen_scene.specs.Items.{IsItem}
 use Rattle.gen_scene.specs.Worth.{IsRead, IsSeenAs, IsWorth, MayBeWorth}
 use Rattle.gen_scene.proofs.Worths.{MayBeWorth-grows, read_node, worth1, worth2, worth_as, worth_read}
-use Rattle.rb_wanted.proofs.Wanting.{field_sound}
+use Rattle.block_plan.proofs.Wanting.{field_sound}
 use Rattle.gen_scene.proofs.Sources.{fed_worth, pin_is, pin_node}
 use Rattle.gen_scene.proofs.ResetPins.{pin_worth}
 

@@ -6,7 +6,7 @@ use Rattle.rtl_net.specs.Net.{Net, Grows, IsNode, seen_or_zero}
 use Rattle.rtl_net.specs.Ids.{at}
 use Rattle.rtl_net.specs.declared.node.Id.{Id}
 use Rattle.rb_model.specs.declared.kinds.RefItem.TheVariants as item
-use Rattle.rb_plan.specs.Table.{item_place}
+use Rattle.block_plan.specs.Table.{item_place}
 use Rattle.gen_scene.specs.declared.scene.Scene.{Scene}
 use Rattle.gen_scene.specs.Fields.{HasNodes}
 use Rattle.gen_scene.specs.Items.{IsItem}
@@ -24,7 +24,7 @@ use Rattle.rb_model.specs.Sound.{IsSound}
 use Rattle.gen_scene.specs.declared.base.Inlet.{Inlet}
 use Rattle.gen_scene.specs.Worth.{IsWorth, MayBeWorth}
 use Rattle.gen_scene.proofs.Worths.{worth_as, worth_read}
-use Rattle.rb_wanted.proofs.Wanting.{field_sound}
+use Rattle.block_plan.proofs.Wanting.{field_sound}
 use Rattle.gen_scene.proofs.Sources.{field_width}
 
 module _ (b : Block) (a : Inlet) where

@@ -5,6 +5,7 @@ use Rattle.std.specs.List.{enumerate_from, flat_map}
 use Rattle.std.proofs.Math.ListN.{set}
 use Rattle.std.proofs.lemmas.List.Sorted.{Contains-permutation, IsPermutation-sym}
 use Rattle.std.proofs.lemmas.Option.{get_or_from_slice_get, same_Some, slice_get-get_or, slice_get_read, slice_get_within}
+use Rattle.plain_lemmas.proofs.Numbers.{below_next-same_or as last_or_before}
 use Rattle.rtl_net.specs.Net.{Net, Grows}
 use Rattle.rtl_net.specs.declared.node.Id.{Id}
 use Rattle.rtl_net.proofs.Nets.{Grows-refl, Grows-trans}
@@ -18,12 +19,12 @@ use Rattle.rb_model.specs.Items.{field_items, items, made, reg_items}
 use Rattle.rb_model.specs.References.{Each, StandsBefore, item_width, refs}
 use Rattle.rb_model.specs.Sound.{IsSound}
 use Rattle.rb_model.proofs.Eachs.{Each-append, Each-at, Each-both, Each-flat_map, Each-numbered_all}
-use Rattle.rb_plan.specs.Table.{item_place}
-use Rattle.rb_plan.proofs.ItemPlaces.{place_alone}
-use Rattle.rb_wanted.proofs.Ordering.{here_at}
+use Rattle.block_plan.specs.Table.{item_place}
+use Rattle.block_plan.proofs.ItemPlaces.{place_alone}
+use Rattle.block_plan.proofs.Ordering.{here_at}
 use Rattle.gen_scene.specs.declared.base.Inlet.{Inlet}
 use Rattle.gen_scene.specs.declared.items.Marks.{Marks}
-use Rattle.rb_wanted.specs.Wanted.{IsClosed, is_wanted}
+use Rattle.block_plan.specs.Wanted.{IsClosed, is_wanted}
 use Rattle.gen_scene.specs.Items.{AreMarks, HasItems, IsItem, IsMarked, IsOwn}
 use Rattle.gen_scene.specs.Worth.{IsWorth}
 use Rattle.gen_scene.proofs.Worths.{IsItem-grows}
@@ -103,9 +104,6 @@ none_made b a wanted net table room e = record { older = Grows-refl net; name = 
 
 same_or_other : (m n : ℕ) → (m ≡ n) ⊎ (m ≢ n)
 same_or_other m n = grind arith
-
-last_or_before : (k end : ℕ) → k < end + 1 → (k ≡ end) ⊎ (k < end)
-last_or_before k end l = grind arith
 
 -- one that isn't wanted
 pub one_spared : (b : Block) (a : Inlet) (wanted : List Bool) (first net : Net) (room : ℕ) (table : List Id) (end : ℕ) (i : RefItem) → slice_get b.order end ≡ Some i → is_wanted wanted i ≡ false → MadeTo b a wanted first net room table end → MadeTo b a wanted first net room table (end + 1)

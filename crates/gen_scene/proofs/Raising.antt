@@ -7,6 +7,7 @@ use Rattle.std.proofs.lemmas.List.{take_all, take_more}
 use Rattle.std.proofs.lemmas.List.Folds.{list_any-append}
 use Rattle.std.proofs.lemmas.List.Elements.{All-cons, All-head, All-nil, All-tail}
 use Rattle.std.proofs.lemmas.Option.{same_Some, slice_get-get_or, slice_get_within}
+use Rattle.plain_lemmas.proofs.Bools.{or-false as or_last}
 use Rattle.rtl_net.specs.Value.{At}
 use Rattle.rtl_net.specs.Net.{Net, MayHave, Settles, Stands, width_in}
 use Rattle.rtl_net.specs.Ids.{at}
@@ -20,20 +21,20 @@ use Rattle.rb_model.specs.Effects.{counting}
 use Rattle.rb_model.specs.Items.{Now, ItemValues, AreItemValues, mask_value}
 use Rattle.rb_model.specs.References.{AreWide, Each, mask_refs}
 use Rattle.rb_model.proofs.Eachs.{Each-at, Each-left, Each-right}
-use Rattle.rb_plan.specs.Plan.{is_member, members_among}
-use Rattle.rb_plan.specs.Table.{item_place}
+use Rattle.block_plan.specs.Plan.{is_member, members_among}
+use Rattle.block_plan.specs.Table.{item_place}
 use Rattle.gen_intr.specs.declared.lines.Masked.{Masked}
 use Rattle.gen_intr.specs.Counting.{IsMasked, counts_at, under_mask}
 use Rattle.gen_scene.specs.declared.scene.Scene.{Scene}
 use Rattle.gen_scene.specs.Bases.{IsBase}
 use Rattle.gen_scene.specs.Fields.{HasNodes, item_node, mask_node}
 use Rattle.gen_scene.specs.Items.{IsItem}
-use Rattle.rb_wanted.specs.Lines.{has_line, line_mask}
+use Rattle.block_plan.specs.Lines.{has_line, line_mask}
 use Rattle.gen_scene.specs.Lines.{HasLine, is_inverted, line_bits, raised}
 use Rattle.gen_scene.specs.Worth.{Finds, IsRead}
 use Rattle.gen_scene.proofs.Arms.{raised_is}
 use Rattle.gen_scene.proofs.Made.{node_worth}
-use Rattle.rb_wanted.proofs.Wanting.{field_sound}
+use Rattle.block_plan.proofs.Wanting.{field_sound}
 use Rattle.gen_scene.proofs.Sources.{in_table}
 
 -- The members of a register are interrupts of it
@@ -123,10 +124,6 @@ no_bits net s halt ks = record { masked = All-nil (IsMasked net); counts = recor
 all_push : {X : Type 0} (P : X → Type 0) (xs : List X) (y : X) → All P xs → P y → All P (xs ++ y ∷ [])
 all_push P [] y h p = All-cons P y [] p (All-nil P)
 all_push P (x ∷ xs) y h p = All-cons P x (xs ++ y ∷ []) (All-head P x xs h) (all_push P xs y (All-tail P x xs h) p)
-
-or_last : (c : Bool) → (c || false) ≡ c
-or_last true = refl
-or_last false = refl
 
 any_push : {X : Type 0} (p : X → Bool) (xs : List X) (y : X) → list_any p (xs ++ y ∷ []) ≡ (list_any p xs || p y)
 any_push p xs y = list_any-append p xs (y ∷ []) ∙ ap (λ c. list_any p xs || c) (or_last (p y))

@@ -1,10 +1,12 @@
 -- The registers of what the fields keep, one after another.
-use Rattle.std.proofs.Common.{◌≡◌, ℕ, zero, suc, ◌+◌, ◌<◌, ◌≤◌, Bool, true, false, ◌||◌, if◌then◌else◌, Some, List, [], ◌∷◌, ◌++◌, length, map, take, slice_get, get_or, refl, sym, ap, ◌∙◌, subst, arith, inl, inr, ◌⊎◌, append_assoc}
+use Rattle.std.proofs.Common.{◌≡◌, ℕ, zero, suc, ◌+◌, ◌<◌, ◌≤◌, Bool, true, false, ◌||◌, if◌then◌else◌, Some, List, [], ◌∷◌, ◌++◌, length, map, take, slice_get, get_or, refl, sym, ap, ◌∙◌, subst, arith, inl, inr, append_assoc}
 use Rattle.std.specs.Prelude.{Contains}
 use Rattle.std.specs.List.{list_any}
 use Rattle.std.specs.Str.{bytes_eq}
 use Rattle.std.proofs.lemmas.List.{length-append, length-map, map-append, take_more}
 use Rattle.std.proofs.lemmas.Option.{same_Some, slice_get_within, slice_get-get_or, get_or_from_slice_get}
+use Rattle.plain_lemmas.proofs.Lists.{get-behind as behind, get-front_of as front, get-map_at as mapped_at, map-map as mapped}
+use Rattle.plain_lemmas.proofs.Numbers.{below_next-same_or as same_or_below}
 use Rattle.rb_base.specs.declared.ports.Pin.{Pin}
 use Rattle.v_design.specs.WellFormed.{distinct}
 use Rattle.rtl_net.specs.Names.{Lacks}
@@ -20,29 +22,15 @@ use Rattle.rb_model.specs.Ports.{ports}
 use Rattle.rb_model.specs.Sound.{IsSound}
 use Rattle.rb_model.proofs.Apart.{Apart-from, Apart-place, bytes_eq-to}
 use Rattle.rb_model.proofs.OwnViews.{by_cases}
-use Rattle.rb_plan.specs.declared.plan.Plan.{Plan}
-use Rattle.rb_plan.specs.declared.kept.KeptValue.{KeptValue}
-use Rattle.rb_plan.specs.Kept.{field_kept, kept_pin, kept_seen}
-use Rattle.rb_plan.specs.Plan.{IsPlanOf}
+use Rattle.block_plan.specs.declared.plan.Plan.{Plan}
+use Rattle.block_plan.specs.declared.kept.KeptValue.{KeptValue}
+use Rattle.block_plan.specs.Kept.{field_kept, kept_pin, kept_seen}
+use Rattle.block_plan.specs.Plan.{IsPlanOf}
 use Rattle.gen_scene.specs.declared.base.Inlet.{Inlet}
 use Rattle.gen_scene.specs.Bases.{HasKept, HasPins, reset_of}
 use Rattle.gen_scene.proofs.ResetPins.{under_held}
 
 -- Lists
-
-front : {X : Type 0} (xs ys : List X) (y : X) (k : ℕ) → slice_get xs k ≡ Some y → slice_get (xs ++ ys) k ≡ Some y
-front [] ys y k e = cc
-front (z ∷ xs) ys y zero e = e
-front (z ∷ xs) ys y (suc k) e = front xs ys y k e
-
-behind : {X : Type 0} (xs ys : List X) (k : ℕ) → slice_get (xs ++ ys) (length xs + k) ≡ slice_get ys k
-behind [] ys k = let z : 0 + k ≡ k = omega arith in ap (slice_get ys) z
-behind (x ∷ xs) ys k = let z : suc (length xs) + k ≡ suc (length xs + k) = omega arith in ap (slice_get (x ∷ xs ++ ys)) z ∙ behind xs ys k
-
-mapped_at : {X Y : Type 0} (f : X → Y) (xs : List X) (k : ℕ) (x : X) → slice_get xs k ≡ Some x → slice_get (map f xs) k ≡ Some (f x)
-mapped_at f [] k x e = cc
-mapped_at f (y ∷ ys) zero x e = ap (λ o. Some (f o)) (same_Some y x e)
-mapped_at f (y ∷ ys) (suc k) x e = mapped_at f ys k x e
 
 taken_at : {X : Type 0} (xs : List X) (n k : ℕ) (x : X) → slice_get (take n xs) k ≡ Some x → (k < n) × (slice_get xs k ≡ Some x)
 taken_at xs zero k x e = cc
@@ -57,10 +45,6 @@ none_in test (x ∷ xs) h = let e : test x ≡ false = h 0 x refl in rw e (none_
 none_both : {X : Type 0} (test : X → Bool) (xs ys : List X) → list_any test xs ≡ false → list_any test ys ≡ false → list_any test (xs ++ ys) ≡ false
 none_both test [] ys a b = b
 none_both test (x ∷ xs) ys a b = by_cases (test x) (λ t. absurd (let q : true ≡ false = sym (ap (λ c. c || list_any test xs) t) ∙ a in cc)) (λ f. rw f (none_both test xs ys (sym (ap (λ c. c || list_any test xs) f) ∙ a) b))
-
-mapped : {X Y Z : Type 0} (f : Y → Z) (g : X → Y) (xs : List X) → map f (map g xs) ≡ map (λ x. f (g x)) xs
-mapped f g [] = refl
-mapped f g (x ∷ xs) = ap (λ ys. f (g x) ∷ ys) (mapped f g xs)
 
 -- The names of the kept values of fields differ
 
@@ -131,9 +115,6 @@ at_front (x ∷ ids) id (suc j) low = at_front ids id j (omega (arith, low))
 at_last : (ids : List Id) (id : Id) → at (ids ++ id ∷ []) (length ids) ≡ id
 at_last [] id = refl
 at_last (x ∷ ids) id = at_last ids id
-
-same_or_below : (j end : ℕ) → j < end + 1 → (j ≡ end) ⊎ (j < end)
-same_or_below j end l = grind arith
 
 -- one register more
 pub one_register : (b : Block) (p : Plan) (pins : List Id) (first net new : Net) (ids ids' : List Id) (end : ℕ) (k : Kept) (id : Id) → RegistersTo b p pins first net ids end → slice_get (field_kept b) end ≡ Some k → ids' ≡ ids ++ id ∷ []

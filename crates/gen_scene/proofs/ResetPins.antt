@@ -7,6 +7,7 @@ use Rattle.std.specs.Str.{bytes_eq}
 use Rattle.std.proofs.Math.Pow.{pow_pos}
 use Rattle.std.proofs.lemmas.Bool.Decides.{nat_tests}
 use Rattle.std.proofs.lemmas.Option.{same_Some, slice_get_within, slice_get_read}
+use Rattle.plain_lemmas.proofs.Bools.{and-both as and_left}
 use Rattle.rb_base.specs.declared.ports.Pin.{Pin}
 use Rattle.v_design.specs.Expr.{Values}
 use Rattle.v_design.specs.Lexemes as design
@@ -29,15 +30,15 @@ use Rattle.rb_model.specs.Machine.{held, reset_pin, is_asserted}
 use Rattle.rb_model.specs.References.{Each, WithSome}
 use Rattle.rb_model.specs.Sound.{IsSound, is_path}
 use Rattle.rb_model.proofs.Eachs.{Each-append, Each-at, Each-flat_map, Each-numbered_all}
-use Rattle.rb_plan.specs.declared.plan.Plan.{Plan}
-use Rattle.rb_plan.specs.Kept.{field_kept}
-use Rattle.rb_plan.specs.Pins.{IsDataPin}
-use Rattle.rb_plan.specs.Plan.{IsPlanOf, IsPlaceOf}
-use Rattle.rb_plan.proofs.DataPins.{resetn_data, signal_data}
+use Rattle.block_plan.specs.declared.plan.Plan.{Plan}
+use Rattle.block_plan.specs.Kept.{field_kept}
+use Rattle.block_plan.specs.Pins.{IsDataPin}
+use Rattle.block_plan.specs.Plan.{IsPlanOf, IsPlaceOf}
+use Rattle.block_plan.proofs.DataPins.{resetn_data, signal_data}
 use Rattle.gen_scene.specs.declared.base.Inlet.{Inlet}
 use Rattle.gen_scene.specs.Bases.{HasPins, IsPinNode, kept_number, kept_reset, kept_width, kept_word, reset_for, reset_in, reset_of, signal_place}
 use Rattle.gen_scene.specs.Worth.{Finds, IsWorth}
-use Rattle.rb_wanted.proofs.Wanting.{field_sound}
+use Rattle.block_plan.proofs.Wanting.{field_sound}
 use Rattle.gen_scene.proofs.Sources.{pin_is, pin_node}
 
 -- the pin of a reset
@@ -113,10 +114,6 @@ reset_is b p pins k n f of here = ap (λ o. option_map_or (λ m. of_field b m re
 
 byte_wider : (c : ℕ) → design.is_name_byte c ≡ true → names.is_name_byte c ≡ true
 byte_wider c h = grind (arith, nat_tests)
-
-and_left : (a c : Bool) → (a && c) ≡ true → (a ≡ true) × (c ≡ true)
-and_left true c h = (refl, h)
-and_left false c h = cc
 
 bytes_wider : (bs : List ℕ) → list_all design.is_name_byte bs ≡ true → list_all names.is_name_byte bs ≡ true
 bytes_wider [] h = refl

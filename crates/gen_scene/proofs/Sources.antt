@@ -27,20 +27,20 @@ use Rattle.rb_model.specs.References.{AreWide, Each, feed_refs, gate_refs, mask_
 use Rattle.rb_model.specs.SoundField.{FieldIsSoundIn}
 use Rattle.rb_model.specs.Sound.{IsSound, ViewIsSound}
 use Rattle.rb_model.proofs.Eachs.{Each-from_zero, Each-left, Each-right}
-use Rattle.rb_plan.specs.declared.kept.FieldKept.{FieldKept}
-use Rattle.rb_plan.specs.declared.plan.FieldPlaces.{FieldPlaces}
-use Rattle.rb_plan.specs.Kept.{AreFieldKept, field_kept}
-use Rattle.rb_plan.specs.Pins.{IsDataPin}
-use Rattle.rb_plan.specs.Plan.{AreFieldPlaces, IsGatePlace, IsPlaceOf}
-use Rattle.rb_plan.specs.Table.{item_place}
-use Rattle.rb_plan.proofs.DataPins.{field_data, signal_data, view_data}
+use Rattle.block_plan.specs.declared.kept.FieldKept.{FieldKept}
+use Rattle.block_plan.specs.declared.plan.FieldPlaces.{FieldPlaces}
+use Rattle.block_plan.specs.Kept.{AreFieldKept, field_kept}
+use Rattle.block_plan.specs.Pins.{IsDataPin}
+use Rattle.block_plan.specs.Plan.{AreFieldPlaces, IsGatePlace, IsPlaceOf}
+use Rattle.block_plan.specs.Table.{item_place}
+use Rattle.block_plan.proofs.DataPins.{field_data, signal_data, view_data}
 use Rattle.gen_scene.specs.declared.base.Base.{Base}
 use Rattle.gen_scene.specs.declared.base.Inlet.{Inlet}
 use Rattle.gen_scene.specs.declared.scene.Scene.{Scene}
 use Rattle.gen_scene.specs.Bases.{HasKept, HasPins, IsBase, IsPinNode}
-use Rattle.rb_wanted.specs.Needs.{hardware_refs, limits_refs}
+use Rattle.block_plan.specs.Needs.{hardware_refs, limits_refs}
 use Rattle.gen_scene.specs.Fields.{CanFeed, HasField, HasNodes, HasView, fed_node, gated_node, item_node, mask_node}
-use Rattle.rb_wanted.proofs.Wanting.{field_sound}
+use Rattle.block_plan.proofs.Wanting.{field_sound}
 use Rattle.gen_scene.specs.Items.{IsItem}
 use Rattle.gen_scene.specs.Worth.{IsWorth, MayBeWorth}
 use Rattle.gen_scene.proofs.Worths.{may_none, may_some, worth_as}

@@ -16,10 +16,10 @@ use Rattle.gen_scene.specs.declared.scene.Scene.{Scene}
 use Rattle.gen_scene.specs.Bases.{IsBase}
 use Rattle.gen_scene.specs.Fields.{HasField, HasView}
 use Rattle.gen_scene.specs.Items.{HasItems, IsItem}
-use Rattle.rb_wanted.specs.Needs.{hardware_refs}
-use Rattle.rb_wanted.specs.Wanted.{IsAllWanted, is_wanted}
-use Rattle.rb_wanted.proofs.Among.{outlets_among, value_among}
-use Rattle.rb_wanted.proofs.Wanting.{field_sound, hardware_own, view_own}
+use Rattle.block_plan.specs.Needs.{hardware_refs}
+use Rattle.block_plan.specs.Wanted.{IsAllWanted, is_wanted}
+use Rattle.block_plan.proofs.Among.{outlets_among, value_among}
+use Rattle.block_plan.proofs.Wanting.{field_sound, hardware_own, view_own}
 
 pub field_nodes : (net : Net) (s : Scene) (wanted : List Bool) (k : ℕ) (f : Field) → IsBase net s.base.now → HasItems s.base.now.block.now s.base.now.inlet net wanted s.items.now → IsAllWanted s.base.now.block.now wanted → slice_get s.base.now.block.now.fields k ≡ Some f → HasField net s k f
 field_nodes net s wanted k f base has all here = record {

@@ -12,7 +12,7 @@ use Rattle.rb_model.specs.declared.block.View.{View}
 use Rattle.rb_model.specs.Items.{Now, ItemValues, AreItemValues}
 use Rattle.rb_model.specs.References.{item_width}
 use Rattle.rb_model.proofs.Eachs.{Each-weaker}
-use Rattle.rb_plan.specs.Table.{item_place}
+use Rattle.block_plan.specs.Table.{item_place}
 use Rattle.gen_scene.specs.declared.base.Base.{Base}
 use Rattle.gen_scene.specs.declared.base.Inlet.{Inlet}
 use Rattle.gen_scene.specs.declared.items.Marks.{Marks}

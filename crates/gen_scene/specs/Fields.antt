@@ -24,11 +24,11 @@ use Rattle.rb_model.specs.Items.{ItemValues, level_value}
 use Rattle.rb_model.specs.PinsHave.{FeedHas}
 use Rattle.rb_model.specs.Ports.{Outlet, outlets, pin}
 use Rattle.rb_model.specs.References.{AreWide, Each, feed_refs, gate_refs, mask_refs, level_refs, count_refs, item_width}
-use Rattle.rb_plan.specs.declared.plan.PartPlaces.{PartPlaces}
-use Rattle.rb_plan.specs.Pins.{IsDataPin}
-use Rattle.rb_plan.specs.Plan.{IsPlaceOf}
-use Rattle.rb_plan.specs.Table.{item_place}
-use Rattle.rb_wanted.specs.Needs.{hardware_refs}
+use Rattle.block_plan.specs.declared.plan.PartPlaces.{PartPlaces}
+use Rattle.block_plan.specs.Pins.{IsDataPin}
+use Rattle.block_plan.specs.Plan.{IsPlaceOf}
+use Rattle.block_plan.specs.Table.{item_place}
+use Rattle.block_plan.specs.Needs.{hardware_refs}
 use Rattle.gen_scene.specs.declared.scene.Scene.{Scene}
 use Rattle.gen_scene.specs.Bases.{IsBase}
 use Rattle.gen_scene.specs.Items.{IsItem}

@@ -10,8 +10,8 @@ use Rattle.rb_model.specs.declared.block.Field.{Field}
 use Rattle.rb_model.specs.declared.block.Signal.{Signal}
 use Rattle.rb_model.specs.Items.{items, made}
 use Rattle.rb_model.specs.References.{item_width}
-use Rattle.rb_plan.specs.Table.{item_place}
-use Rattle.rb_wanted.specs.Wanted.{is_wanted}
+use Rattle.block_plan.specs.Table.{item_place}
+use Rattle.block_plan.specs.Wanted.{is_wanted}
 use Rattle.gen_scene.specs.declared.base.Inlet.{Inlet}
 use Rattle.gen_scene.specs.declared.items.Marks.{Marks}
 use Rattle.gen_scene.specs.Worth.{IsWorth}

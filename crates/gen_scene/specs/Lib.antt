@@ -1,5 +1,5 @@
-pub mod Worth
 pub mod Bases
-pub mod Items
 pub mod Fields
+pub mod Items
 pub mod Lines
+pub mod Worth

@@ -12,8 +12,8 @@ use Rattle.rb_model.specs.Effects.{counting}
 use Rattle.rb_model.specs.Items.{ItemValues, mask_value}
 use Rattle.rb_model.specs.Kept.{of_field}
 use Rattle.rb_model.specs.References.{mask_refs}
-use Rattle.rb_plan.specs.Plan.{is_member}
-use Rattle.rb_wanted.specs.Lines.{has_line, line_mask}
+use Rattle.block_plan.specs.Plan.{is_member}
+use Rattle.block_plan.specs.Lines.{has_line, line_mask}
 use Rattle.gen_scene.specs.declared.scene.Scene.{Scene}
 use Rattle.gen_scene.specs.Fields.{HasNodes, item_node, mask_node}
 

@@ -9,9 +9,9 @@ use Rattle.rb_model.specs.Kept.{Kept, register_name}
 use Rattle.rb_model.specs.Ports.{input_pins}
 use Rattle.rb_model.specs.Items.{Access, NoAccess, Read, Write, Now, ItemValues, AreItemValues}
 use Rattle.rb_model.specs.Machine.{held}
-use Rattle.rb_plan.specs.Behind.{IsThere}
-use Rattle.rb_plan.specs.Kept.{field_kept}
-use Rattle.rb_plan.specs.Pins.{is_access_pin}
+use Rattle.block_plan.specs.Behind.{IsThere}
+use Rattle.block_plan.specs.Kept.{field_kept}
+use Rattle.block_plan.specs.Pins.{is_access_pin}
 use Rattle.gen_scene.specs.declared.base.Inlet.{Inlet}
 
 -- the access that the nodes say

@@ -3,10 +3,10 @@
 ghost use Rattle.std.specs.Prelude.{◌≡◌, ◌<◌, Some, length, slice_get};
 
 use crate::resets::reset_id;
+use block_plan::{FieldKept, Plan};
 use net_gates::opposite;
 use rb_base::NoMemory;
 use rb_model::{Block, Field, Signal};
-use rb_plan::{FieldKept, Plan};
 use rtl_net::{Id, Netlist};
 
 /// The nodes that say what software does at an edge: whether it accesses a word, whether it writes it, of one bit each, the
@@ -59,7 +59,7 @@ impl<'a> Base<'a> {
     ghost use Rattle.rtl_net.specs.Net.{Net, Grows};
     ghost use Rattle.rb_model.specs.declared.block.Field.{Field};
     ghost use Rattle.rb_model.specs.Kept.{Kept, Val, Last, Done, is_storage, keeps_last, register_width};
-    ghost use Rattle.rb_plan.specs.Kept.{IsKeptAt, field_kept};
+    ghost use Rattle.block_plan.specs.Kept.{IsKeptAt, field_kept};
     ghost use Rattle.rb_model.specs.Machine.{is_asserted};
     ghost use Rattle.gen_scene.specs.Worth.{IsWorth, MayBeWorth};
     ghost use Rattle.gen_scene.specs.Bases.{IsBase};

@@ -1,10 +1,10 @@
 //! The nodes of counters (SystemRDL 2.0, 9.8).
 
 use crate::scene::Scene;
+use block_plan::PartPlaces;
 use net_gates::{choose, number, widened, zero};
 use rb_base::NoMemory;
 use rb_model::{Amount, Field, Level, Part, RefItem};
-use rb_plan::PartPlaces;
 use rtl_net::{Id, Netlist};
 
 impl<'a> Scene<'a> {

@@ -8,16 +8,16 @@ ghost use Rattle.rtl_net.specs.Ids.{at};
 ghost use Rattle.rtl_net.specs.Ports.{IsNew};
 ghost use Rattle.rb_model.specs.Kept.{Kept, register_name, register_width};
 ghost use Rattle.rb_model.specs.Sound.{IsSound};
-ghost use Rattle.rb_plan.specs.Kept.{field_kept, kept_pin, kept_seen};
-ghost use Rattle.rb_plan.specs.Plan.{IsPlanOf};
+ghost use Rattle.block_plan.specs.Kept.{field_kept, kept_pin, kept_seen};
+ghost use Rattle.block_plan.specs.Plan.{IsPlanOf};
 ghost use Rattle.gen_scene.specs.declared.base.Inlet.{Inlet};
 ghost use Rattle.gen_scene.specs.Bases.{HasKept, HasPins, kept_number, kept_reset, kept_width, kept_word, reset_in, reset_of};
 
 use crate::base::field_at;
 use crate::resets::{reset_for, reset_id};
+use block_plan::{KeptValue, Plan};
 use rb_base::NoMemory;
 use rb_model::{Block, Field, names_differ};
-use rb_plan::{KeptValue, Plan};
 use rtl_net::{Id, NetReset, Netlist};
 use std::alloc::Global;
 

@@ -4,7 +4,7 @@ ghost use Rattle.std.specs.Prelude.{◌≡◌, IfOk};
 ghost use Rattle.std.specs.List.{list_any};
 ghost use Rattle.rtl_net.specs.Value.{bit_of};
 ghost use Rattle.rtl_net.specs.Net.{Grows};
-ghost use Rattle.rb_plan.specs.Plan.{members_among};
+ghost use Rattle.block_plan.specs.Plan.{members_among};
 ghost use Rattle.gen_scene.specs.Bases.{IsBase};
 ghost use Rattle.gen_scene.specs.Lines as spec;
 ghost use Rattle.gen_scene.specs.Lines.{HasLine, raised};
@@ -12,10 +12,10 @@ ghost use Rattle.gen_scene.specs.Worth.{IsWorth};
 
 use crate::base::field_at;
 use crate::scene::Scene;
+use block_plan::{has_line, line_mask, members_in};
 use gen_intr::{Masked, any};
 use rb_base::NoMemory;
 use rb_model::{Field, Mask, RefItem};
-use rb_wanted::{has_line, line_mask, members_in};
 use rtl_net::{Id, Netlist};
 use std::alloc::Global;
 
@@ -32,7 +32,7 @@ fn is_inverted(mask: Mask) -> bool
 
 impl<'a> Scene<'a> {
     ghost use Rattle.std.specs.Prelude.{◌≡◌};
-    ghost use Rattle.rb_plan.specs.Plan.{members_of};
+    ghost use Rattle.block_plan.specs.Plan.{members_of};
     ghost use Rattle.gen_scene.specs.Lines.{line_bits};
 
     /// The interrupts that are listed for a register.

@@ -5,8 +5,8 @@ ghost use Rattle.rtl_net.specs.Ids.{at};
 ghost use Rattle.gen_scene.specs.Bases as spec;
 ghost use Rattle.gen_scene.specs.Bases.{signal_place};
 
+use block_plan::Plan;
 use rb_model::ResetBy;
-use rb_plan::Plan;
 use rtl_net::{Id, NetReset};
 
 /// The place of the pin of a reset.

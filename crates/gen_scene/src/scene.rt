@@ -1,8 +1,8 @@
 //! The nodes that the behaviour of fields and views refers to.
 
 use crate::base::{Base, id_at};
+use block_plan::{FieldPlaces, item_place};
 use rb_model::{Feed, Field, Gate, Mask, RefItem, View};
-use rb_plan::{FieldPlaces, item_place};
 use rtl_net::Id;
 
 /// What a netlist has of a block: its base, and the nodes of its items by their places.
@@ -24,7 +24,7 @@ impl<'a> Scene<'a> {
     ghost use Rattle.rb_model.specs.References.{feed_refs};
     ghost use Rattle.rb_model.specs.Items as spec;
     ghost use Rattle.rb_model.specs.Machine as machine;
-    ghost use Rattle.rb_plan.specs.Table as places;
+    ghost use Rattle.block_plan.specs.Table as places;
     ghost use Rattle.gen_scene.specs.Worth.{MayBeWorth};
     ghost use Rattle.gen_scene.specs.Fields.{HasField, HasNodes, HasView, fed_node, gated_node, item_node, mask_node};
 

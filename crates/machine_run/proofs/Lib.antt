@@ -1,4 +1,5 @@
+mod Agreeing
 pub mod Fitting
+mod Runs
 pub mod Tables
 mod Watching
-mod Runs

@@ -8,7 +8,7 @@ use Rattle.rb_model.specs.Kept.{Kept, Map}
 use Rattle.rb_model.specs.Run.{ClockEdge, MachineRun}
 use Rattle.rb_machine.specs.Machines.{IsReady, held_map}
 use Rattle.rb_machine.specs.declared.machine.Machine.{Machine}
-use Rattle.run_text.specs.Printed.{line, cell, printed_run}
+use Rattle.report_text.specs.Printed.{line, cell, printed_run}
 use Rattle.machine_run.specs.Runs.{output_pins, zeros}
 
 -- a run to a map

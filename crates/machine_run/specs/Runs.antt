@@ -11,8 +11,8 @@ use Rattle.rb_model.specs.Agreement.{buses}
 use Rattle.stim_csv.specs.Buses.{IsFirstBreak}
 use Rattle.stim_csv.specs.PinTable.{table_of, records_of}
 use Rattle.stim_csv.specs.declared.error.StimError.{StimError}
-use Rattle.run_text.specs.Printed.{printed_run}
-use Rattle.run_text.specs.Problems.{problem_text}
+use Rattle.report_text.specs.Printed.{printed_run}
+use Rattle.report_text.specs.Problems.{problem_text}
 use Rattle.machine_run.specs.declared.error.RunError.{RunError}
 use Rattle.machine_run.specs.declared.error.RunError.TheVariants as error
 

@@ -5,12 +5,12 @@ ghost use Rattle.rb_model.specs.Ports.{input_pins};
 ghost use Rattle.rb_model.specs.Sound.{IsSound};
 ghost use Rattle.machine_run.specs.Runs.{IsRunOf, Prevents, output_pins, table_for as table_of_bytes};
 
-use crate::RunError;
+use crate::error::RunError;
 use crate::pins::{Pins, pins_of};
 use crate::running::machine_text;
 use rb_base::NoMemory;
 use rb_model::Block;
-use run_text::problem_text;
+use report_text::problem_text;
 use std::alloc::Global;
 use stim_csv::Stimulus;
 

@@ -12,7 +12,7 @@ use std::alloc::Global;
 
 /// The pins of a block's module, in port order: its inputs but the clock, and its outputs.
 #[derive(Drop)]
-pub(crate) struct Pins {
+pub struct Pins {
     pub inputs: Vec<Pin>,
     pub outputs: Vec<Pin>,
 }
@@ -61,8 +61,8 @@ fn outputs(alloc: Global, ports: &[Port]) -> Result<Vec<Pin>, NoMemory>
     Ok(pins)
 }
 
-/// The pins of a sound block.
-pub(crate) fn pins_of(alloc: Global, block: &Block) -> Result<Pins, NoMemory>
+/// The pins of a sound block. The only error is want of memory.
+pub fn pins_of(alloc: Global, block: &Block) -> Result<Pins, NoMemory>
     requires { IsSound block.now }
     ensures inputs { IfOk result (λ p. p.inputs.items ≡ input_pins block.now) }
     ensures outputs { IfOk result (λ p. p.outputs.items ≡ output_pins block.now) }

@@ -5,13 +5,13 @@ ghost use Rattle.v_design.specs.Fits.{AllFit};
 ghost use Rattle.rb_model.specs.Ports.{input_pins};
 ghost use Rattle.rb_model.specs.Run.{MachineRun};
 ghost use Rattle.rb_model.specs.Sound.{IsSound};
-ghost use Rattle.run_text.specs.Printed.{printed_run};
+ghost use Rattle.report_text.specs.Printed.{printed_run};
 ghost use Rattle.machine_run.specs.Runs.{output_pins, zeros};
 
 use rb_base::{NoMemory, Pin};
 use rb_machine::Machine;
 use rb_model::Block;
-use run_text::{push_names, push_numbers};
+use report_text::{push_names, push_numbers};
 use std::alloc::Global;
 use stim_csv::Stimulus;
 

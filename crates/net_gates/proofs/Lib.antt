@@ -1,4 +1,4 @@
 mod Always
-mod Units
-mod Parts
 mod Ors
+mod Parts
+mod Units

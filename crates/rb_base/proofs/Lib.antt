@@ -1,5 +1,3 @@
 mod AfterLast
-mod DerivedOrder
 mod Fields
-mod Reserved
-mod RuleOrder
+mod Hexadecimal

@@ -1,27 +1,22 @@
-//! What all crates share: texts, pins, places in a source, rules, reserved words, and the bits of
-//! numbers.
+//! What all crates share: pins, texts, places in a source, bits of numbers, and numbers as text.
 #![tactic(auto)]
 
 mod bits;
 mod edge;
-mod fault;
-mod keyword;
+mod hex;
 mod laws;
 mod lines;
 mod memory;
 mod place;
 mod ports;
-mod rule;
 mod text;
 
 pub use bits::{ones, part, put};
 pub use edge::Edge;
-pub use fault::Fault;
-pub use keyword::Keyword;
-pub use laws::{bits_of_part, bits_of_put, order_of_faults, order_of_rules, spelling_of_keywords};
+pub use hex::hex_digits;
+pub use laws::{bits_of_part, bits_of_put};
 pub use lines::line_column;
 pub use memory::NoMemory;
 pub use place::Place;
 pub use ports::{Dir, Pin, Port};
-pub use rule::Rule;
-pub use text::Text;
+pub use text::{Text, copy_of};

@@ -2,7 +2,7 @@
 ghost use Rattle.std.specs.Prelude.{◌≡◌, ◌-◌, ◌^◌, ◌<◌, ◌≤◌, length};
 ghost use Rattle.rb_base.specs.Lines.{line_of, column_of};
 
-use crate::Place;
+use crate::place::Place;
 
 /// The line and the column of a place in a source. Both count from 1. A line ends with its line
 /// feed, and a column counts bytes.

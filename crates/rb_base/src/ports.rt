@@ -1,4 +1,4 @@
-use crate::Text;
+use crate::text::Text;
 
 /// The side of a port, seen from inside the module.
 #[derive(Clone, Copy, Debug, PartialEq, Eq)]

@@ -1,7 +1,7 @@
 pub mod Count
-pub mod Shelf
-pub mod Sink
+pub mod CountSink
 pub mod Lookup
 pub mod MemShelf
 pub mod MemSink
-pub mod CountSink
+pub mod Shelf
+pub mod Sink

@@ -3,7 +3,7 @@ ghost use Rattle.std.specs.Prelude.{◌≡◌, ℕ, length, Ok};
 ghost use Rattle.rb_edge.specs.Count.{raised};
 ghost use Rattle.rb_edge.specs.CountSink.{told_of};
 
-use crate::{Failed, Sink};
+use crate::sink::{Failed, Sink};
 use std::marker::Model;
 
 /// A sink that takes whole pieces, keeps only their number of bytes, and never fails. Contracts

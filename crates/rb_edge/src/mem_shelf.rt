@@ -4,7 +4,8 @@ ghost use Rattle.rb_edge.specs.Count.{Rose};
 ghost use Rattle.rb_edge.specs.Shelf.{ReadsAt};
 ghost use Rattle.rb_edge.specs.Lookup.{lookup};
 
-use crate::{Failed, Shelf};
+use crate::shelf::Shelf;
+use crate::sink::Failed;
 use rb_base::NoMemory;
 use std::alloc::Global;
 

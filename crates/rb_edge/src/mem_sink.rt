@@ -3,7 +3,7 @@ ghost use Rattle.std.specs.Prelude.{◌≡◌, ℕ, ◌-◌, ◌<◌, ◌≤◌,
 ghost use Rattle.rb_edge.specs.Count.{Rose};
 ghost use Rattle.rb_edge.specs.Sink.{Takes};
 
-use crate::{Failed, Sink};
+use crate::sink::{Failed, Sink};
 use rb_base::NoMemory;
 use std::alloc::Global;
 

@@ -1,7 +1,8 @@
 //! The real files and streams. What they hold is not told, so these few lines are trusted.
 ghost use Rattle.std.specs.Prelude.{◌≡◌, ℕ, ◌≤◌, List, None, length, IfOk};
 
-use crate::{Failed, Shelf, Sink};
+use crate::shelf::Shelf;
+use crate::sink::{Failed, Sink};
 use std::io::{Read, Seek, SeekFrom, Write};
 use std::rt::Files;
 use std::{fs, io};

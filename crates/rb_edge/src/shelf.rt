@@ -4,7 +4,7 @@ ghost use Rattle.rb_edge.specs.declared.shelf.LoadError.TheVariants.{Failed as f
 ghost use Rattle.rb_edge.specs.Count.{Rose};
 ghost use Rattle.rb_edge.specs.Shelf.{Files, Holds, IsLonger, Reads};
 
-use crate::Failed;
+use crate::sink::Failed;
 use std::alloc::{AllocError, Global};
 use thiserror::Error;
 

@@ -1,14 +1,14 @@
-mod Separating
-pub mod OneSpelling
-pub mod Laying
-pub mod Scanning
-pub mod Lexing
-pub mod Following
 pub mod Barring
-pub mod Steps
-pub mod Factoring
-pub mod Returning
-pub mod Bridge
-pub mod OneReading
 mod Beginnings
+pub mod Bridge
+pub mod Factoring
+pub mod Following
 pub mod Judgement
+pub mod Laying
+pub mod Lexing
+pub mod OneReading
+pub mod OneSpelling
+pub mod Returning
+pub mod Scanning
+mod Separating
+pub mod Steps

@@ -1,9 +1,9 @@
-pub mod Separators
-pub mod Lexemes
-pub mod Spelling
-pub mod Printing
-pub mod Forms
-pub mod Readings
-pub mod Firsts
 pub mod Brackets
+pub mod Firsts
+pub mod Forms
 pub mod Judging
+pub mod Lexemes
+pub mod Printing
+pub mod Readings
+pub mod Separators
+pub mod Spelling

@@ -3,7 +3,7 @@
 ghost use Rattle.std.specs.Prelude.{◌≡◌, ℕ, MatchOption};
 ghost use Rattle.rb_grammar.specs.Brackets.{StaysWithin, IsFirstTooDeep};
 
-use crate::Nesting;
+use crate::nesting::Nesting;
 
 /// A token that may open or close a bracket.
 pub trait Bracket {

@@ -1,3 +1,3 @@
-mod Firsts
-mod Digits
 mod Classes
+mod Digits
+mod Firsts

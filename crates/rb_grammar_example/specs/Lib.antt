@@ -1,6 +1,6 @@
-pub mod Lexemes
-pub mod Grammar
-pub mod Tree
-pub mod Stopping
 pub mod Faults
+pub mod Grammar
+pub mod Lexemes
 pub mod Marks
+pub mod Stopping
+pub mod Tree

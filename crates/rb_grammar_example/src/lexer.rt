@@ -12,7 +12,7 @@ ghost use Rattle.rb_grammar_example.specs.Lexemes.{settings, seen, spelling, is_
 ghost use Rattle.rb_grammar_example.specs.Marks.{NoMark, IsLongestMark};
 ghost use Rattle.rb_grammar_example.specs.Faults.{Breaks, FailsBy, FaultsBy};
 
-use crate::{Mark, Token, TokenKind};
+use crate::token::{Mark, Token, TokenKind};
 use bumpalo::Bump;
 use bumpalo::collections::into_bump_slice;
 use rb_base::Place;

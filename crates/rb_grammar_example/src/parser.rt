@@ -12,7 +12,8 @@ ghost use Rattle.rb_base.specs.declared.place.Place.{Place};
 ghost use Rattle.rb_grammar_example.specs.Grammar as rules;
 ghost use Rattle.rb_grammar_example.specs.Tree.{IsMark, IsName, IsNumber, DerivesValue, DerivesValues, DerivesBound, DerivesEntry, DerivesEntries};
 
-use crate::{Bound, Entry, Mark, Name, Source, Terminal, Token, TokenKind, Value};
+use crate::token::{Mark, Terminal, Token, TokenKind};
+use crate::tree::{Bound, Entry, Name, Source, Value};
 use bumpalo::Bump;
 use bumpalo::collections::into_bump_slice;
 use rb_base::Place;

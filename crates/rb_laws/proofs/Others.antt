@@ -2,6 +2,7 @@
 use Rattle.std.proofs.Common.{◌≡◌, ℕ, ◌==◌, Bool, true, false, ◌&&◌, ◌||◌, if◌then◌else◌, Option, Some, None, List, [], ◌∷◌, fold, slice_get, refl, ap, ◌∙◌}
 use Rattle.std.specs.List.{list_any}
 use Rattle.std.specs.Option.{option_map_or}
+use Rattle.plain_lemmas.proofs.Bools.{or-neither as neither}
 use Rattle.rb_model.specs.declared.block.Block.{Block}
 use Rattle.rb_model.specs.declared.block.Field.{Field}
 use Rattle.rb_model.specs.declared.block.View.{View}
@@ -11,10 +12,6 @@ use Rattle.rb_model.specs.Items.{Access, NoAccess, Read, Write, Now, ItemValues,
 use Rattle.rb_model.specs.Kept.{Done}
 use Rattle.rb_model.specs.Machine.{of_view, slot_bits, slot_read, slot_written, software, uses_up, view_gate}
 use Rattle.rb_laws.specs.Words.{is_accessed}
-
-neither : (c d : Bool) → (c || d) ≡ false → (c ≡ false) × (d ≡ false)
-neither false d e = (refl, e)
-neither true d e = absurd (let q : true ≡ false = e in cc)
 
 narrower : (c d : Bool) → (c && true) ≡ false → (c && d) ≡ false
 narrower false d e = refl

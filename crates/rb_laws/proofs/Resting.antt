@@ -1,8 +1,9 @@
 -- What an edge makes of a field that its access doesn't reach.
 use Rattle.std.specs.Prelude.{Contains}
-use Rattle.std.proofs.Common.{◌≡◌, ℕ, ◌^◌, ◌<◌, subst, Bool, true, false, not, ◌&&◌, if◌then◌else◌, Some, is_some, unwrap_or, List, ◌++◌, codes, slice_get, refl, ap, ◌∙◌}
+use Rattle.std.proofs.Common.{◌≡◌, ℕ, ◌^◌, ◌<◌, subst, true, false, not, ◌&&◌, if◌then◌else◌, Some, is_some, unwrap_or, List, ◌++◌, codes, slice_get, ap, ◌∙◌}
 use Rattle.std.specs.Option.{option_map, option_map_or}
 use Rattle.std.proofs.Math.Pow.{pow_pos}
+use Rattle.plain_lemmas.proofs.Bools.{if-same as same_both}
 use Rattle.rb_model.specs.declared.kinds.RefItem.{RefItem}
 use Rattle.rb_model.specs.declared.kinds.Mask.{Mask}
 use Rattle.rb_model.specs.declared.kinds.Mask.TheVariants as mask
@@ -27,10 +28,6 @@ use Rattle.rb_laws.specs.Quiet.{IsQuiet}
 use Rattle.rb_laws.specs.Words.{is_accessed}
 use Rattle.rb_laws.proofs.Others.{value_stays, mark_stays}
 use Rattle.rb_laws.proofs.Resets.{at_field, is_after, stored}
-
-same_both : (c : Bool) (x : ℕ) → (if c then x else x) ≡ x
-same_both true x = refl
-same_both false x = refl
 
 -- each step of hardware
 module _ (f : Field) (quiet : IsQuiet f) where

@@ -4,6 +4,7 @@ use Rattle.std.proofs.Math.Nat.{add-mod_right, mod-add-mod, mod-eq_of_lt}
 use Rattle.std.proofs.Math.Pow.{pow_pos}
 use Rattle.std.proofs.lemmas.Bool.Decides.{leb_tells}
 use Rattle.std.proofs.lemmas.Bool.{ltb-true, lt-ltb, leb-true, le-leb}
+use Rattle.plain_lemmas.proofs.Bools.{and-both_true as both}
 use Rattle.v_design.specs.Expr.{bit_of}
 use Rattle.rb_model.specs.Effects.{counted, is_over, is_under, overflows, underflows}
 use Rattle.rb_laws.specs.Counting.{PassesHigh, PassesLow}
@@ -46,9 +47,6 @@ pub no_underflow_where : (w v up down : ℕ) → (underflows v up down ≡ 0) �
 no_underflow_where w v up down =
     let t : (nat_lt (v + up) down ≡ false) ↔ (down ≤ v + up) = lt-fails (v + up) down in
     (λ e. t.0 (bit_false (nat_lt (v + up) down) e), λ l. ap bit_of (t.1 l))
-
-both : (c d : Bool) → c ≡ true → d ≡ true → (c && d) ≡ true
-both c d p q = ap (λ e. e && d) p ∙ q
 
 not_both : (c d : Bool) → (c ≡ true → d ≡ true → ⊥) → (c && d) ≡ false
 not_both true true h = absurd (h refl refl)

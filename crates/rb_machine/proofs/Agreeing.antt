@@ -23,13 +23,13 @@ use Rattle.rb_model.specs.References.{Each, count_refs, feed_refs, gate_refs, ma
 use Rattle.rb_model.specs.Sound.{IsSound, ViewIsSound}
 use Rattle.rb_model.proofs.Eachs.{Each-at, Each-both, Each-from_zero, Each-left, Each-right}
 use Rattle.rb_model.proofs.Made.{Agree, fed_same, level_same, mask_same, parts_same}
-use Rattle.rb_wanted.specs.Needs.{hardware_refs, limit_refs, limits_refs}
-use Rattle.rb_wanted.specs.Wanted.{AreInOrder, IsAllWanted, is_wanted}
+use Rattle.block_plan.specs.Needs.{hardware_refs, limit_refs, limits_refs}
+use Rattle.block_plan.specs.Wanted.{AreInOrder, IsAllWanted, is_wanted}
 use Rattle.rb_machine.specs.declared.sight.FieldState.{FieldState}
 use Rattle.rb_machine.specs.Moves.{next_state, started_state}
 use Rattle.rb_machine.specs.Slots.{access_state, touched, width_at, write_state, written_by}
-use Rattle.rb_wanted.proofs.Among.{outlets_among, value_among}
-use Rattle.rb_wanted.proofs.Wanting.{field_sound, hardware_own, view_own}
+use Rattle.block_plan.proofs.Among.{outlets_among, value_among}
+use Rattle.block_plan.proofs.Wanting.{field_sound, hardware_own, view_own}
 
 -- two valuations agree on what the behaviour of a block refers to
 pub record AreAlike (b : Block) (u v : ItemValues) : Type 0 where

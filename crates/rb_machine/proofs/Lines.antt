@@ -10,9 +10,9 @@ use Rattle.rb_model.specs.declared.block.Signal.{Signal}
 use Rattle.rb_model.specs.Items.{ItemValues, is_interrupt, is_on}
 use Rattle.rb_model.proofs.OwnViews.{both_true}
 use Rattle.rb_model.specs.Ports.{signal_name}
-use Rattle.rb_plan.specs.declared.plan.Plan.{Plan}
-use Rattle.rb_plan.specs.Plan.{IsPlaceOf, IsPlanOf, members_of}
-use Rattle.rb_plan.proofs.Interrupts.{member_listed}
+use Rattle.block_plan.specs.declared.plan.Plan.{Plan}
+use Rattle.block_plan.specs.Plan.{IsPlaceOf, IsPlanOf, members_of}
+use Rattle.block_plan.proofs.Interrupts.{member_listed}
 use Rattle.rb_machine.specs.Scene.{raises_line}
 use Rattle.std.proofs.lemmas.Option.{get_or_from_slice_get, slice_get_past, slice_get_read}
 

@@ -13,8 +13,8 @@ use Rattle.std.specs.Option.{option_map_or}
 use Rattle.std.proofs.lemmas.Option.{same_Some}
 use Rattle.rb_model.specs.declared.block.Signal.{Signal}
 use Rattle.rb_model.specs.Protocol.{Bus, bus_of}
-use Rattle.rb_plan.specs.declared.plan.BusPlaces.{BusPlaces}
-use Rattle.rb_plan.specs.Plan.{AreBusPlaces, IsPlaceOf}
+use Rattle.block_plan.specs.declared.plan.BusPlaces.{BusPlaces}
+use Rattle.block_plan.specs.Plan.{AreBusPlaces, IsPlaceOf}
 
 -- a pin that there isn't
 absent : (ps : List Pin) (xs name : List ℕ) → ((k : ℕ) (p : Pin) → slice_get ps k ≡ Some p → p.name ≡ name → ⊥) → by_name ps xs name ≡ 0

@@ -15,10 +15,10 @@ use Rattle.rb_model.specs.declared.kinds.RefItem.TheVariants as item
 use Rattle.rb_machine.specs.Table.{values_of}
 use Rattle.rb_model.proofs.Eachs.{Each-from_zero}
 use Rattle.rb_model.specs.SoundField.{FieldIsSoundIn}
-use Rattle.rb_plan.specs.declared.plan.FieldPlaces.{FieldPlaces}
+use Rattle.block_plan.specs.declared.plan.FieldPlaces.{FieldPlaces}
 use Rattle.rb_machine.specs.declared.sight.FieldNow.{FieldNow}
 use Rattle.rb_machine.specs.declared.scene.Scene.{Scene}
-use Rattle.rb_plan.specs.Plan.{AreFieldPlaces, IsGatePlace, IsPlaceOf}
+use Rattle.block_plan.specs.Plan.{AreFieldPlaces, IsGatePlace, IsPlaceOf}
 use Rattle.rb_machine.specs.Scene.{IsAt, IsScene, map_of, now_in, state_at}
 use Rattle.rb_machine.specs.Sight.{GateSees}
 use Rattle.rb_machine.proofs.Placing.{place_at}

@@ -9,8 +9,8 @@ use Rattle.rb_model.specs.Items.{Now, ItemValues, AreItemValues, items, made}
 use Rattle.rb_model.specs.References.{IsOrdered, StandsBefore, refs}
 use Rattle.rb_model.proofs.Eachs.{Each-weaker}
 use Rattle.rb_model.proofs.Made.{made_same}
-use Rattle.rb_plan.specs.Table.{item_place}
-use Rattle.rb_plan.proofs.ItemPlaces.{place_alone}
+use Rattle.block_plan.specs.Table.{item_place}
+use Rattle.block_plan.proofs.ItemPlaces.{place_alone}
 use Rattle.rb_machine.specs.Table.{values_of}
 
 same_or_other : (m n : ℕ) → (m ≡ n) ⊎ (m ≢ n)

@@ -24,7 +24,7 @@ use Rattle.rb_machine.specs.Scene.{map_of, no_state, state_at}
 use Rattle.rb_machine.specs.Slots.{access_state}
 use Rattle.rb_machine.specs.Table.{values_of}
 use Rattle.rb_machine.specs.Transfers.{IsTransfer, access_seen, outs_shown}
-use Rattle.rb_wanted.specs.Wanted.{AreInOrder, IsAllWanted}
+use Rattle.block_plan.specs.Wanted.{AreInOrder, IsAllWanted}
 use Rattle.rb_model.proofs.ItemValues.{are_values, item_value}
 use Rattle.rb_machine.proofs.Agreeing.{are_alike, moved_same, read_same, shown_same}
 use Rattle.rb_machine.proofs.Accessing.{software_done, software_last, software_value}

@@ -1,9 +1,9 @@
-pub mod Table
-pub mod Sight
-pub mod Resets
-pub mod Quiet
-pub mod Scene
-pub mod Slots
-pub mod Moves
-pub mod Transfers
 pub mod Machines
+pub mod Moves
+pub mod Quiet
+pub mod Resets
+pub mod Scene
+pub mod Sight
+pub mod Slots
+pub mod Table
+pub mod Transfers

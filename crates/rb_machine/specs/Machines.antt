@@ -9,12 +9,12 @@ use Rattle.rb_model.specs.Kept.{Map}
 use Rattle.rb_model.specs.Ports.{input_pins}
 use Rattle.rb_model.specs.Sound.{IsSound}
 use Rattle.rb_machine.specs.declared.machine.Machine.{Machine}
-use Rattle.rb_plan.specs.Plan.{IsPlanOf}
+use Rattle.block_plan.specs.Plan.{IsPlanOf}
 use Rattle.rb_machine.specs.Quiet.{AreNextBusy, brief_of}
 use Rattle.rb_machine.specs.Resets.{AreWays}
-use Rattle.rb_wanted.specs.Wanted.{AreInOrder, IsAllWanted}
+use Rattle.block_plan.specs.Wanted.{AreInOrder, IsAllWanted}
 use Rattle.rb_machine.specs.Scene.{HoldsKept, map_of}
-use Rattle.rb_plan.specs.Table.{item_place}
+use Rattle.block_plan.specs.Table.{item_place}
 
 -- the map that a machine holds
 abbrev pub held_map : Machine → Map

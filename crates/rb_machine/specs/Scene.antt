@@ -14,7 +14,7 @@ use Rattle.rb_machine.specs.declared.sight.FieldNow.{FieldNow}
 use Rattle.rb_machine.specs.declared.scene.Held.{Held}
 use Rattle.rb_machine.specs.declared.scene.Mark.{Mark}
 use Rattle.rb_machine.specs.declared.scene.Scene.{Scene}
-use Rattle.rb_plan.specs.Plan.{IsPlanOf}
+use Rattle.block_plan.specs.Plan.{IsPlanOf}
 use Rattle.rb_machine.specs.Moves.{kept_state}
 use Rattle.rb_machine.specs.Quiet.{AreNextBusy, brief_of}
 use Rattle.rb_machine.specs.Resets.{NoneReset}

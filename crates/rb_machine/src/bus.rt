@@ -12,7 +12,7 @@ ghost use Rattle.rb_model.specs.Protocol.{bus_of};
 ghost use Rattle.rb_model.specs.Run as run;
 ghost use Rattle.rb_model.specs.Run.{pins_of};
 ghost use Rattle.rb_model.specs.Sound.{IsSound};
-ghost use Rattle.rb_plan.specs.Plan.{IsPlanOf};
+ghost use Rattle.block_plan.specs.Plan.{IsPlanOf};
 ghost use Rattle.rb_machine.specs.Resets.{NoneReset};
 ghost use Rattle.rb_machine.specs.Scene.{map_of};
 ghost use Rattle.rb_machine.specs.Transfers as transfers;
@@ -22,8 +22,8 @@ use crate::reset::hold_fields;
 use crate::scene::Held;
 use crate::sight::FieldState;
 use crate::table::number_at;
+use block_plan::Plan;
 use rb_model::Block;
-use rb_plan::Plan;
 
 /// The numbers at the bus's input pins.
 #[derive(Clone, Copy)]

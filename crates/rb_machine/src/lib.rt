@@ -1,6 +1,6 @@
 //! The register machine of a block as a program, one rising edge of the clock at a time.
 //!
-//! `Machine` holds what the block keeps, and rb_plan's `Plan` what is looked up once for a block. At an edge, `Scene` is what the
+//! `Machine` holds what the block keeps, and block_plan's `Plan` what is looked up once for a block. At an edge, `Scene` is what the
 //! whole block finds there (the access, the pins, the kept values) and gives the values of its items; `Sight` is what one field
 //! finds there, and what hardware makes of it; `moves` is what the fields keep after the edge.
 #![tactic(auto)]

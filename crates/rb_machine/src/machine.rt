@@ -6,7 +6,7 @@ ghost use Rattle.rb_model.specs.Ports.{input_pins};
 ghost use Rattle.rb_model.specs.Protocol.{bus_of};
 ghost use Rattle.rb_model.specs.Run.{bus_held, pins_of};
 ghost use Rattle.rb_model.specs.Sound.{IsSound};
-ghost use Rattle.rb_plan.specs.Plan.{IsPlanOf};
+ghost use Rattle.block_plan.specs.Plan.{IsPlanOf};
 ghost use Rattle.rb_machine.specs.Scene.{map_of};
 ghost use Rattle.rb_machine.specs.Resets.{AreWays, NoneReset};
 ghost use Rattle.rb_machine.specs.Transfers.{IsTransfer};
@@ -19,10 +19,9 @@ use crate::reset::{reset_ways, some_asserted};
 use crate::scene::{Held, Mark, Scene};
 use crate::sight::FieldState;
 use crate::table::item_value;
+use block_plan::{Outlet, Plan, table_len, wanted, wanted_items};
 use rb_base::NoMemory;
 use rb_model::{Block, RefItem, ResetBy};
-use rb_plan::{Outlet, Plan, table_len};
-use rb_wanted::{wanted, wanted_items};
 use std::alloc::Global;
 
 /// A register machine of a sound block: what it looked up, what it holds from one clock edge to the next, and room for an edge.

@@ -9,15 +9,15 @@ ghost use Rattle.rb_model.specs.Run.{pins_of};
 ghost use Rattle.rb_model.specs.Sound.{IsSound};
 ghost use Rattle.rb_machine.specs.Moves as moves;
 ghost use Rattle.rb_machine.specs.Resets.{AreWays, NoneReset};
-ghost use Rattle.rb_plan.specs.Plan.{IsPlanOf};
+ghost use Rattle.block_plan.specs.Plan.{IsPlanOf};
 ghost use Rattle.rb_machine.specs.Scene.{state_at};
 
 use crate::sight::FieldState;
 use crate::table::number_at;
+use block_plan::Plan;
 use rb_base::NoMemory;
 use rb_effects::{is_storage, keeps_last};
 use rb_model::{Block, Field, ResetBy};
-use rb_plan::Plan;
 use std::alloc::Global;
 
 /// The number at the pin of the signal of a number, or 0 where there is none.

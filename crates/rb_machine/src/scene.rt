@@ -5,9 +5,9 @@ use crate::quiet::Brief;
 use crate::reset::signal_pin;
 use crate::sight::{FieldNow, FieldState};
 use crate::table::item_value;
+use block_plan::{Plan, item_place};
 use rb_effects::ones;
 use rb_model::{Block, RefItem};
-use rb_plan::{Plan, item_place};
 
 /// What is held from one edge to the next: of each field, and of a bus with a wait state that the vector before carried
 /// an access, and the data and the error that answer it.
@@ -42,7 +42,7 @@ pub(crate) struct Scene<'a> {
 
 impl<'a> Scene<'a> {
     ghost use Rattle.std.specs.Prelude.{◌≡◌, ◌<◌, ◌≤◌, ℕ, true, false, None, Some, Contains, MatchOption, length, slice_get};
-    ghost use Rattle.rb_plan.specs.Plan.{members_of};
+    ghost use Rattle.block_plan.specs.Plan.{members_of};
     ghost use Rattle.std.specs.List.{enumerate_from, list_any};
     ghost use Rattle.std.specs.Option.{option_map, option_map_or};
     ghost use Rattle.rb_model.specs.declared.kinds.RefItem.{RefItem};
@@ -51,7 +51,7 @@ impl<'a> Scene<'a> {
     ghost use Rattle.rb_model.specs.References.{IsOrdered};
     ghost use Rattle.rb_model.specs.Ports.{signal_name};
     ghost use Rattle.rb_model.specs.Run.{pins_of};
-    ghost use Rattle.rb_plan.specs.Table as places;
+    ghost use Rattle.block_plan.specs.Table as places;
     ghost use Rattle.rb_machine.specs.Table.{values_of};
     ghost use Rattle.rb_model.specs.declared.block.Field.{Field};
     ghost use Rattle.rb_model.specs.Kept.{Val, is_storage};

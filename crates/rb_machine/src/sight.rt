@@ -7,11 +7,11 @@ ghost use Rattle.rb_machine.specs.Table.{values_of};
 ghost use Rattle.rb_machine.specs.Sight.{GateSees};
 
 use crate::table::{item_value, number_at};
+use block_plan::FieldPlaces;
 use rb_effects::{
     counted, counting, finished, is_interrupt, is_on, latched, loaded, overflows, underflows,
 };
 use rb_model::{Amount, Class, Feed, Field, Gate, Level, Mask, Part, RefItem};
-use rb_plan::FieldPlaces;
 
 /// What a field keeps from one edge to the next: its value, its last input, and 1 where it was written, else 0.
 #[derive(Clone, Copy)]

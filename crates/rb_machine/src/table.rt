@@ -2,8 +2,8 @@
 ghost use Rattle.std.specs.Prelude.{◌≡◌, slice_index};
 ghost use Rattle.rb_machine.specs.Table.{values_of};
 
+use block_plan::item_place;
 use rb_model::RefItem;
-use rb_plan::item_place;
 
 /// The number at a place, or 0 behind the last.
 pub(crate) fn number_at(numbers: &[u64], place: usize) -> u64

@@ -1,18 +1,18 @@
-pub mod Eachs
-pub mod Made
-pub mod ItemValues
 mod Among
-mod SameEdge
-pub mod Runs
-pub mod PortLists
-pub mod OwnViews
 pub mod Apart
-mod KindWords
-mod FieldNames
-mod PortNames
-pub mod InputPins
-mod EffectWidths
-mod HasPins
-pub mod ValueWidths
-mod NextWidths
+pub mod Eachs
 pub mod EdgeWidths
+mod EffectWidths
+mod FieldNames
+mod HasPins
+pub mod InputPins
+pub mod ItemValues
+mod KindWords
+pub mod Made
+mod NextWidths
+pub mod OwnViews
+pub mod PortLists
+mod PortNames
+pub mod Runs
+mod SameEdge
+pub mod ValueWidths

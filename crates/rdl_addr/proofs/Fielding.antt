@@ -3,19 +3,19 @@ use Rattle.std.specs.List.{list_any, All}
 use Rattle.std.proofs.Common.{◌≡◌, ◌∙◌, ◌↔◌, ℕ, suc, ◌+◌, ◌-◌, ◌≤◌, Bool, true, false, not, cond, ◌&&◌, ◌||◌, ltb, leb, Option, None, Some, option_to_list, List, [], ◌∷◌, ◌++◌, map, flat_map, Contains, refl, ap, sym, subst, arith}
 use Rattle.std.proofs.lemmas.List.{map-append}
 use Rattle.std.proofs.lemmas.Bool.Decides.{nat_tests}
-use Rattle.rb_base.specs.declared.fault.Fault.{Fault}
-use Rattle.rb_base.specs.declared.keyword.Keyword.{Keyword}
-use Rattle.rb_base.specs.declared.keyword.Keyword.TheVariants as word
-use Rattle.rb_base.specs.declared.rule.Rule.TheVariants as rules
+use Rattle.rdl_base.specs.declared.fault.Fault.{Fault}
+use Rattle.rdl_base.specs.declared.keyword.Keyword.{Keyword}
+use Rattle.rdl_base.specs.declared.keyword.Keyword.TheVariants as word
+use Rattle.rdl_base.specs.declared.rule.Rule.TheVariants as rules
 use Rattle.rdl_props.specs.declared.prop.Prop.TheVariants as prop
 use Rattle.rdl_values.specs.Bodies.{standing, standing_from}
 use Rattle.rdl_values.specs.Faults.{at_, when}
 use Rattle.rdl_values.specs.Instances.{Instance}
-use Rattle.rdl_extents.specs.declared.claim.Claim.{Claim}
-use Rattle.rdl_extents.specs.declared.extent.Side.{Side}
-use Rattle.rdl_extents.specs.declared.extent.Side.TheVariants.{Reads, Writes, Other}
-use Rattle.rdl_extents.specs.Claims.{clashing_claims, when_clashing, extents}
-use Rattle.rdl_extents.specs.Extents.{clash, is_opposite}
+use Rattle.rdl_layout.specs.declared.claim.Claim.{Claim}
+use Rattle.rdl_layout.specs.declared.extent.Side.{Side}
+use Rattle.rdl_layout.specs.declared.extent.Side.TheVariants.{Reads, Writes, Other}
+use Rattle.rdl_layout.specs.Claims.{clashing_claims, when_clashing, extents}
+use Rattle.rdl_layout.specs.Extents.{clash, is_opposite}
 use Rattle.rdl_layers.specs.Forms.{Meaning, unset, flag, number, text, named, intr, hard, enum_of, reference}
 use Rattle.rdl_layers.specs.Phase4.{number_at, range_of, width_of}
 use Rattle.rdl_layers.specs.Settings.{setting}

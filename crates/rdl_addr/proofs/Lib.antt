@@ -1,4 +1,5 @@
 pub mod Covers
+mod FieldUses
 pub mod Fielding
 mod Found
 pub mod Grouped

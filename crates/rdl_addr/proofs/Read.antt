@@ -1,8 +1,8 @@
 -- What is read of a register, of a container and of an instance's text is what the definitions say.
 use Rattle.std.specs.List.{list_any}
 use Rattle.std.proofs.Common.{◌≡◌, ◌∙◌, Bool, true, false, not, cond, ◌&&◌, ◌||◌, List, [], ◌∷◌, length, option_to_list, nat_lt, refl, sym, ap}
-use Rattle.rb_base.specs.declared.keyword.Keyword.{Keyword}
-use Rattle.rb_base.specs.declared.keyword.Keyword.TheVariants as word
+use Rattle.rdl_base.specs.declared.keyword.Keyword.{Keyword}
+use Rattle.rdl_base.specs.declared.keyword.Keyword.TheVariants as word
 use Rattle.rdl_tree.specs.declared.item.Inst.{Inst}
 use Rattle.rdl_tree.specs.declared.item.Kind.{Kind}
 use Rattle.rdl_tree.specs.declared.item.Kind.TheVariants as kind
@@ -12,13 +12,13 @@ use Rattle.rdl_values.specs.Values.{Around}
 use Rattle.rdl_layers.specs.Fields.{fields_of, has_on_read, reads, writes}
 use Rattle.rdl_layers.specs.Forms.{Meaning, unset, flag, number, text, named, intr, hard, enum_of, reference}
 use Rattle.rdl_layers.specs.Settings.{setting}
-use Rattle.rdl_extents.specs.declared.extent.Side.TheVariants.{Reads, Writes, Other}
+use Rattle.rdl_layout.specs.declared.extent.Side.TheVariants.{Reads, Writes, Other}
 use Rattle.rdl_layout.specs.declared.part.Mode.{Mode}
 use Rattle.rdl_layout.specs.declared.part.Part.{Part}
-use Rattle.rdl_reading.specs.Modes as modes
-use Rattle.rdl_reading.specs.Modes.{mode_by}
-use Rattle.rdl_reading.specs.Texts.{IsGiven, numbers_in}
-use Rattle.rdl_reading.specs.Uses.{register_side}
+use Rattle.rdl_addr.specs.Modes as modes
+use Rattle.rdl_addr.specs.Modes.{mode_by}
+use Rattle.rdl_addr.specs.TextReadings.{IsGiven, numbers_in}
+use Rattle.rdl_addr.specs.Uses.{register_side}
 use Rattle.rdl_addr.specs.Layout as layout
 use Rattle.rdl_addr.specs.Layout.{Group, mode_in}
 use Rattle.rdl_addr.specs.Parts.{IsPartOf, mode_of}

@@ -3,12 +3,12 @@ use Rattle.std.specs.List.{list_any}
 use Rattle.std.proofs.Common.{◌≡◌, ◌∙◌, suc, ◌+◌, Bool, not, ◌&&◌, ◌||◌, ◌==◌, ◌%◌, ◌/◌, ◌^◌, List, [], ◌∷◌, ◌++◌, length, map, flat_map, ltb, refl, ap, sym}
 use Rattle.std.proofs.lemmas.List.{map-append}
 use Rattle.rb_base.specs.declared.place.Place.{Place}
-use Rattle.rb_base.specs.declared.rule.Rule.TheVariants as rules
+use Rattle.rdl_base.specs.declared.rule.Rule.TheVariants as rules
 use Rattle.rdl_values.specs.Bodies.{standing, standing_from}
 use Rattle.rdl_values.specs.Faults.{at_, when}
-use Rattle.rdl_extents.specs.declared.claim.Claim.{Claim}
-use Rattle.rdl_extents.specs.Claims.{clashing_claims, when_clashing, extents}
-use Rattle.rdl_extents.specs.Extents.{clash, is_opposite}
+use Rattle.rdl_layout.specs.declared.claim.Claim.{Claim}
+use Rattle.rdl_layout.specs.Claims.{clashing_claims, when_clashing, extents}
+use Rattle.rdl_layout.specs.Extents.{clash, is_opposite}
 use Rattle.rdl_addr.specs.Layout.{Placed}
 use Rattle.rdl_addr.specs.Rules as rule
 use Rattle.rdl_addr.specs.Rules.{Footprint, footprint, overlaps, overlaps_of, clashes_with}

@@ -7,8 +7,8 @@ use Rattle.rdl_values.specs.Elaborated.{top_name, nodes_of}
 use Rattle.rdl_values.specs.Instances.{Instance, with_below, most_names}
 use Rattle.rdl_values.specs.Verdict.{Fails, IsListOf, IsRefusal}
 use Rattle.rdl_layers.specs.Fields.{is_a, is_container}
-use Rattle.rdl_addr.specs.declared.error.AddrError.{AddrError}
-use Rattle.rdl_addr.specs.declared.error.AddrError.TheVariants as error
+use Rattle.rdl_failures.specs.declared.error.PhaseError.{PhaseError}
+use Rattle.rdl_failures.specs.declared.error.PhaseError.TheVariants as error
 use Rattle.rdl_addr.specs.Bits.{Bits, bits_of}
 use Rattle.rdl_addr.specs.Layout.{Placed, layout, has_address}
 use Rattle.rdl_addr.specs.Rules.{fails_ab}
@@ -23,7 +23,7 @@ IsPlaced e = IsListOf (places_fail e) []
 
 -- `place`: the map of the tree where no rule on addresses and bits fails, else the list of all failures. Want of memory may be
 -- answered anywhere, and is where an address would pass 2^128. A map is seen as the tree that it is of.
-abbrev pub AnswersAB : Elab → Result Elab AddrError → Type 0
+abbrev pub AnswersAB : Elab → Result Elab PhaseError → Type 0
 AnswersAB e (Ok of) = IsPlaced e × (of ≡ e)
 AnswersAB e (Err (error.Faults list)) = IsRefusal (places_fail e) list.items
 AnswersAB e (Err error.NoMemory) = Unit {0}

@@ -2,8 +2,8 @@
 use Rattle.std.specs.Prelude.{◌≡◌, cond, option_to_list, List, [], ◌∷◌}
 use Rattle.rdl_props.specs.declared.prop.Prop.TheVariants as prop
 use Rattle.rdl_values.specs.Instances.{Instance}
-use Rattle.rdl_extents.specs.declared.extent.Side.{Side}
-use Rattle.rdl_extents.specs.declared.extent.Side.TheVariants.{Reads, Writes, Other}
+use Rattle.rdl_layout.specs.declared.extent.Side.{Side}
+use Rattle.rdl_layout.specs.declared.extent.Side.TheVariants.{Reads, Writes, Other}
 use Rattle.rdl_layers.specs.Phase4.{width_of, range_of}
 use Rattle.rdl_layers.specs.Settings.{Meaning, setting}
 use Rattle.rdl_layout.specs.declared.bits.Field.{Field}

@@ -2,10 +2,13 @@ pub mod Answers
 pub mod Bits
 pub mod Fields
 pub mod Layout
+pub mod Modes
 pub mod Parts
 pub mod Registers
 pub mod Rounding
 pub mod Rules
 pub mod Spots
 pub mod Tables
+pub mod TextReadings
 pub mod Texts
+pub mod Uses

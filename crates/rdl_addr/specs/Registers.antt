@@ -1,8 +1,8 @@
 -- What the numbers of registers are of.
 use Rattle.std.specs.Prelude.{◌≡◌, List, [], ◌∷◌}
 use Rattle.rdl_props.specs.declared.prop.Prop.TheVariants as prop
-use Rattle.rdl_extents.specs.declared.extent.Side.{Side}
-use Rattle.rdl_extents.specs.declared.extent.Side.TheVariants as sides
+use Rattle.rdl_layout.specs.declared.extent.Side.{Side}
+use Rattle.rdl_layout.specs.declared.extent.Side.TheVariants as sides
 use Rattle.rdl_layers.specs.Phase4.{number_at}
 use Rattle.rdl_layout.specs.declared.register.Register.{Register}
 use Rattle.rdl_addr.specs.Layout.{Placed}

@@ -2,8 +2,9 @@
 use Rattle.std.proofs.Common.{◌<◌, ◌^◌, map, Vec, ◌≡◌, ◌==◌, ℕ, suc, ◌∙◌, true, false, length, List, [], ◌∷◌, Contains, Some, refl, ap, subst, arith}
 use Rattle.std.proofs.lemmas.Bool.Decides.{nat_tests}
 use Rattle.std.specs.Global.{Global}
+use Rattle.plain_lemmas.proofs.Lists.{length-map as mapped}
 use Rattle.topological_order.specs.Levels.{lists}
-use Rattle.rb_base.specs.declared.fault.Fault.{Fault}
+use Rattle.rdl_base.specs.declared.fault.Fault.{Fault}
 use Rattle.rdl_tree.specs.declared.node.Elab.{Elab}
 use Rattle.rdl_values.specs.Elaborated.{nodes_of, top_name}
 use Rattle.rdl_values.specs.Instances.{Instance}
@@ -14,8 +15,8 @@ use Rattle.rdl_refs.specs.declared.item.ItemOf.{ItemOf}
 use Rattle.rdl_refs.specs.Answers.{AreItemsOf, IsBound, references_fail}
 use Rattle.rdl_refs.specs.Follows.{edges_of, item_number, refers_to}
 use Rattle.rdl_refs.specs.Items.{Item, failures_r, items}
-use Rattle.rdl_item_numbers.specs.declared.table.Numbers.{Numbers}
-use Rattle.rdl_item_numbers.specs.Numbered.{AreNumbers}
+use Rattle.rdl_bind.specs.declared.numbering.Numbers.{Numbers}
+use Rattle.rdl_bind.specs.Numbered.{AreNumbers}
 
 -- a list's length tells whether it is empty
 none-listed : (xs : List Fault) (n : ℕ) → n ≡ length xs → (n == 0) ≡ true → xs ≡ []
@@ -39,10 +40,6 @@ pub none-unbound : (e : Elab) (fs list : List Fault) (n : ℕ) → fs ≡ failur
 none-unbound e fs list n same h is empty = subst (IsListOf (references_fail e)) (none-listed list n is empty) (listed-all e fs list same h)
 
 -- Numbers of items fit in 32 bits.
-
-mapped : {X Y : Type 0} (f : X → Y) (xs : List X) → length (map f xs) ≡ length xs
-mapped f [] = refl
-mapped f (x ∷ xs) = ap suc (mapped f xs)
 
 as-many : (ns : List Instance) (xs : List ItemOf) (is : List Item) → AreItemsOf ns xs is → length xs ≡ length is
 as-many ns [] [] h = refl

@@ -5,13 +5,13 @@ use Rattle.topological_order.specs.Waiting.{list_at}
 use Rattle.rdl_tree.specs.declared.node.Elab.{Elab}
 use Rattle.rdl_values.specs.Elaborated.{nodes_of}
 use Rattle.rdl_values.specs.Elaboration.{IsClean}
-use Rattle.rdl_lineages.proofs.Members.{get-within}
+use Rattle.rdl_nodes.proofs.Members.{get-within}
 use Rattle.rdl_sizes.proofs.Facts.{count-is, nodes-many}
 use Rattle.rdl_refs.specs.declared.refs.Target.{Target}
-use Rattle.rdl_given_items.specs.Given.{NameItems}
-use Rattle.rdl_ref_targets.specs.Targeted.{AreTargets}
-use Rattle.rdl_over_views.specs.Covered.{AreTests}
-use Rattle.rdl_wires.specs.Touched.{AreTouches, touches}
+use Rattle.rdl_bind.specs.Given.{NameItems}
+use Rattle.rdl_bind.specs.Targeted.{AreTargets}
+use Rattle.rdl_members.specs.Covered.{AreTests}
+use Rattle.rdl_fields.specs.Touched.{AreTouches, touches}
 
 pub as-tests : (e m : Elab) → m ≡ e → IsClean e → (ts : List Bool) → AreTouches m e.count ts → AreTests e touches ts
 as-tests e m same clean ts h = λ k n here. (subst (λ x. AreTouches x e.count ts) same h).each k n (let l = get-within (nodes_of e) k n here in let c = count-is e clean in let a = nodes-many e in omega (arith, l, c, a)) here

@@ -4,8 +4,8 @@ use Rattle.topological_order.specs.Levels.{AreWithin, lists}
 use Rattle.rdl_tree.specs.declared.node.Elab.{Elab}
 use Rattle.rdl_values.specs.Lineages.{lineages_of}
 use Rattle.rdl_refs.specs.Follows.{edges_of}
-use Rattle.rdl_item_numbers.specs.Numbered.{AreNumbers}
-use Rattle.rdl_ref_targets.specs.Targeted.{AreTargets}
+use Rattle.rdl_bind.specs.Numbered.{AreNumbers}
+use Rattle.rdl_bind.specs.Targeted.{AreTargets}
 use Rattle.rdl_bind.specs.declared.tables.Tables.{Tables}
 
 -- All items and their numbers, what each refers to, and what the settings of each node name.

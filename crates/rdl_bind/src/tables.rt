@@ -2,28 +2,26 @@
 
 ghost use Rattle.std.specs.Prelude.{◌≡◌, IfOk};
 ghost use Rattle.rdl_values.specs.Elaboration.{IsClean};
-ghost use Rattle.rdl_index.specs.Rows.{AreRows};
-ghost use Rattle.rdl_named.specs.Named.{AreNamed};
-ghost use Rattle.rdl_over_views.specs.Covered.{AreOverViews};
-ghost use Rattle.rdl_ref_targets.specs.Targeted.{AreListed};
-ghost use Rattle.rdl_wires.specs.Touched.{touches};
+ghost use Rattle.rdl_nodes.specs.Rows.{AreRows};
+ghost use Rattle.rdl_resolve.specs.Named.{AreNamed};
+ghost use Rattle.rdl_members.specs.Covered.{AreOverViews};
+ghost use Rattle.rdl_bind.specs.Targeted.{AreListed};
+ghost use Rattle.rdl_fields.specs.Touched.{touches};
 ghost use Rattle.rdl_bind.specs.Made.{AreMade};
 
+use crate::known::Known;
+use crate::numbering::{Numbers, item_numbers};
+use crate::reference_table::edges;
+use crate::target_table::ref_targets;
 use rb_base::NoMemory;
-use rdl_aims::Known as Seen;
-use rdl_edges::{Known, edges};
-use rdl_index::Row;
-use rdl_item_numbers::{Numbers, item_numbers};
+use rdl_fields::own_touches;
 use rdl_layers::Props;
-use rdl_marks::marks;
-use rdl_members::members_of;
-use rdl_named::{NamedItem, NamedItems, named_items};
-use rdl_outer::outers_of;
-use rdl_over_views::any_view;
-use rdl_ref_targets::ref_targets;
+use rdl_members::{any_view, members_of};
+use rdl_nodes::Row;
+use rdl_ref_items::marks;
 use rdl_refs::Target;
+use rdl_resolve::{Known as Seen, NamedItem, NamedItems, named_items, outers_of};
 use rdl_tree::Elab;
-use rdl_wires::own_touches;
 use std::alloc::Global;
 
 /// The items of a tree with their numbers, what each refers to, and for each node the items that its settings name.

@@ -5,7 +5,8 @@ use denote.Enum.Bare.{same_true}
 use Rattle.rdl_tree.specs.contracts.item.Kind as of_kind
 use Rattle.rdl_tree.specs.declared.item.Inst.{Inst}
 use Rattle.rdl_tree.specs.declared.item.Kind.TheVariants as kinds
-use Rattle.rdl_props.specs.Same.{same_kind, same_prop}
+use Rattle.rdl_tree.specs.Kinds.{same_kind}
+use Rattle.rdl_props.specs.Same.{same_prop}
 use Rattle.rdl_props.specs.declared.prop.Prop.{Prop}
 use Rattle.rdl_props.specs.declared.prop.Prop.TheVariants as prop
 use Rattle.rdl_props.specs.Table.{share_group}
@@ -17,7 +18,7 @@ use Rattle.rdl_layers.specs.Phase4.{assigned_widths, first_or, number_at, number
 use Rattle.rdl_layers.specs.Ranks.{is_related}
 use Rattle.rdl_layers.specs.Settings.{Applied, applied, applied_to, deciding_of, is_assigned, setting, settled_if}
 use Rattle.rdl_layers.specs.declared.rank.Rank.TheVariants as rank
-use Rattle.rdl_reading.specs.Texts.{as_range, numbers_in, range_in}
+use Rattle.rdl_addr.specs.TextReadings.{as_range, numbers_in, range_in}
 use Rattle.rdl_addr.specs.Fields.{AreFieldsOf, IsFieldOf}
 use Rattle.rdl_addr.specs.Texts.{IsText}
 use Rattle.rdl_layout.specs.declared.bits.Field.{Field}

@@ -1,12 +1,12 @@
 -- Steps of loops over lists.
-use Rattle.std.proofs.Common.{◌≡◌, ◌∙◌, ℕ, zero, suc, ◌+◌, ◌<◌, ◌≤◌, ◌⊎◌, inl, inr, Bool, true, false, cond, List, [], ◌∷◌, ◌++◌, length, map, filter, take, drop, get_or, slice_get, Some, unwrap_or, Option, refl, sym, ap, subst, arith}
+use Rattle.std.proofs.Common.{◌≡◌, ◌∙◌, ℕ, zero, suc, ◌+◌, ◌<◌, ◌≤◌, ◌⊎◌, inl, inr, Bool, true, false, cond, List, [], ◌∷◌, ◌++◌, length, filter, take, drop, get_or, slice_get, Some, unwrap_or, Option, refl, sym, ap, subst, arith}
 use Rattle.std.proofs.lemmas.List.{take_more}
 use Rattle.rdl_values.specs.Values.{Around, number_of}
 use Rattle.rdl_tree.specs.declared.expr.Expr.{Expr}
 use Rattle.rdl_layers.specs.Phase4.{first_or}
 use Rattle.rdl_layers.specs.Settings.{given}
-use Rattle.rdl_reading.specs.Texts.{numbers_in}
-use Rattle.rdl_lineages.proofs.Members.{any-default, get-read, get-within}
+use Rattle.rdl_addr.specs.TextReadings.{numbers_in}
+use Rattle.rdl_nodes.proofs.Members.{any-default, get-read, get-within}
 use Rattle.rdl_sizes.proofs.Turns.{drop-at, read-at}
 
 module _ {X : Type 0} (P : X → Type 0) where
@@ -29,14 +29,6 @@ pub number-here : (env : Around) (es : List Expr) (i : ℕ) (x : Expr) (before a
 number-here env es i x before after low read step h d =
     ap (λ l. first_or (numbers_in env l) d) (drop-at es i x (read-at es i x low read))
     ∙ (first-append (given (number_of env x)) (numbers_in env (drop (suc i) es)) d ∙ (ap (first_or (given (number_of env x))) (h d) ∙ sym (step d)))
-
-pub long-map : {X Y : Type 0} (f : X → Y) (xs : List X) → length (map f xs) ≡ length xs
-long-map f [] = refl
-long-map f (x ∷ xs) = ap suc (long-map f xs)
-
-pub none-behind : {X : Type 0} (xs : List X) → xs ++ [] ≡ xs
-none-behind [] = refl
-none-behind (x ∷ xs) = ap (λ l. x ∷ l) (none-behind xs)
 
 module _ {X : Type 0} (p : X → Bool) where
   pub filter-one : (x : X) → filter p (x ∷ []) ≡ cond (p x) (x ∷ []) []

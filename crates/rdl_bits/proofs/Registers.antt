@@ -3,11 +3,13 @@ use Rattle.std.specs.List.{All}
 use Rattle.std.proofs.Common.{◌≡◌, ◌∙◌, ◌↔◌, ℕ, ◌+◌, ◌<◌, ◌⊎◌, inl, inr, true, false, cond, List, [], ◌∷◌, ◌++◌, length, map, flat_map, filter, take, get_or, slice_get, Contains, Some, refl, sym, ap, subst, arith}
 use Rattle.std.proofs.lemmas.List.{take_more}
 use Rattle.std.proofs.lemmas.Grind.{flat_map-append}
-use Rattle.rb_base.specs.declared.fault.Fault.{Fault}
+use Rattle.plain_lemmas.proofs.Lists.{length-map as long-map}
+use Rattle.plain_lemmas.proofs.Numbers.{below_next-same_or as split-next}
+use Rattle.rdl_base.specs.declared.fault.Fault.{Fault}
 use Rattle.rdl_tree.specs.declared.item.Kind.TheVariants as kinds
 use Rattle.rdl_tree.specs.declared.node.Elab.{Elab}
 use Rattle.rdl_tree.specs.declared.node.Node.{Node, out-Node}
-use Rattle.rdl_props.specs.Same.{same_kind}
+use Rattle.rdl_tree.specs.Kinds.{same_kind}
 use Rattle.rdl_props.specs.declared.prop.Prop.TheVariants as prop
 use Rattle.rdl_values.specs.Bodies.{standing}
 use Rattle.rdl_values.specs.Elaborated.{top_name}
@@ -18,15 +20,15 @@ use Rattle.rdl_layers.specs.Phase4.{number_at, range_of}
 use Rattle.rdl_layout.specs.Fields as fields
 use Rattle.rdl_layout.specs.declared.bits.Field.{Field}
 use Rattle.rdl_layout.specs.declared.bits.FieldBits.{FieldBits}
-use Rattle.rdl_index.specs.Rows.{AreInside}
+use Rattle.rdl_nodes.specs.Rows.{AreInside}
 use Rattle.rdl_addr.specs.Bits as bits
 use Rattle.rdl_addr.specs.Bits.{Bits, bits_of}
 use Rattle.rdl_addr.specs.Fields.{AllAreBitsOf, AreFieldsOf}
 use Rattle.rdl_addr.specs.Rules.{of_bits}
 use Rattle.rdl_addr.specs.Spots.{bits_at}
 use Rattle.rdl_addr.proofs.Fielding.{all-bits, same-faults}
-use Rattle.rdl_lineages.proofs.Members.{In, get-made, get-read, get-within, in-either, in-from, in-left, in-place, in-right, in-to, map-in}
-use Rattle.rdl_lineages.proofs.Order.{behind, once}
+use Rattle.rdl_nodes.proofs.Members.{In, get-made, get-read, get-within, in-either, in-from, in-left, in-place, in-right, in-to, map-in}
+use Rattle.rdl_nodes.proofs.Order.{behind, once}
 use Rattle.rdl_sizes.proofs.Offsets.{same-counts}
 use Rattle.rdl_sizes.proofs.Sizing.{all-within}
 use Rattle.rdl_sizes.proofs.Turns.{as-many, inside-at}
@@ -34,7 +36,7 @@ use Rattle.rdl_bits.specs.declared.table.BitTable.{BitTable}
 use Rattle.rdl_bits.specs.Tabled.{AreBitsTo, IsBitsOf, bit_faults}
 use Rattle.rdl_bits.specs.Written.{narrow, narrowed}
 use Rattle.rdl_bits.proofs.Fielded.{same_field}
-use Rattle.rdl_bits.proofs.Lists.{filter-all, long-map}
+use Rattle.rdl_bits.proofs.Lists.{filter-all}
 
 -- a field with its bits, as they are kept
 abbrev kept_of : Bits → Instance × (ℕ × ℕ)
@@ -84,9 +86,6 @@ faults-next all k l here = ap (flat_map (λ n. bit_faults n.node)) (take-next al
     alone : (xs : List Fault) → xs ++ [] ≡ xs
     alone [] = refl
     alone (x ∷ xs) = ap (λ ys. x ∷ ys) (alone xs)
-
-split-next : (i k : ℕ) → i < k + 1 → (i ≡ k) ⊎ (i < k)
-split-next i k l = grind (arith, l)
 
 same-at : (all : List Lineage) (i k : ℕ) (l n : Lineage) → i ≡ k → slice_get all k ≡ Some l → slice_get all i ≡ Some n → l ≡ n
 same-at all i k l n q here at = let one : Some l ≡ Some n = sym here ∙ (ap (slice_get all) (sym q) ∙ at) in cc one

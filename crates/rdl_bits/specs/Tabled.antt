@@ -1,6 +1,6 @@
 -- The bits of fields, node by node.
 use Rattle.std.specs.Prelude.{◌≡◌, ◌↔◌, ℕ, ◌<◌, true, cond, List, [], length, flat_map, take, Some, Contains, slice_get}
-use Rattle.rb_base.specs.declared.fault.Fault.{Fault}
+use Rattle.rdl_base.specs.declared.fault.Fault.{Fault}
 use Rattle.rdl_tree.specs.declared.item.Kind.TheVariants as kind
 use Rattle.rdl_tree.specs.declared.node.Elab.{Elab}
 use Rattle.rdl_values.specs.Bodies.{standing}

@@ -13,10 +13,10 @@ ghost use Rattle.rdl_addr.specs.Fields.{IsFieldOf};
 ghost use Rattle.rdl_sizes.specs.Bodies.{HasText};
 
 use crate::settings::{first_number, is_fit, side_of, width_by};
+use rdl_addr::{number, range_given};
 use rdl_layers::{Props, first_related_decides};
 use rdl_layout::Field;
 use rdl_props::Prop;
-use rdl_reading::{number, range_given};
 use rdl_tree::{Env, Inst, Node};
 use rdl_values::Visible;
 

@@ -15,8 +15,8 @@ ghost use Rattle.rdl_addr.specs.Fields.{AreFieldsOf};
 ghost use Rattle.rdl_sizes.specs.Bodies.{HasText, IsBodyOf};
 
 use crate::field::field_of;
-use crate::writes::is_field;
-use rb_base::{Fault, NoMemory};
+use rb_base::NoMemory;
+use rdl_base::Fault;
 use rdl_layers::Props;
 use rdl_layout::{Field, FieldBits};
 use rdl_tree::{Env, Node};
@@ -34,7 +34,7 @@ fn add_field<'a>(
     ensures field { OnOk result ((beside : List AnyNode) (c : Instance) (ns : List Instance) → slice_get (nodes_of props.now) (out-Node child.now).id ≡ Some c → Says beside child.now c → HasText (around_of env.now) c
         → AreFieldsOf fields.old.items ns → AreFieldsOf fields.new.items (ns ++ cond (is_a kinds.Field c) (c ∷ []) [])) }
 {
-    if !is_field(child.kind) {
+    if !child.kind.is_field() {
         return Ok(());
     }
     let Some(field) = field_of(props, child, env) else {

@@ -9,14 +9,13 @@ ghost use Rattle.rdl_layers.specs.Phase4.{first_or};
 ghost use Rattle.rdl_layers.specs.Settings.{given, setting};
 ghost use Rattle.rdl_values.specs.Values.{number_of};
 ghost use Rattle.rdl_layout.specs.Fields as fields;
-ghost use Rattle.rdl_reading.specs.Texts.{numbers_in};
+ghost use Rattle.rdl_addr.specs.TextReadings.{numbers_in};
 ghost use Rattle.rdl_addr.specs.Fields.{side_of as side_by};
 ghost use Rattle.rdl_bits.specs.Widths as widths;
 
-use rb_base::Keyword;
-use rdl_extents::Side;
+use rdl_base::Keyword;
 use rdl_layers::{Props, Setting};
-use rdl_layout::Field;
+use rdl_layout::{Field, Side};
 use rdl_props::Prop;
 use rdl_tree::Expr;
 use rdl_values::{Visible, number_of_in};

@@ -1,24 +1,25 @@
 //! The bits of all fields.
 
 ghost use Rattle.std.specs.Prelude.{◌≡◌, ℕ, ◌+◌, ◌<◌, IfOk, OnOk, [], Some, length, replicate, slice_get, true};
-ghost use Rattle.rdl_props.specs.Same.{same_kind};
+ghost use Rattle.rdl_tree.specs.Kinds.{same_kind};
 ghost use Rattle.rdl_tree.specs.declared.item.Kind.TheVariants as kinds;
 ghost use Rattle.rdl_tree.specs.declared.node.Node.{out-Node};
 ghost use Rattle.rdl_values.specs.Elaboration.{IsClean};
 ghost use Rattle.rdl_values.specs.Lineages.{Lineage, lineages_of};
-ghost use Rattle.rdl_index.specs.declared.table.Row.{Row as AnyRow};
-ghost use Rattle.rdl_index.specs.Rows.{AreRows, IsRow};
+ghost use Rattle.rdl_nodes.specs.declared.table.Row.{Row as AnyRow};
+ghost use Rattle.rdl_nodes.specs.Rows.{AreRows, IsRow};
 ghost use Rattle.rdl_bits.specs.Tabled.{AreBits, AreBitsTo};
 
 use crate::register::{add_all, are_spans, fields_in};
 use crate::writes::write_bits;
-use rb_base::{Fault, NoMemory};
-use rdl_index::Row;
+use rb_base::NoMemory;
+use rdl_addr::number;
+use rdl_base::Fault;
 use rdl_layers::Props;
 use rdl_layout::{bit_faults, bits_of};
+use rdl_nodes::Row;
 use rdl_props::Prop;
-use rdl_reading::number;
-use rdl_tree::{Kind, Node};
+use rdl_tree::Node;
 use std::alloc::Global;
 
 /// For each node its high and its low bit, 0 where it is no field, and the failures of rules B1 and B2.
@@ -26,12 +27,6 @@ use std::alloc::Global;
 pub struct BitTable {
     pub bits: Vec<(u8, u8)>,
     pub faults: Vec<Fault>,
-}
-
-fn is_register(kind: Kind) -> bool
-    ensures { result ≡ same_kind kinds.Reg kind }
-{
-    kind == Kind::Reg
 }
 
 /// Takes up the fields of a register.
@@ -70,7 +65,7 @@ fn add_row(
     requires before { AreBitsTo props.now (out-Node row.now.node.now).id table.old }
     ensures { OnOk result (AreBitsTo props.now ((out-Node row.now.node.now).id + 1) table.new) }
 {
-    if !is_register(row.node.kind) {
+    if !row.node.kind.is_register() {
         return Ok(());
     }
     add_register(alloc, props, row.node, table)

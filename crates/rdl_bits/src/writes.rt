@@ -7,20 +7,13 @@ ghost use Rattle.rdl_tree.specs.declared.node.Node.{Node as AnyNode, out-Node};
 ghost use Rattle.rdl_values.specs.Instances.{Instance};
 ghost use Rattle.rdl_values.specs.Lineages.{Lineage};
 ghost use Rattle.rdl_layers.specs.Fields.{is_a};
-ghost use Rattle.rdl_props.specs.Same.{same_kind};
-ghost use Rattle.rdl_index.specs.Rows.{AreInside};
+ghost use Rattle.rdl_tree.specs.Kinds.{same_kind};
+ghost use Rattle.rdl_nodes.specs.Rows.{AreInside};
 ghost use Rattle.rdl_addr.specs.Spots.{bits_at};
 ghost use Rattle.rdl_bits.specs.Written as written;
 
 use rdl_layout::FieldBits;
-use rdl_tree::{Kind, Node};
-
-/// Whether nodes of a kind are fields.
-pub(crate) fn is_field(kind: Kind) -> bool
-    ensures { result ≡ same_kind kinds.Field kind }
-{
-    kind == Kind::Field
-}
+use rdl_tree::Node;
 
 /// The number where eight bits hold it, else 0.
 fn narrow(number: u128) -> u8
@@ -46,7 +39,7 @@ pub(crate) fn write_bits(table: &mut [(u8, u8)], children: &[Node<'_>], bits: &[
 {
     let mut next = 0;
     for child in children {
-        if is_field(child.kind) {
+        if child.kind.is_field() {
             table[child.id as usize] = narrowed(bits[next]);
             next += 1;
         }

@@ -8,8 +8,8 @@ use Rattle.rdl_values.specs.Lineages.{Lineage, child_of, lineages_of, nodes_in}
 use Rattle.rdl_values.specs.Uses.{path_text}
 use Rattle.rdl_layers.specs.Fields.{is_once, is_touched, views}
 use Rattle.rdl_layers.specs.Phase4.{width_of}
-use Rattle.rdl_index.specs.Rows.{AreRows}
-use Rattle.rdl_node_numbers.specs.Numbers.{AreOwn}
+use Rattle.rdl_nodes.specs.Rows.{AreRows}
+use Rattle.rdl_block_numbers.specs.Numbers.{AreOwn}
 use Rattle.rdl_rules.specs.Fields.{reset_by, shown_of}
 use Rattle.rdl_rules.specs.Numbers.{Numbered}
 use Rattle.rdl_block_fields.specs.declared.facts.FieldFacts.{FieldFacts}

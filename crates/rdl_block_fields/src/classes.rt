@@ -7,10 +7,9 @@ ghost use Rattle.rdl_layers.specs.Fields as settings;
 ghost use Rattle.rdl_rules.specs.Fields as fields;
 
 use rb_model::Class;
-use rdl_field_settings::{hardware_writes, has_one_of};
+use rdl_fields::{hardware_writes, has_one_of, is_wire};
 use rdl_layers::Props;
 use rdl_props::Prop;
-use rdl_wires::is_wire;
 
 /// Whether a field keeps a value, where it is known whether software touches it through one of its views.
 fn is_storage(props: &Props<'_>, node: u32, is_touched: bool) -> bool

@@ -6,7 +6,7 @@ ghost use Rattle.rdl_values.specs.Instances.{Instance};
 ghost use Rattle.rdl_values.specs.Lineages.{Lineage, lineages_of};
 ghost use Rattle.rdl_rules.specs.Fields as fields;
 ghost use Rattle.rdl_rules.specs.Numbers.{Numbered};
-ghost use Rattle.rdl_counters.specs.Narrow.{AreNarrow};
+ghost use Rattle.rdl_feeds.specs.Narrow.{AreNarrow};
 ghost use Rattle.rdl_block_fields.specs.Known.{AreFieldFacts, IsKnown};
 
 use crate::classes::class;
@@ -14,7 +14,7 @@ use crate::feeding::{Known, count_of, feed_of, gate_of, mask_of, source_of};
 use rb_base::Text;
 use rb_model::{Field, ResetBy, Shows};
 use rdl_field_kinds::{hardware_first, latch, reset_value};
-use rdl_field_settings::{hardware_reads, hardware_writes, has};
+use rdl_fields::{hardware_reads, hardware_writes, has};
 use rdl_props::Prop;
 
 /// What is known of a field beside its settings: its path's text, its register's number in the block, its width in bits, what resets it,

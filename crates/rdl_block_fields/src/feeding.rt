@@ -7,17 +7,16 @@ ghost use Rattle.rdl_values.specs.Lineages.{lineages_of};
 ghost use Rattle.rdl_layers.specs.Fields as settings;
 ghost use Rattle.rdl_layers.specs.Phase4.{width_of};
 ghost use Rattle.rdl_rules.specs.Feeds as feeds;
-ghost use Rattle.rdl_counters.specs.Narrow.{AreNarrow};
+ghost use Rattle.rdl_feeds.specs.Narrow.{AreNarrow};
 ghost use Rattle.rdl_block_fields.specs.Known.{IsKnown};
 
 use rb_model::{Count, Feed, Gate, Mask, RefItem};
-use rdl_counters::count;
-use rdl_feeds::{feed, gate, mask, source};
-use rdl_field_settings::has;
-use rdl_index::Row;
+use rdl_block_numbers::ref_item;
+use rdl_feeds::{count, feed, gate, mask, source};
+use rdl_fields::has;
 use rdl_layers::Props;
+use rdl_nodes::Row;
 use rdl_props::Prop;
-use rdl_ref_items::ref_item;
 use rdl_refs::Refs;
 
 /// A tree: its settings, its references, its rows, and the numbers of its nodes in the lists of their kinds.

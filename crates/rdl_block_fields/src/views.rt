@@ -11,10 +11,11 @@ ghost use Rattle.rdl_rules.specs.Numbers.{all_fields};
 ghost use Rattle.rdl_block_fields.specs.Known.{IsKnown};
 
 use crate::feeding::{Known, gate_of};
-use rb_base::{Keyword, Text};
+use rb_base::Text;
 use rb_model::View;
+use rdl_base::Keyword;
 use rdl_field_kinds::{on_read, on_write};
-use rdl_field_settings::is_once;
+use rdl_fields::is_once;
 use rdl_layers::{Props, Setting};
 use rdl_props::Prop;
 

@@ -3,7 +3,8 @@ use Rattle.std.proofs.Common.{◌≡◌, ◌∙◌, ℕ, ◌+◌, ◌<◌, ◌�
 use Rattle.std.specs.Borrow.{Bor}
 use Rattle.std.proofs.lemmas.List.{length-append}
 use Rattle.std.proofs.lemmas.Option.{slice_get_within}
-use Rattle.rb_base.specs.declared.fault.Fault.{Fault}
+use Rattle.plain_lemmas.proofs.Lists.{get-last as get_next}
+use Rattle.rdl_base.specs.declared.fault.Fault.{Fault}
 use Rattle.rdl_tree.specs.InOrder.{IsInOrder}
 use Rattle.rdl_tree.specs.declared.item.Item.{Item}
 use Rattle.rdl_tree.specs.declared.value.Env.{Env}
@@ -17,13 +18,13 @@ use Rattle.rdl_values.specs.Tabled.{listed_in}
 use Rattle.rdl_values.specs.Values.{Around, EnumOf, Names, Val}
 use Rattle.rdl_values.specs.Views as view
 use Rattle.rdl_values.specs.Views.{ItemIs, item_is}
-use Rattle.rdl_judging.specs.Noted.{Holds, with_all}
-use Rattle.rdl_judging.specs.Shown.{IsAlike}
-use Rattle.rdl_judging.proofs.Around.{alike_same}
-use Rattle.rdl_judging.proofs.Sets.{again, held, kept}
-use Rattle.rdl_names.specs.Named.{AreComponents}
-use Rattle.rdl_names.specs.declared.components.Components.{Components}
-use Rattle.rdl_names.specs.declared.enums.Opened.{Opened}
+use Rattle.rdl_failures.specs.Noted.{Holds, with_all}
+use Rattle.rdl_failures.specs.Shown.{IsAlike}
+use Rattle.rdl_failures.proofs.Around.{alike_same}
+use Rattle.rdl_failures.proofs.Sets.{again, held, kept}
+use Rattle.rdl_scopes.specs.Named.{AreComponents}
+use Rattle.rdl_scopes.specs.declared.components.Components.{Components}
+use Rattle.rdl_scopes.specs.declared.enums.Opened.{Opened}
 use Rattle.rdl_scopes.specs.Scopes.{AreOpen, Shows, items_at, items_in}
 use Rattle.rdl_bodies.specs.Kept.{AreBelow, AreKept, Grows, IsBody, IsOpenFor, IsSite, of_names}
 use Rattle.rdl_bodies.specs.Opened.{IsOpened, IsText, IsTextFor}
@@ -32,7 +33,7 @@ use Rattle.rdl_bodies.specs.declared.bodies.Bodies.{Bodies}
 use Rattle.rdl_bodies.specs.declared.bodies.Body.{Body}
 use Rattle.rdl_bodies.specs.declared.bodies.Site.{Site}
 use Rattle.rdl_bodies.specs.declared.opening.BodyText.{BodyText}
-use Rattle.rdl_bodies.proofs.Growing.{AllSame, at_same, begins_get, begins_length, begins_same, chained_same, below_more, def_same, get_either, get_front, get_next, grows_on, grows_same, open_same, same_below, envs_same, shows_same, turned}
+use Rattle.rdl_bodies.proofs.Growing.{AllSame, at_same, begins_get, begins_length, begins_same, chained_same, below_more, def_same, get_either, get_front, grows_on, grows_same, open_same, same_below, envs_same, shows_same, turned}
 
 -- The names of a body.
 

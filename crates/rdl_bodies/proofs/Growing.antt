@@ -8,7 +8,7 @@ use Rattle.rdl_values.specs.Bodies.{Closure, Scope, around, scope_at}
 use Rattle.rdl_values.specs.Chained.{chained}
 use Rattle.rdl_values.specs.Parameters.{Bound}
 use Rattle.rdl_values.specs.Values.{Around}
-use Rattle.rdl_judging.specs.Shown.{IsAlike}
+use Rattle.rdl_failures.specs.Shown.{IsAlike}
 use Rattle.rdl_scopes.specs.Scopes.{Shows, items_in}
 use Rattle.rdl_bodies.specs.Kept.{AreBelow, Begins, Grows}
 use Rattle.rdl_bodies.specs.Sited.{AreRound, HaveEnvs, IsAt, IsOpenAs, component_at, def_at}
@@ -22,10 +22,6 @@ pub get_front : {X : Type 0} (xs more : List X) (k : ℕ) → k < length xs → 
 get_front [] more k l = absurd (omega (arith, l))
 get_front (x ∷ xs) more zero l = refl
 get_front (x ∷ xs) more (suc k) l = get_front xs more k (omega (arith, l))
-
-pub get_next : {X : Type 0} (xs : List X) (y : X) → slice_get (xs ++ (y ∷ [])) (length xs) ≡ Some y
-get_next [] y = refl
-get_next (x ∷ xs) y = get_next xs y
 
 -- an element of a longer list is one of those before, or the last one
 pub get_either : {X : Type 0} (xs : List X) (y x : X) (k : ℕ) → slice_get (xs ++ (y ∷ [])) k ≡ Some x → (slice_get xs k ≡ Some x) ⊎ ((k ≡ length xs) × (y ≡ x))

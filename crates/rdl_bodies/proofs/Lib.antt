@@ -1,4 +1,4 @@
-pub mod Growing
-mod Distinct
 pub mod Adding
+mod Distinct
+pub mod Growing
 mod Places

@@ -1,6 +1,7 @@
 -- Definitions in the bodies of definitions, and the root.
-use Rattle.std.proofs.Common.{◌≡◌, ◌∙◌, ℕ, zero, suc, ◌+◌, ◌<◌, List, [], ◌∷◌, ◌++◌, length, map, slice_get, Option, None, Some, refl, sym, ap, subst, append-nil, arith}
-use Rattle.rb_base.specs.declared.fault.Fault.{Fault}
+use Rattle.std.proofs.Common.{◌≡◌, ◌∙◌, ℕ, zero, suc, ◌+◌, List, [], ◌∷◌, ◌++◌, length, map, slice_get, Option, None, Some, refl, sym, ap, subst, append-nil, arith}
+use Rattle.plain_lemmas.proofs.Lists.{get-last as get_next, get-not_none as within-some}
+use Rattle.rdl_base.specs.declared.fault.Fault.{Fault}
 use Rattle.rdl_tree.specs.InOrder.{IsInOrder, RiseFrom, IsInOrderInside, none, more, place_of}
 use Rattle.rdl_tree.specs.InOrder as tree
 use Rattle.rdl_tree.specs.declared.item.Def.{Def}
@@ -23,7 +24,7 @@ use Rattle.rdl_bodies.specs.declared.bodies.Body.{Body}
 use Rattle.rdl_bodies.specs.declared.bodies.Site.{Site}
 use Rattle.rdl_bodies.specs.declared.opening.BodyText.{BodyText}
 use Rattle.rdl_bodies.proofs.Adding.{grown_listed, kept_listed}
-use Rattle.rdl_bodies.proofs.Growing.{get_next, grows_same, round_same, same_below}
+use Rattle.rdl_bodies.proofs.Growing.{grows_same, round_same, same_below}
 
 -- no body is open yet
 pub none_kept : (t : Bodies) (held : List Fault) → t.tables.items ≡ [] → t.components.items ≡ [] → t.list.items ≡ [] → t.sites.items ≡ [] → AreKept t held
@@ -65,11 +66,6 @@ pub inside_at : (k : ℕ) (is : List Item) (p : ℕ) (d : Def) → RiseFrom k is
 inside_at k [] p d r e = cc
 inside_at k (i ∷ is) zero d (more low inside rest) e = component-inside (item_is i) d (inside-of i inside) e
 inside_at k (i ∷ is) (suc p) d (more low inside rest) e = inside_at ((place_of i).0 + 1) is p d rest e
-
-within-some : {X : Type 0} (xs : List X) (k : ℕ) → k < length xs → slice_get xs k ≡ None → ⊥
-within-some [] k l e = omega (arith, l)
-within-some (x ∷ xs) zero l e = cc
-within-some (x ∷ xs) (suc k) l e = within-some xs k (omega (arith, l)) e
 
 -- the definition of a site stands in order
 pub site_in_order : (t : Bodies) (held : List Fault) (ks ps : List ℕ) (d : Def) → AreKept t held → AreBelow (length t.tables.items) ks → def_at t.components.items ks ps ≡ Some d → IsInOrder d.items.now

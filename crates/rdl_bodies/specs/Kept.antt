@@ -1,14 +1,14 @@
 -- What holds of the open bodies at any time.
 use Rattle.std.specs.Prelude.{◌≡◌, ℕ, ◌<◌, false, List, [], ◌∷◌, ◌++◌, length, map, Option, None, Some, slice_get, bytes_eq}
 use Rattle.std.specs.List.{AllByRecursion, list_any}
-use Rattle.rb_base.specs.declared.fault.Fault.{Fault}
+use Rattle.rdl_base.specs.declared.fault.Fault.{Fault}
 use Rattle.rdl_tree.specs.InOrder.{IsInOrder}
 use Rattle.rdl_values.specs.Bodies as values
 use Rattle.rdl_values.specs.Instances.{Instance, body}
 use Rattle.rdl_values.specs.Parameters.{Bound}
 use Rattle.rdl_values.specs.Phase3.{of_enums, twice_defined}
 use Rattle.rdl_values.specs.Seen.{bound_of}
-use Rattle.rdl_judging.specs.Noted.{Holds}
+use Rattle.rdl_failures.specs.Noted.{Holds}
 use Rattle.rdl_scopes.specs.Scopes.{AreOpen, items_at}
 use Rattle.rdl_bodies.specs.Sited.{IsAt, IsOpenAs, def_at}
 use Rattle.rdl_bodies.specs.declared.bodies.Bodies.{Bodies}

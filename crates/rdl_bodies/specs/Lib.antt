@@ -1,3 +1,3 @@
-pub mod Sited
-pub mod Opened
 pub mod Kept
+pub mod Opened
+pub mod Sited

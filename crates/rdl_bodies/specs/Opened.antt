@@ -1,7 +1,7 @@
 -- What it means that a body was opened, or a site listed.
 use Rattle.std.specs.Prelude.{◌≡◌, ℕ, List, ◌∷◌, map, Option, None, Some, slice_get}
 use Rattle.std.specs.Borrow.{Bor}
-use Rattle.rb_base.specs.declared.fault.Fault.{Fault}
+use Rattle.rdl_base.specs.declared.fault.Fault.{Fault}
 use Rattle.rdl_tree.specs.declared.value.Env.{Env}
 use Rattle.rdl_values.specs.Bodies as values
 use Rattle.rdl_values.specs.Bodies.{Closure, around}
@@ -10,8 +10,8 @@ use Rattle.rdl_values.specs.Instances.{Instance, body}
 use Rattle.rdl_values.specs.Parameters.{Bound}
 use Rattle.rdl_values.specs.Seen.{around_of, bound_of, names_in}
 use Rattle.rdl_values.specs.Tabled.{listed_in}
-use Rattle.rdl_judging.specs.Noted.{with_all}
-use Rattle.rdl_names.specs.declared.enums.Opened.{Opened}
+use Rattle.rdl_failures.specs.Noted.{with_all}
+use Rattle.rdl_scopes.specs.declared.enums.Opened.{Opened}
 use Rattle.rdl_bodies.specs.Kept.{AreKept, Grows, of_names}
 use Rattle.rdl_bodies.specs.Sited.{AreRound, IsAt, IsOpenAs}
 use Rattle.rdl_bodies.specs.declared.bodies.Bodies.{Bodies}

@@ -8,7 +8,7 @@ use Rattle.rdl_values.specs.Parameters.{Bound}
 use Rattle.rdl_values.specs.Seen.{around_of, bound_of}
 use Rattle.rdl_values.specs.Values.{Around}
 use Rattle.rdl_values.specs.Views.{item_is}
-use Rattle.rdl_names.specs.declared.components.Components.{Components}
+use Rattle.rdl_scopes.specs.declared.components.Components.{Components}
 use Rattle.rdl_scopes.specs.Scopes.{Shows, items_at}
 use Rattle.rdl_bodies.specs.declared.bodies.Bodies.{Bodies}
 use Rattle.rdl_bodies.specs.declared.bodies.Body.{Body}

@@ -3,7 +3,7 @@
 ghost use Rattle.std.specs.Prelude.{◌≡◌};
 
 use indexmap::IndexMap;
-use rdl_names::Components;
+use rdl_scopes::Components;
 use rdl_tree::{Bound, Def, Env, Item, Kind};
 use rdl_values::Table;
 

@@ -7,9 +7,9 @@ ghost use Rattle.rdl_values.specs.Chained.{chained};
 ghost use Rattle.rdl_values.specs.Seen.{around_of, bound_of, names_in};
 ghost use Rattle.rdl_values.specs.Tabled.{listed_in};
 ghost use Rattle.rdl_values.specs.Values.{Around, entry_named};
-ghost use Rattle.rdl_judging.specs.Noted.{with_all};
-ghost use Rattle.rdl_judging.specs.Shown.{IsAlike};
-ghost use Rattle.rdl_names.specs.Opened as names;
+ghost use Rattle.rdl_failures.specs.Noted.{with_all};
+ghost use Rattle.rdl_failures.specs.Shown.{IsAlike};
+ghost use Rattle.rdl_scopes.specs.Opened as names;
 ghost use Rattle.rdl_bodies.specs.Kept.{AreDistinct, of_names};
 ghost use Rattle.rdl_bodies.specs.Opened.{IsBodyOf};
 ghost use Rattle.rdl_bodies.specs.Sited.{HaveEnvs};
@@ -18,8 +18,8 @@ use crate::bodies::{Bodies, Body};
 use bumpalo::Bump;
 use bumpalo::collections::into_bump_slice;
 use rb_base::NoMemory;
-use rdl_judging::Failures;
-use rdl_names::{Components, Opened, Outer, judge_names, open_names};
+use rdl_failures::Failures;
+use rdl_scopes::{Components, Opened, Outer, judge_names, open_names};
 use rdl_tree::{Bound, Env, Item, Kind};
 use rdl_values::Table;
 use std::alloc::Global;
@@ -158,7 +158,7 @@ fn body_of<'a>(
 
 impl<'a> Bodies<'a> {
     ghost use Rattle.std.specs.Prelude.{◌≡◌, ◌∷◌, ◌++◌, [], ℕ, length, map, IfOk, IfSome, OnOk, Some, slice_get};
-    ghost use Rattle.rb_base.specs.declared.fault.Fault.{Fault as AnyFault};
+    ghost use Rattle.rdl_base.specs.declared.fault.Fault.{Fault as AnyFault};
     ghost use Rattle.rdl_tree.specs.InOrder.{IsInOrder};
     ghost use Rattle.rdl_values.specs.Bodies.{Body as BodyOf};
     ghost use Rattle.rdl_values.specs.Instances.{Instance, body};

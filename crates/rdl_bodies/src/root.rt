@@ -11,7 +11,7 @@ use crate::opening::BodyText;
 use bumpalo::Bump;
 use indexmap::IndexMap;
 use rb_base::NoMemory;
-use rdl_judging::Failures;
+use rdl_failures::Failures;
 use rdl_tree::Item;
 use std::alloc::Global;
 

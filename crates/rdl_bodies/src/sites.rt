@@ -1,7 +1,7 @@
 //! Sites that are listed, each once.
 
 ghost use Rattle.std.specs.Prelude.{◌≡◌, ℕ, List, Some, map, IfOk, IfSome, OnOk, length, slice_get};
-ghost use Rattle.rb_base.specs.declared.fault.Fault.{Fault as AnyFault};
+ghost use Rattle.rdl_base.specs.declared.fault.Fault.{Fault as AnyFault};
 
 use crate::bodies::{Bodies, Given, Key, Site};
 use crate::same::{are_equal, are_same};
@@ -63,7 +63,7 @@ fn bound_in<'a>(arena: &'a Bump, bound: &[Bound<'a>]) -> Result<&'a [Bound<'a>],
 
 impl<'a> Bodies<'a> {
     ghost use Rattle.std.specs.Prelude.{◌≡◌, ◌∷◌, ◌++◌, [], List, Some, map, IfOk, IfSome, OnOk, length, slice_get};
-    ghost use Rattle.rb_base.specs.declared.fault.Fault.{Fault as AnyFault};
+    ghost use Rattle.rdl_base.specs.declared.fault.Fault.{Fault as AnyFault};
     ghost use Rattle.rdl_values.specs.Bodies.{Closure};
     ghost use Rattle.rdl_values.specs.Parameters.{Bound as BoundOf};
     ghost use Rattle.rdl_values.specs.Seen.{bound_of};

@@ -1,7 +1,7 @@
 -- A block made of its lists.
-use Rattle.std.proofs.Common.{◌≡◌, ◌∙◌, ℕ, Bool, true, false, not, ◌==◌, List, [], ◌∷◌, Some, IsPermutation, length, map, refl, sym, ap, subst, arith}
+use Rattle.std.proofs.Common.{◌≡◌, ◌∙◌, ℕ, true, ◌==◌, List, [], ◌∷◌, Some, IsPermutation, length, map, refl, sym, ap, subst, arith}
 use Rattle.std.proofs.lemmas.Bool.{eqb-true}
-use Rattle.rb_base.specs.declared.fault.Fault.{Fault}
+use Rattle.rdl_base.specs.declared.fault.Fault.{Fault}
 use Rattle.rb_model.specs.declared.block.Block.{Block}
 use Rattle.rb_model.specs.declared.kinds.RefItem.{RefItem}
 use Rattle.rb_model.specs.Items.{items}
@@ -21,8 +21,8 @@ use Rattle.rdl_rules.specs.Block as blocks
 use Rattle.rdl_rules.specs.Block.{IsBlockOf}
 use Rattle.rdl_rules.specs.Numbers.{all_signals, registers}
 use Rattle.rdl_rules.specs.Words.{AreByAddress, read_words, write_words}
-use Rattle.rdl_listed.specs.Lists.{HasLists}
-use Rattle.rdl_ordered.specs.Ordered.{in_turn}
+use Rattle.rdl_sound_laws.specs.Lists.{HasLists}
+use Rattle.rdl_block_laws.specs.Ordered.{in_turn}
 use Rattle.rdl_check.specs.Trees.{AreInTurn, IsClear}
 use Rattle.rdl_check.proofs.Named.{one-name}
 
@@ -51,7 +51,3 @@ made e b clear signals fields views regs reads writes name waits turn each after
 pub nothing : (fs : List Fault) (len : ℕ) → len ≡ length fs → (len == 0) ≡ true → fs ≡ []
 nothing [] len e t = refl
 nothing (f ∷ fs) len e t = let none = eqb-true len 0 t in absurd (omega (arith, e, none))
-
-pub not-false : (b : Bool) → not b ≡ false → b ≡ true
-not-false true e = refl
-not-false false e = cc e

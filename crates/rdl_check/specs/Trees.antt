@@ -5,16 +5,16 @@ use Rattle.rdl_tree.specs.declared.node.Elab.{Elab}
 use Rattle.rdl_values.specs.Elaborated.{nodes_of}
 use Rattle.rdl_values.specs.Lineages.{lineages_of}
 use Rattle.rdl_values.specs.Verdict.{IsListOf}
-use Rattle.rdl_marks.specs.Marks.{AreMarks}
-use Rattle.rdl_node_numbers.specs.Numbers.{AreNodeNumbers}
-use Rattle.rdl_node_texts.specs.Texts.{AreTexts}
-use Rattle.rdl_ordered.specs.Ordered.{in_turn}
+use Rattle.rdl_ref_items.specs.Marks.{AreMarks}
+use Rattle.rdl_block_numbers.specs.Numbers.{AreNodeNumbers}
+use Rattle.rdl_block_numbers.specs.Texts.{AreTexts}
+use Rattle.rdl_block_laws.specs.Ordered.{in_turn}
 use Rattle.rdl_refs.specs.Follows.{edges_of}
 use Rattle.rdl_refs.specs.Graph.{IsOrder}
 use Rattle.rdl_rules.specs.Answers.{IsReady, meaning_fails}
 use Rattle.rdl_rules.specs.Block as blocks
 use Rattle.rdl_rules.specs.Numbers.{all_signals, registers}
-pub use Rattle.rdl_sound_blocks.specs.Forms.{HaveOneForm}
+pub use Rattle.rdl_block_laws.specs.Forms.{HaveOneForm}
 use Rattle.rdl_check.specs.declared.lists.Lists.{Lists}
 use Rattle.rdl_check.specs.declared.lists.Tables.{Tables}
 

@@ -1,8 +1,8 @@
 //! The block of a tree in which no rule fails.
 
 ghost use Rattle.std.specs.Prelude.{◌≡◌, IfOk, Some};
-ghost use Rattle.rdl_facts.specs.Facts.{AreFacts};
-ghost use Rattle.rdl_index.specs.Rows.{AreRows};
+ghost use Rattle.rdl_rules.specs.Facts.{AreFacts};
+ghost use Rattle.rdl_nodes.specs.Rows.{AreRows};
 ghost use Rattle.rdl_values.specs.Elaborated.{top_name};
 ghost use Rattle.rdl_rules.specs.Block.{IsBlockOf};
 ghost use Rattle.rdl_check.specs.Trees.{IsClear};
@@ -12,12 +12,12 @@ use rb_base::{NoMemory, Text};
 use rb_model::{Block, Words};
 use rdl_addr::Map;
 use rdl_block_fields::Known;
-use rdl_index::Row;
-use rdl_ordered::{order_has_all_items, order_is_the_blocks};
+use rdl_block_laws::{order_has_all_items, order_is_the_blocks};
+use rdl_block_words::all_words;
+use rdl_nodes::Row;
 use rdl_refs::Refs;
 use rdl_settle::Settled;
 use rdl_tree::Elab;
-use rdl_words::all_words;
 use std::alloc::Global;
 
 fn name_of(alloc: Global, elab: &Elab<'_>) -> Result<Text, NoMemory>

@@ -1,7 +1,7 @@
 //! `check`.
 
 ghost use Rattle.std.specs.Prelude.{◌≡◌};
-ghost use Rattle.rdl_facts.specs.Facts.{AreFacts};
+ghost use Rattle.rdl_rules.specs.Facts.{AreFacts};
 ghost use Rattle.rdl_rules.specs.Answers.{Answers6, IsReady};
 ghost use Rattle.rdl_check.specs.Trees.{HaveOneForm};
 
@@ -9,13 +9,13 @@ use crate::block::describe;
 use rb_base::NoMemory;
 use rb_model::Block;
 use rdl_addr::Map;
-use rdl_index::rows;
+use rdl_block_laws::blocks_are_sound;
+use rdl_failures::PhaseError;
+use rdl_meaning_rules::meaning_failures;
+use rdl_nodes::rows;
 use rdl_refs::Refs;
-use rdl_rule_list::meaning_failures;
-use rdl_rules::CheckError;
 use rdl_settle::Settled;
-use rdl_sound_blocks::blocks_are_sound;
-use rdl_sound_slots::aliases_have_primaries;
+use rdl_sound_laws::aliases_have_primaries;
 use rdl_tree::Elab;
 use std::alloc::Global;
 
@@ -27,7 +27,7 @@ pub fn check<'a>(
     settled: &Settled<'a>,
     map: &Map<'a>,
     refs: &Refs<'a>,
-) -> Result<Block, CheckError>
+) -> Result<Block, PhaseError>
     requires ready { IsReady elab.now }
     requires forms { HaveOneForm elab.now }
     requires props { settled.now.props ≡ elab.now }
@@ -40,16 +40,16 @@ pub fn check<'a>(
     aliases_have_primaries();
     let Ok(failures) = meaning_failures(alloc, &settled.props, map, refs, &settled.facts, elab)
     else {
-        return Err(CheckError::NoMemory);
+        return Err(PhaseError::NoMemory);
     };
     if !failures.is_empty() {
-        return Err(CheckError::Faults(failures));
+        return Err(PhaseError::Faults(failures));
     }
     let Ok(rows) = rows(alloc, elab) else {
-        return Err(CheckError::NoMemory);
+        return Err(PhaseError::NoMemory);
     };
     match describe(alloc, elab, settled, map, refs, &rows) {
         Ok(block) => Ok(block),
-        Err(NoMemory) => Err(CheckError::NoMemory),
+        Err(NoMemory) => Err(PhaseError::NoMemory),
     }
 }

@@ -1,29 +1,25 @@
 //! The lists of a block.
 
 ghost use Rattle.std.specs.Prelude.{◌≡◌, IfOk};
-ghost use Rattle.rdl_facts.specs.Facts.{AreFacts};
-ghost use Rattle.rdl_index.specs.Rows.{AreRows};
-ghost use Rattle.rdl_marks.specs.Marks.{AreMarks};
+ghost use Rattle.rdl_rules.specs.Facts.{AreFacts};
+ghost use Rattle.rdl_nodes.specs.Rows.{AreRows};
+ghost use Rattle.rdl_ref_items.specs.Marks.{AreMarks};
 ghost use Rattle.rdl_block_fields.specs.Known.{IsKnown};
 ghost use Rattle.rdl_check.specs.Trees.{AreInTurn, AreLists, AreTables, IsClear};
 
 use rb_base::{NoMemory, Text};
 use rb_model::{Fields, Order, Regs, Signals, Views};
 use rdl_block_fields::Known;
-use rdl_block_nodes::signals;
-use rdl_block_order::{Listed, block_order};
-use rdl_block_registers::regs;
-use rdl_facts::Fact;
-use rdl_faultless::clean_is_faultless;
+use rdl_block_lists::{Listed, block_order, regs, signals, views};
+use rdl_block_numbers::{NodeNumbers, node_numbers, path_texts};
 use rdl_field_list::fields;
-use rdl_index::Row;
 use rdl_layers::Props;
-use rdl_marks::{Mark, marks};
-use rdl_node_numbers::{NodeNumbers, node_numbers};
-use rdl_node_texts::path_texts;
+use rdl_nodes::Row;
+use rdl_ref_items::{Mark, marks};
 use rdl_refs::order;
+use rdl_rules::Fact;
+use rdl_sound_laws::clean_is_faultless;
 use rdl_tree::Elab;
-use rdl_view_list::views;
 use std::alloc::Global;
 
 /// The path texts of nodes, their numbers in the lists of their kinds, and what registers have for others to refer to.

@@ -1,8 +1,8 @@
 -- No two of the parameters that are bound have one name.
 use Rattle.std.proofs.Common.{◌≡◌, ◌∙◌, Bool, true, false, cond, List, [], ◌∷◌, ◌++◌, Ok, Err, refl, sym, ap, subst, append_assoc, append-nil}
-use Rattle.rb_base.specs.declared.fault.Fault.{Fault}
+use Rattle.rdl_base.specs.declared.fault.Fault.{Fault}
 use Rattle.rdl_tree.specs.declared.item.Param.{Param}
-use Rattle.rb_base.specs.declared.rule.Rule.TheVariants as rules
+use Rattle.rdl_base.specs.declared.rule.Rule.TheVariants as rules
 use Rattle.rdl_values.specs.Bodies.{Closure, Scope, around}
 use Rattle.rdl_values.specs.Parameters.{Bound, argument, bound_from, bound_of, given, is_bound, value_at}
 use Rattle.rdl_values.specs.Uses.{Use}

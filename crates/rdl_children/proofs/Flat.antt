@@ -2,6 +2,7 @@
 use Rattle.std.proofs.Common.{◌≡◌, ◌∙◌, ℕ, Bool, true, false, cond, List, [], ◌∷◌, ◌++◌, map, flat_map, Option, Some, option_to_list, slice_get, Ok, Err, IsErr, refl, sym, ap}
 use Rattle.std.specs.List.{AllByRecursion}
 use Rattle.std.specs.Result.{result_ok}
+use Rattle.plain_lemmas.proofs.Lists.{cons-head as same-head, cons-tail as same-tail, nil-cons as not-empty}
 use Rattle.rdl_tree.specs.declared.expr.Name.{Name}
 use Rattle.rdl_tree.specs.declared.item.Inst.{Inst}
 use Rattle.rdl_values.specs.Instances.{Instance, elements, given_by}
@@ -16,15 +17,6 @@ use Rattle.rdl_bodies.specs.declared.bodies.Bodies.{Bodies}
 use Rattle.rdl_bodies.specs.declared.bodies.Site.{Site}
 use Rattle.rdl_children.specs.Children.{AreChildren, IsChild, none, without, with_, pair_in}
 use Rattle.rdl_children.specs.declared.child.Child.{Child}
-
-same-head : {X : Type 0} (x y : X) (xs ys : List X) → x ∷ xs ≡ y ∷ ys → x ≡ y
-same-head x y xs ys e = cc
-
-same-tail : {X : Type 0} (x y : X) (xs ys : List X) → x ∷ xs ≡ y ∷ ys → xs ≡ ys
-same-tail x y xs ys e = cc
-
-not-empty : {X : Type 0} (y : X) (ys : List X) → [] ≡ y ∷ ys → ⊥
-not-empty y ys e = cc
 
 -- what a use that has a type gives
 abbrev gives : Seen → TypeUsed → Outcome Bound → Outcome (List ℕ) → List Instance

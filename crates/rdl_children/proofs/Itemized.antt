@@ -3,7 +3,8 @@ use Rattle.std.proofs.Common.{◌≡◌, ◌≢◌, ◌∙◌, ℕ, suc, ◌+◌
 use Rattle.std.specs.List.{AllByRecursion}
 use Rattle.std.proofs.lemmas.Grind.{flat_map-append}
 use Rattle.std.proofs.lemmas.List.{take_all}
-use Rattle.rb_base.specs.declared.fault.Fault.{Fault}
+use Rattle.plain_lemmas.proofs.Lists.{each-left as all_left, each-right as all_right}
+use Rattle.rdl_base.specs.declared.fault.Fault.{Fault}
 use Rattle.rdl_tree.specs.declared.item.Inst.{Inst}
 use Rattle.rdl_values.specs.Bodies as values
 use Rattle.rdl_values.specs.Bodies.{Closure, around, scope_at}
@@ -13,9 +14,9 @@ use Rattle.rdl_scopes.specs.Scopes.{IsClosureAt, Shows}
 use Rattle.rdl_scopes.specs.declared.scopes.Found.{Found}
 use Rattle.rdl_uses.specs.Given.{TypeUsed, seens}
 use Rattle.rdl_uses.specs.Placed.{IsParent}
-use Rattle.rdl_items.specs.Items.{GivesAll, GivesUses, IsBodyScene, none, without, with_}
-use Rattle.rdl_items.specs.declared.item.ItemUses.{ItemUses}
-use Rattle.rdl_items.specs.declared.item.Scene.{Scene}
+use Rattle.rdl_children.specs.ItemUses.{GivesAll, GivesUses, IsBodyScene, none, without, with_}
+use Rattle.rdl_children.specs.declared.item.ItemUses.{ItemUses}
+use Rattle.rdl_children.specs.declared.item.Scene.{Scene}
 use Rattle.rdl_bodies.specs.Kept.{AreBelow, AreKept, Grows}
 use Rattle.rdl_bodies.specs.Sited.{HaveEnvs, IsOpenAs}
 use Rattle.rdl_bodies.specs.declared.bodies.Bodies.{Bodies}
@@ -28,14 +29,6 @@ use Rattle.rdl_children.specs.declared.child.Child.{Child}
 use Rattle.rdl_children.proofs.Reached.{Reached, SeenReaches, below_drop, envs_drop, found_at}
 
 -- Parts of lists.
-
-pub all_left : {X : Type 0} (P : X → Type 0) (xs ys : List X) → AllByRecursion P (xs ++ ys) → AllByRecursion P xs
-all_left P [] ys h = tt
-all_left P (x ∷ xs) ys h = (h.0, all_left P xs ys h.1)
-
-pub all_right : {X : Type 0} (P : X → Type 0) (xs ys : List X) → AllByRecursion P (xs ++ ys) → AllByRecursion P ys
-all_right P [] ys h = h
-all_right P (x ∷ xs) ys h = all_right P xs ys h.1
 
 none-both : (ss rs : List Seen) → flat_map given_by ss ≡ [] → flat_map given_by rs ≡ [] → flat_map given_by (ss ++ rs) ≡ []
 none-both ss rs a b = flat_map-append given_by ss rs ∙ ap (λ xs. xs ++ flat_map given_by rs) a ∙ b

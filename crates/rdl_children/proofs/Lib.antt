@@ -1,5 +1,7 @@
-pub mod Reached
 pub mod Bounds
 mod Flat
 pub mod Itemized
+mod Listing
+pub mod Reached
 mod Sharing
+mod Using

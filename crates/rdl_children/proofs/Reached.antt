@@ -15,7 +15,7 @@ use Rattle.rdl_values.specs.Values.{Around, Names, nearest}
 use Rattle.rdl_values.specs.Views as view
 use Rattle.rdl_values.specs.Views.{ItemIs, item_is}
 use Rattle.rdl_values.proofs.Given.{each-append, each-flat_map, each-map, each-imp}
-use Rattle.rdl_names.specs.declared.components.Components.{Components}
+use Rattle.rdl_scopes.specs.declared.components.Components.{Components}
 use Rattle.rdl_scopes.specs.Scopes.{Shows, items_at}
 use Rattle.rdl_bodies.specs.Kept.{AreBelow}
 use Rattle.rdl_bodies.specs.Sited.{HaveEnvs, def_at}

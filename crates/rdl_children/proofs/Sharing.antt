@@ -2,7 +2,7 @@
 use Rattle.std.proofs.Common.{◌≡◌, ◌≢◌, ◌∙◌, ℕ, ◌+◌, ◌<◌, ◌≤◌, ◌==◌, true, eqb-true, List, [], ◌∷◌, ◌++◌, length, get_or, drop, flat_map, map, take, Option, None, Some, slice_get, Ok, refl, sym, ap, subst, arith, append_assoc, append-nil}
 use Rattle.std.specs.List.{AllByRecursion}
 use Rattle.std.proofs.lemmas.List.{at_drop_all, at_drop_more, map-append, take_more}
-use Rattle.rb_base.specs.declared.fault.Fault.{Fault}
+use Rattle.rdl_base.specs.declared.fault.Fault.{Fault}
 use Rattle.rdl_tree.specs.declared.expr.Name.{Name}
 use Rattle.rdl_tree.specs.declared.item.Inst.{Inst}
 use Rattle.rdl_values.specs.Bodies as values
@@ -11,13 +11,13 @@ use Rattle.rdl_values.specs.Parameters as parameters
 use Rattle.rdl_values.specs.Seen.{bound_of}
 use Rattle.rdl_values.specs.Phase3.{of_use}
 use Rattle.rdl_values.specs.Uses.{Seen, Use, parent_of, seen}
-use Rattle.rdl_params.specs.declared.binding.Binding.{Binding}
-use Rattle.rdl_params.specs.Binding.{AreValues}
+use Rattle.rdl_uses.specs.declared.binding.Binding.{Binding}
+use Rattle.rdl_uses.specs.Binding.{AreValues}
 use Rattle.rdl_uses.specs.Given.{TypeUsed, given_in, pair_of, seens, use_by}
 use Rattle.rdl_uses.specs.Placed.{IsParent}
 use Rattle.rdl_uses.specs.declared.holder.Parent.{Parent}
 use Rattle.rdl_uses.specs.declared.instances.Given.{Given}
-use Rattle.rdl_items.specs.declared.item.ItemUses.{ItemUses}
+use Rattle.rdl_children.specs.declared.item.ItemUses.{ItemUses}
 use Rattle.rdl_bodies.specs.Kept.{AreBelow, AreDistinct, AreKept}
 use Rattle.rdl_bodies.specs.Opened.{IsListed}
 use Rattle.rdl_bodies.specs.Sited.{AreRound, IsOpenAs, def_at}

@@ -1,7 +1,7 @@
 -- The uses of a body that give nodes.
 use Rattle.std.specs.Prelude.{◌≡◌, ℕ, true, List, [], ◌∷◌, ◌++◌, map, flat_map, Option, Some, slice_get, Ok}
 use Rattle.std.specs.List.{AllByRecursion}
-use Rattle.rb_base.specs.declared.fault.Fault.{Fault}
+use Rattle.rdl_base.specs.declared.fault.Fault.{Fault}
 use Rattle.rdl_tree.specs.declared.expr.Name.{Name}
 use Rattle.rdl_tree.specs.declared.item.Inst.{Inst}
 use Rattle.rdl_values.specs.Bodies as values
@@ -12,7 +12,7 @@ use Rattle.rdl_values.specs.Parameters.{Bound, bound_of}
 use Rattle.rdl_values.specs.Parts.{dims_of, is_empty}
 use Rattle.rdl_values.specs.Phase3.{of_use}
 use Rattle.rdl_values.specs.Uses.{Seen, parent_of}
-use Rattle.rdl_judging.specs.Noted.{with_all}
+use Rattle.rdl_failures.specs.Noted.{with_all}
 use Rattle.rdl_uses.specs.Given.{pair_of}
 use Rattle.rdl_uses.specs.Placed.{IsParent}
 use Rattle.rdl_uses.specs.declared.holder.Parent.{Parent}

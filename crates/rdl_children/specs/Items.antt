@@ -1,17 +1,17 @@
 -- The uses of a body that give nodes, item by item.
 use Rattle.std.specs.Prelude.{◌≡◌, ◌≢◌, ℕ, List, [], ◌∷◌, ◌++◌, drop, length, map, flat_map, Some}
-use Rattle.rb_base.specs.declared.fault.Fault.{Fault}
+use Rattle.rdl_base.specs.declared.fault.Fault.{Fault}
 use Rattle.rdl_tree.specs.declared.item.Inst.{Inst}
 use Rattle.rdl_values.specs.Bodies.{Closure}
 use Rattle.rdl_values.specs.Instances.{given_by}
 use Rattle.rdl_values.specs.Parameters.{bound_of}
 use Rattle.rdl_values.specs.Phase3.{of_use}
 use Rattle.rdl_values.specs.Uses.{Seen, Use}
-use Rattle.rdl_judging.specs.Noted.{with_all}
-use Rattle.rdl_params.specs.Binding.{AreValues}
+use Rattle.rdl_failures.specs.Noted.{with_all}
+use Rattle.rdl_uses.specs.Binding.{AreValues}
 use Rattle.rdl_scopes.specs.declared.scopes.Found.{Found}
 use Rattle.rdl_uses.specs.Given.{TypeUsed, given_in, pair_of, seens, use_by}
-use Rattle.rdl_items.specs.declared.item.ItemUses.{ItemUses}
+use Rattle.rdl_children.specs.declared.item.ItemUses.{ItemUses}
 use Rattle.rdl_bodies.specs.Kept.{AreBelow, AreKept, Grows}
 use Rattle.rdl_bodies.specs.Sited.{AreRound, def_at}
 use Rattle.rdl_bodies.specs.declared.bodies.Bodies.{Bodies}

@@ -10,14 +10,15 @@ ghost use Rattle.rdl_bodies.specs.declared.bodies.Body.{Body as OpenBody};
 ghost use Rattle.rdl_children.specs.Children.{CanJudge, IsJudged};
 ghost use Rattle.rdl_children.specs.Items.{CanList, Gives, Lists};
 
+use crate::body::judge_items;
 use crate::child::Child;
 use crate::given::add_uses;
+use crate::item::{ItemUses, Scene};
 use bumpalo::Bump;
 use bumpalo::collections::into_bump_slice;
 use rb_base::NoMemory;
 use rdl_bodies::{Bodies, Body};
-use rdl_items::{ItemUses, Scene, judge_items};
-use rdl_judging::Failures;
+use rdl_failures::Failures;
 use rdl_uses::Parent;
 use std::alloc::Global;
 

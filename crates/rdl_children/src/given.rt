@@ -5,14 +5,13 @@ ghost use Rattle.rdl_children.specs.Children.{AddsGiven, AddsOne};
 ghost use Rattle.rdl_children.specs.Items.{AddsUses, CanAdd};
 
 use crate::child::Child;
+use crate::item::ItemUses;
 use bumpalo::Bump;
 use bumpalo::collections::into_bump_slice;
 use rb_base::NoMemory;
 use rdl_bodies::{Bodies, Body};
-use rdl_items::ItemUses;
-use rdl_params::Binding;
 use rdl_tree::Name;
-use rdl_uses::Given;
+use rdl_uses::{Binding, Given};
 use std::alloc::Global;
 
 // A copy of some dimensions in the arena.

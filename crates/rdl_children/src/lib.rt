@@ -1,9 +1,13 @@
-//! The nodes in the body of a node: the uses that give them, and what each is a use of.
+//! The uses in a body, item by item: their failures, and the nodes that they give.
 #![tactic(auto)]
 
+mod body;
 mod child;
 mod children;
 mod given;
+mod item;
 
+pub use body::judge_items;
 pub use child::Child;
 pub use children::judge_children;
+pub use item::{ItemUses, Scene, judge_item};

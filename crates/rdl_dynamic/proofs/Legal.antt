@@ -1,8 +1,8 @@
 -- Failures at targets.
-use Rattle.std.proofs.Common.{◌≡◌, ◌∙◌, ℕ, ◌+◌, ◌<◌, ◌≤◌, Bool, not, ◌&&◌, List, [], ◌∷◌, length, get_or, take, flat_map, append-nil, add-one, Some, option_to_list, Result, Ok, Err, IfOk, refl, sym, ap, subst}
-use Rattle.rb_base.specs.declared.fault.Fault.{Fault}
+use Rattle.std.proofs.Common.{◌≡◌, ◌∙◌, ℕ, ◌+◌, ◌<◌, ◌≤◌, Bool, not, ◌&&◌, List, [], ◌∷◌, length, get_or, take, flat_map, append-nil, add-one, Some, option_to_list, refl, sym, ap, subst}
+use Rattle.rdl_base.specs.declared.fault.Fault.{Fault}
 use Rattle.rb_base.specs.declared.place.Place.{Place}
-use Rattle.rb_base.specs.declared.rule.Rule.TheVariants as rules
+use Rattle.rdl_base.specs.declared.rule.Rule.TheVariants as rules
 use Rattle.rdl_tree.specs.declared.item.Kind.{Kind}
 use Rattle.rdl_props.specs.Table.{is_legal}
 use Rattle.rdl_props.specs.declared.prop.Prop.{Prop}
@@ -10,17 +10,13 @@ use Rattle.rdl_values.specs.Faults.{at_, when}
 use Rattle.rdl_values.specs.Instances.{Instance, kind_of}
 use Rattle.rdl_values.specs.Lineages.{Lineage}
 use Rattle.rdl_values.specs.Parts.{is_empty}
-use Rattle.rdl_judging.specs.Noted.{IsNoted}
-use Rattle.rdl_judging.proofs.Noting.{each_noted}
+use Rattle.rdl_failures.specs.Noted.{IsNoted}
+use Rattle.rdl_failures.proofs.Noting.{each_noted}
 use Rattle.rdl_layers.specs.Assignments.{Dynamic, Nested, targets}
 use Rattle.rdl_layers.specs.Judged.{bad_indices, illegal, legal_on, no_target}
 use Rattle.rdl_layers.specs.Meanings.{Assignment, prop_of}
 use Rattle.rdl_targets.specs.At.{AreAt, IsAt}
 use Rattle.rdl_targets.proofs.Numbered.{all-at, nth}
-
-pub if_ok : {T E : Type 0} (r : Result T E) (P Q : T → Type 0) → ((x : T) → P x → Q x) → IfOk r P → IfOk r Q
-if_ok (Ok x) P Q f h = f x h
-if_ok (Err e) P Q f h = tt
 
 -- P7
 

@@ -1,2 +1,6 @@
-mod Meeting
+mod Behind
+mod Going
 mod Legal
+mod Marking
+mod Meeting
+mod Taking

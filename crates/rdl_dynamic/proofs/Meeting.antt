@@ -2,6 +2,7 @@
 use Rattle.std.proofs.Common.{◌≡◌, ◌∙◌, Bool, true, false, ◌&&◌, ◌||◌, cond, List, [], ◌∷◌, map, filter, option_to_list, refl, sym, ap}
 use Rattle.std.specs.List.{list_any}
 use Rattle.std.proofs.lemmas.List.Folds.{list_any-append}
+use Rattle.plain_lemmas.proofs.Lists.{bytes_eq-swap as bytes-turn}
 use Rattle.rdl_props.specs.declared.prop.Prop.{Prop}
 use Rattle.rdl_values.specs.Bodies.{Path, of_signal, below_top}
 use Rattle.rdl_values.specs.Bodies as bodies
@@ -9,7 +10,6 @@ use Rattle.rdl_values.specs.Instances.{Instance}
 use Rattle.rdl_layers.specs.Assignments.{Dynamic, Nested, is_among, meet, same_path, same_step, same_steps, targets}
 use Rattle.rdl_layers.specs.Judged.{props_of}
 use Rattle.rdl_layers.specs.Meanings.{prop_of}
-use Rattle.rdl_targets.proofs.Contained.{bytes-turn}
 use Rattle.rdl_dynamic.specs.Marked.{assigned_at}
 
 -- Tests of lists.

@@ -1,6 +1,6 @@
 -- Failures of indices.
 use Rattle.std.specs.Prelude.{List, flat_map}
-use Rattle.rb_base.specs.declared.fault.Fault.{Fault}
+use Rattle.rdl_base.specs.declared.fault.Fault.{Fault}
 use Rattle.rdl_tree.specs.declared.expr.Expr.{Expr}
 use Rattle.rdl_values.specs.Faults.{failures}
 use Rattle.rdl_values.specs.Values.{Around, number_of}

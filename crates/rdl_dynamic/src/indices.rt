@@ -5,14 +5,14 @@ ghost use Rattle.rdl_values.specs.Bodies.{around};
 ghost use Rattle.rdl_values.specs.Faults as faults;
 ghost use Rattle.rdl_values.specs.Values.{Around, number_of};
 ghost use Rattle.rdl_values.specs.Views.{steps_of};
-ghost use Rattle.rdl_judging.specs.Noted.{IsNoted};
-ghost use Rattle.rdl_judging.specs.Shown.{IsShown};
+ghost use Rattle.rdl_failures.specs.Noted.{IsNoted};
+ghost use Rattle.rdl_failures.specs.Shown.{IsShown};
 ghost use Rattle.rdl_layers.specs.Assignments.{Dynamic};
 ghost use Rattle.rdl_layers.specs.Judged.{bad_indices};
 ghost use Rattle.rdl_dynamic.specs.Indices.{bad_numbers};
 
 use rb_base::NoMemory;
-use rdl_judging::{Failures, number_seen};
+use rdl_failures::{Failures, number_seen};
 use rdl_tree::{Expr, Path};
 use rdl_values::Chain;
 

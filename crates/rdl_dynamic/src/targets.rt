@@ -5,16 +5,17 @@ ghost use Rattle.rdl_tree.specs.declared.node.Elab.{Elab};
 ghost use Rattle.rdl_values.specs.Instances.{Instance};
 ghost use Rattle.rdl_values.specs.Lineages.{lineages_of};
 ghost use Rattle.rdl_values.specs.Parts as parts;
-ghost use Rattle.rdl_index.specs.Rows.{AreRows};
-ghost use Rattle.rdl_judging.specs.Noted.{IsNoted};
+ghost use Rattle.rdl_nodes.specs.Rows.{AreRows};
+ghost use Rattle.rdl_failures.specs.Noted.{IsNoted};
 ghost use Rattle.rdl_layers.specs.Assignments.{Dynamic, Nested, targets};
 ghost use Rattle.rdl_layers.specs.Judged.{bad_indices, illegal, legal_on, no_target};
 ghost use Rattle.rdl_layers.specs.Meanings.{Assignment, prop_of};
 ghost use Rattle.rdl_targets.specs.At.{AreAt, IsAt};
 
-use rb_base::{NoMemory, Place, Rule};
-use rdl_index::Row;
-use rdl_judging::Failures;
+use rb_base::{NoMemory, Place};
+use rdl_base::Rule;
+use rdl_failures::Failures;
+use rdl_nodes::Row;
 use rdl_props::{Prop, legal};
 use rdl_targets::row_at;
 

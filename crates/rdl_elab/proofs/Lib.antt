@@ -1,2 +1,14 @@
+mod Appending
+mod Childwise
+mod Elementwise
+mod Listing
 mod Measured
+mod Nodewise
+mod Numbering
+mod Primaries
 mod Refused
+mod Sources
+pub mod Staying
+pub mod TopUses
+pub mod Totals
+mod Wholes

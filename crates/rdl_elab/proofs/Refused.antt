@@ -1,16 +1,16 @@
 -- A source that was surveyed, and in which some rule fails or none.
 use Rattle.std.proofs.Common.{◌≡◌, ◌≢◌, ◌∙◌, ℕ, true, false, List, [], ◌∷◌, Contains, Option, refl, sym, ap, subst}
-use Rattle.rb_base.specs.declared.fault.Fault.{Fault}
+use Rattle.rdl_base.specs.declared.fault.Fault.{Fault}
 use Rattle.rdl_tree.specs.declared.item.Source.{Source}
 use Rattle.rdl_values.specs.Elaboration.{Refuses}
 use Rattle.rdl_values.specs.Faults.{at_}
 use Rattle.rdl_values.specs.Parts.{is_empty}
 use Rattle.rdl_values.specs.Phase3.{failures3}
 use Rattle.rdl_values.specs.Verdict.{IsListOf}
-use Rattle.rdl_judging.proofs.Sets.{collected}
-use Rattle.rdl_survey.specs.Surveying.{IsSurvey}
-use Rattle.rdl_survey.specs.declared.surveyed.Surveyed.{Surveyed}
-use Rattle.rdl_grown.specs.Trees.{IsCleanSurvey}
+use Rattle.rdl_failures.proofs.Sets.{collected}
+use Rattle.rdl_elab.specs.Surveying.{IsSurvey}
+use Rattle.rdl_elab.specs.declared.surveyed.Surveyed.{Surveyed}
+use Rattle.rdl_elab.specs.Trees.{IsCleanSurvey}
 
 none_there : (fs : List Fault) → is_empty fs ≡ true → fs ≡ []
 none_there [] e = refl

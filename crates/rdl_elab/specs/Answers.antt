@@ -6,11 +6,11 @@ use Rattle.rdl_values.specs.Elaborated.{measured}
 use Rattle.rdl_values.specs.Elaboration.{Elaborates, Refuses}
 use Rattle.rdl_values.specs.Instances.{most_nodes}
 use Rattle.rdl_values.specs.Phase3.{too_many_nodes}
-use Rattle.rdl_elab.specs.declared.error.ElabError.{ElabError}
-use Rattle.rdl_elab.specs.declared.error.ElabError.TheVariants as error
+use Rattle.rdl_failures.specs.declared.error.PhaseError.{PhaseError}
+use Rattle.rdl_failures.specs.declared.error.PhaseError.TheVariants as error
 
 -- `elaborate`: the tree where no rule on instances fails, else the list of all failures. Want of memory may be answered anywhere.
-abbrev pub Answers3 : Option (List ℕ) → Source → Result Elab ElabError → Type 0
+abbrev pub Answers3 : Option (List ℕ) → Source → Result Elab PhaseError → Type 0
 Answers3 wanted s (Ok e) = Elaborates wanted s e
 Answers3 wanted s (Err (error.Faults list)) = Refuses wanted s list.items
 Answers3 wanted s (Err error.NoMemory) = Unit {0}

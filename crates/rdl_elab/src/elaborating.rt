@@ -6,12 +6,14 @@ ghost use Rattle.rdl_tree.specs.InOrder.{IsInOrder};
 ghost use Rattle.rdl_values.specs.Parts.{is_empty};
 ghost use Rattle.rdl_elab.specs.Answers.{Answers3};
 
-use crate::error::ElabError;
+use crate::surveyed::Surveyed;
 use crate::wanted::bytes_of;
+use crate::whole_survey::survey;
+use crate::whole_tree::tree_of;
 use bumpalo::Bump;
-use rb_base::{Fault, NoMemory};
-use rdl_grown::tree_of;
-use rdl_survey::{Surveyed, survey};
+use rb_base::NoMemory;
+use rdl_base::Fault;
+use rdl_failures::PhaseError;
 use rdl_tree::{Elab, Source};
 use rdl_walk::Walk;
 use std::alloc::Global;
@@ -42,14 +44,14 @@ pub fn elaborate<'a>(
     arena: &'a Bump,
     source: &'a Source<'a>,
     top: Option<&str>,
-) -> Result<Elab<'a>, ElabError>
+) -> Result<Elab<'a>, PhaseError>
     requires { IsInOrder source.now.items.now }
     ensures { Answers3 (option_copied top.entry) source.now result }
 {
     let surveyed = survey(alloc, arena, source, bytes_of(top))?;
     if !is_clean(&surveyed) {
         let list = failures_of(alloc, surveyed.walk)?;
-        return Err(ElabError::Faults(list));
+        return Err(PhaseError::Faults(list));
     }
     let tree = tree_of(alloc, arena, source, surveyed)?;
     Ok(tree)

@@ -6,9 +6,9 @@ ghost use Rattle.rdl_tree.specs.InOrder.{IsInOrder};
 ghost use Rattle.rdl_elab.specs.Answers.{Measures};
 
 use crate::wanted::bytes_of;
+use crate::whole_survey::survey;
 use bumpalo::Bump;
 use rb_base::NoMemory;
-use rdl_survey::survey;
 use rdl_tree::Source;
 use rdl_values::over_the_count;
 use std::alloc::Global;

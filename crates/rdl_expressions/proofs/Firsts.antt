@@ -1,6 +1,6 @@
 -- The table of what the rules begin with.
 use Rattle.std.proofs.Common.{◌≡◌, Bool, true, false, not, List, [], ◌∷◌, ◌++◌, refl}
-use Rattle.rb_base.specs.declared.keyword.Keyword.TheVariants as words
+use Rattle.rdl_base.specs.declared.keyword.Keyword.TheVariants as words
 use Rattle.rb_grammar.specs.Firsts.{Table, tells, IsTableOf}
 use Rattle.rb_grammar.proofs.Barring.{by_terminal}
 use Rattle.rdl_tree.specs.declared.token.Mark.TheVariants as marks

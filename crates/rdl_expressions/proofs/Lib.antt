@@ -1,4 +1,4 @@
 pub mod Firsts
-pub mod Words
 mod Operators
 pub mod Phrases
+pub mod Words

@@ -1,7 +1,7 @@
 -- Words of one sort: what they are in the grammar, and that none is there.
 use Rattle.std.proofs.Common.{◌≡◌, true, Some, List, [], ◌∷◌, refl, ap}
-use Rattle.rb_base.specs.declared.keyword.Keyword.{Keyword}
-use Rattle.rb_base.specs.declared.keyword.Keyword.TheVariants as words
+use Rattle.rdl_base.specs.declared.keyword.Keyword.{Keyword}
+use Rattle.rdl_base.specs.declared.keyword.Keyword.TheVariants as words
 use Rattle.rb_grammar.specs.Forms.{Tok, Non, Opt}
 use Rattle.rb_grammar.specs.Readings.{at, Same}
 use Rattle.rb_grammar.proofs.Following.{◌⟫◌}

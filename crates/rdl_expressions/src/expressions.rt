@@ -14,9 +14,10 @@ use crate::parser::{Parser, Sort, add};
 use crate::rooms::Run;
 use bumpalo::Bump;
 use bumpalo::collections::into_bump_slice;
-use rb_base::{Keyword, Place};
+use rb_base::Place;
 use rb_grammar::Stop;
-use rdl_depth::CompactToken;
+use rdl_base::Keyword;
+use rdl_lexer::CompactToken;
 use rdl_tree::{Expr, Mark, Name, Op, Path, Step, Terminal, TokenKind};
 
 // The operator of a mark.

@@ -9,9 +9,10 @@ ghost use Rattle.rdl_tree.specs.Tree.{names_property, is_value};
 ghost use Rattle.rdl_expressions.specs.Following.{TakesNumber, is_kind, is_type, is_edge, has, LacksWords, TakesWord};
 
 use bumpalo::Bump;
-use rb_base::{Keyword, Place};
+use rb_base::Place;
 use rb_grammar::Stop;
-use rdl_depth::CompactToken;
+use rdl_base::Keyword;
+use rdl_lexer::CompactToken;
 use rdl_tree::{Mark, Name, Terminal, Token, TokenKind};
 use std::marker::Model;
 

@@ -5,7 +5,7 @@ ghost use Rattle.std.specs.Prelude.{◌≡◌, [], IfErr, IfOk};
 use crate::parser::Parser;
 use bumpalo::Bump;
 use rb_grammar::Stop;
-use rdl_depth::CompactToken;
+use rdl_lexer::CompactToken;
 use rdl_tree::{Mark, TokenKind};
 
 /// What the tokens of a list are.

@@ -1,13 +1,14 @@
-//! What is known of fields and signals beside the values that their properties are set to.
+//! The facts of all fields and signals of a tree: widths, and the greatest numbers of enumerations (SystemRDL 2.0, clause 6).
 #![tactic(auto)]
 
-/// What is known of a field or signal beside its settings.
-#[derive(Clone, Copy, Debug)]
-pub struct Fact {
-    /// Its width, in bits.
-    pub width: u64,
-    /// Whether a property that only an interrupt has is assigned to it in any layer, be it false or overridden.
-    pub has_parts: bool,
-    /// Whether an entry of the enumeration that it is encoded by has a number that it can't hold.
-    pub has_wide_entry: bool,
-}
+mod body;
+mod encoded;
+mod facts;
+mod greatest;
+mod places;
+mod table;
+mod unit_facts;
+
+pub use facts::facts_of;
+pub use table::EnumNumbers;
+pub use unit_facts::{fact_of, has_parts};

@@ -9,7 +9,7 @@ ghost use Rattle.rdl_values.specs.Lineages.{Lineage};
 ghost use Rattle.rdl_rules.specs.Feeds.{feed_at, gate_at, has_pin, item_at, mask_at, source_of};
 
 use rb_model::{Feed, Gate, Mask, RefItem};
-use rdl_field_settings::{hardware_writes, has};
+use rdl_fields::{hardware_writes, has};
 use rdl_layers::{Props, Setting};
 use rdl_props::Prop;
 

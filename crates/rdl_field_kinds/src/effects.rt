@@ -5,9 +5,9 @@ ghost use Rattle.rdl_values.specs.Elaborated.{nodes_of};
 ghost use Rattle.rdl_values.specs.Instances.{Instance};
 ghost use Rattle.rdl_rules.specs.Fields as fields;
 
-use rb_base::Keyword;
 use rb_model::{OnRead, OnWrite};
-use rdl_field_settings::has;
+use rdl_base::Keyword;
+use rdl_fields::has;
 use rdl_layers::{Props, Setting};
 use rdl_props::Prop;
 

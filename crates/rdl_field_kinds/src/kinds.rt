@@ -9,7 +9,7 @@ ghost use Rattle.rdl_rules.specs.Fields as fields;
 
 use rb_base::Edge;
 use rb_model::Latch;
-use rdl_field_settings::has;
+use rdl_fields::has;
 use rdl_layers::{Props, Setting};
 use rdl_props::Prop;
 

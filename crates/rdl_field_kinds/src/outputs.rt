@@ -8,7 +8,7 @@ ghost use Rattle.rdl_rules.specs.Fields as fields;
 
 use rb_base::NoMemory;
 use rb_model::Shown;
-use rdl_field_settings::has;
+use rdl_fields::has;
 use rdl_layers::Props;
 use rdl_props::Prop;
 use std::alloc::Global;

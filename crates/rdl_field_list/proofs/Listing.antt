@@ -10,14 +10,14 @@ use Rattle.rdl_tree.specs.declared.node.Node.{out-Node}
 use Rattle.rdl_values.specs.Instances.{Instance, kind_of}
 use Rattle.rdl_values.specs.Lineages.{Lineage, lineages_of}
 use Rattle.rdl_layers.specs.Fields.{fields_of, is_a, is_alias}
-use Rattle.rdl_index.specs.declared.table.Row.{Row}
-use Rattle.rdl_index.specs.Rows.{AreRows, IsRow}
-use Rattle.rdl_lineages.proofs.Members.{get-read, get-within}
+use Rattle.rdl_nodes.specs.declared.table.Row.{Row}
+use Rattle.rdl_nodes.specs.Rows.{AreRows, IsRow}
+use Rattle.rdl_nodes.proofs.Members.{get-read, get-within}
 use Rattle.rdl_sizes.proofs.Facts.{row-at}
-use Rattle.rdl_aliases.proofs.Lists.{filter-next}
-use Rattle.rdl_aliases.specs.Primary.{TellsPrimary}
+use Rattle.rdl_fields.proofs.Lists.{filter-next}
+use Rattle.rdl_fields.specs.Primary.{TellsPrimary}
 use Rattle.rb_model.specs.declared.block.Field.{Field}
-use Rattle.rdl_node_numbers.specs.Listed.{is_primary}
+use Rattle.rdl_block_numbers.specs.Listed.{is_primary}
 use Rattle.rdl_rules.specs.Block.{numbered_registers}
 use Rattle.rdl_rules.specs.Fields.{field_of}
 use Rattle.rdl_rules.specs.Numbers.{Numbered, numbered, numbered_from}

@@ -2,7 +2,8 @@
 use Rattle.std.proofs.Common.{◌≡◌, ◌∙◌, ℕ, ◌<◌, ◌≤◌, ◌^◌, ◌==◌, ◌||◌, false, nat_lt, List, [], ◌∷◌, sym, ap, arith}
 use Rattle.std.specs.List.{list_any}
 use Rattle.std.proofs.lemmas.Bool.Decides.{nat_tests}
-use Rattle.rb_base.specs.declared.rule.Rule.TheVariants as rules
+use Rattle.plain_lemmas.proofs.Bools.{or-neither as or-none}
+use Rattle.rdl_base.specs.declared.rule.Rule.TheVariants as rules
 use Rattle.rdl_props.specs.declared.prop.Prop.TheVariants as prop
 use Rattle.rdl_values.specs.Faults.{at_}
 use Rattle.rdl_values.specs.Instances.{Instance}
@@ -11,10 +12,10 @@ use Rattle.rdl_layers.specs.Forms.{Meaning, number}
 use Rattle.rdl_layers.specs.Phase4.{width_of}
 use Rattle.rdl_layers.specs.Settings.{setting}
 use Rattle.rdl_rules.specs.FieldRules.{at_node, bad_count_width, is_above, numbers, too_wide}
-use Rattle.rdl_sound_fields.specs.Faultless.{IsFaultless}
-use Rattle.rdl_sound_fields.proofs.Alone.{wide}
-use Rattle.rdl_sound_fields.proofs.Fed.{none-both, or-none, when-none}
-use Rattle.rdl_counters.specs.Narrow.{AreNarrow}
+use Rattle.rdl_sound_laws.specs.Faultless.{IsFaultless}
+use Rattle.rdl_sound_laws.proofs.Alone.{wide}
+use Rattle.rdl_sound_laws.proofs.Fed.{none-both, when-none}
+use Rattle.rdl_feeds.specs.Narrow.{AreNarrow}
 
 below : (w k : ℕ) (m : Meaning) → m ≡ number k → bad_count_width w m ≡ false → w ≤ 64 → k < 256
 below w k m is e l =

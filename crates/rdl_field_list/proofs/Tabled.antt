@@ -1,24 +1,16 @@
 -- Whether software writes through nodes only once, node by node, and tests of all nodes.
-use Rattle.std.proofs.Common.{◌≡◌, ◌∙◌, ◌⊎◌, inl, inr, ℕ, zero, suc, ◌+◌, ◌<◌, Bool, List, [], ◌∷◌, ◌++◌, length, length-append, slice_get, Some, refl, sym, ap, subst, arith}
+use Rattle.std.proofs.Common.{◌≡◌, ◌∙◌, ◌⊎◌, inl, inr, ℕ, ◌+◌, ◌<◌, Bool, List, [], ◌∷◌, ◌++◌, length, length-append, slice_get, Some, sym, ap, subst, arith}
+use Rattle.plain_lemmas.proofs.Lists.{get-front, get-last}
 use Rattle.rdl_tree.specs.declared.node.Elab.{Elab}
 use Rattle.rdl_values.specs.Elaborated.{nodes_of}
 use Rattle.rdl_values.specs.Elaboration.{IsClean}
 use Rattle.rdl_values.specs.Instances.{Instance}
 use Rattle.rdl_layers.specs.Fields.{is_once}
-use Rattle.rdl_lineages.proofs.Members.{get-within}
+use Rattle.rdl_nodes.proofs.Members.{get-within}
 use Rattle.rdl_sizes.proofs.Facts.{count-is, nodes-many}
-use Rattle.rdl_over_views.specs.Covered.{AreTests}
-use Rattle.rdl_wires.specs.Touched.{AreTouches, touches}
+use Rattle.rdl_members.specs.Covered.{AreTests}
+use Rattle.rdl_fields.specs.Touched.{AreTouches, touches}
 use Rattle.rdl_field_list.specs.Tables.{AreOnceTo}
-
-get-front : {X : Type 0} (xs ys : List X) (k : ℕ) (x : X) → slice_get xs k ≡ Some x → slice_get (xs ++ ys) k ≡ Some x
-get-front [] ys k x h = cc h
-get-front (y ∷ xs) ys zero x h = h
-get-front (y ∷ xs) ys (suc k) x h = get-front xs ys k x h
-
-get-last : {X : Type 0} (xs : List X) (x : X) → slice_get (xs ++ (x ∷ [])) (length xs) ≡ Some x
-get-last [] x = refl
-get-last (y ∷ ys) x = get-last ys x
 
 pub none-yet : (e : Elab) (ts : List Bool) → ts ≡ [] → AreOnceTo e 0 ts
 none-yet e ts h = record { many = ap length h; each = λ k n l. absurd (omega (arith, l)) }

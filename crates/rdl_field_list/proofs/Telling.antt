@@ -1,23 +1,24 @@
 -- What tables tell of a field, and fields put into a list.
-use Rattle.std.proofs.Common.{◌≡◌, ◌∙◌, ℕ, ◌+◌, Bool, true, false, not, ◌&&◌, cond, List, [], ◌∷◌, ◌++◌, append-nil, append_assoc, map, filter, take, get_or, Some, slice_get, refl, sym, ap, subst}
+use Rattle.std.proofs.Common.{◌≡◌, ◌∙◌, ℕ, ◌+◌, Bool, true, false, not, cond, List, [], ◌∷◌, ◌++◌, append-nil, append_assoc, map, filter, take, get_or, Some, slice_get, refl, sym, ap, subst}
 use Rattle.std.specs.List.{list_any}
 use Rattle.std.proofs.lemmas.List.{map-append}
+use Rattle.plain_lemmas.proofs.Bools.{and-both as both}
 use Rattle.rdl_tree.specs.declared.item.Kind.{Kind}
 use Rattle.rdl_tree.specs.declared.item.Kind.TheVariants as kind
 use Rattle.rdl_tree.specs.declared.node.Elab.{Elab}
-use Rattle.rdl_props.specs.Same.{same_kind}
+use Rattle.rdl_tree.specs.Kinds.{same_kind}
 use Rattle.rdl_values.specs.Elaborated.{nodes_of, top_name}
 use Rattle.rdl_values.specs.Instances.{Instance, children, kind_of}
 use Rattle.rdl_values.specs.Lineages.{Lineage, child_of, lineages_of, nodes_in}
 use Rattle.rdl_values.specs.Parts.{is_unit}
 use Rattle.rdl_layers.specs.Fields.{fields_of, is_a, is_alias, views}
 use Rattle.rdl_nodes.proofs.Lineages.{all_nodes}
-use Rattle.rdl_lineages.proofs.Members.{In, each-in, get-read, in-flat, place-in}
+use Rattle.rdl_nodes.proofs.Members.{In, each-in, get-read, in-flat, place-in}
 use Rattle.rdl_sizes.proofs.Facts.{node-at}
-use Rattle.rdl_aliases.proofs.Lists.{filter-next, in-filter}
-use Rattle.rdl_counters.specs.Narrow.{AreNarrow}
-use Rattle.rdl_node_numbers.specs.Listed.{is_primary}
-use Rattle.rdl_over_views.specs.Covered.{AreOverViews, IsKept}
+use Rattle.rdl_fields.proofs.Lists.{filter-next, in-filter}
+use Rattle.rdl_feeds.specs.Narrow.{AreNarrow}
+use Rattle.rdl_block_numbers.specs.Listed.{is_primary}
+use Rattle.rdl_members.specs.Covered.{AreOverViews, IsKept}
 use Rattle.rdl_rules.specs.Numbers.{all_fields, primaries, registers}
 use Rattle.rdl_field_list.specs.Own.{AreNarrowFields, IsOwn}
 
@@ -47,10 +48,6 @@ unit-field f q = go (kind_of f) q
     go kind.Reg q = cc q
     go kind.Regfile q = cc q
     go kind.Addrmap q = cc q
-
-both : (a b : Bool) → (a && b) ≡ true → (a ≡ true) × (b ≡ true)
-both true b q = (refl, q)
-both false b q = cc q
 
 pub not-alias : (n : Instance) → is_primary n ≡ true → is_alias n ≡ false
 not-alias n q = go (is_alias n) (both (is_a kind.Reg n) (not (is_alias n)) q).1

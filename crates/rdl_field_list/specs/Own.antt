@@ -7,10 +7,10 @@ use Rattle.rdl_values.specs.Elaborated.{nodes_of}
 use Rattle.rdl_values.specs.Instances.{Instance}
 use Rattle.rdl_values.specs.Lineages.{Lineage, child_of, lineages_of}
 use Rattle.rdl_layers.specs.Fields.{is_alias}
-use Rattle.rdl_index.specs.declared.table.Row.{Row}
-use Rattle.rdl_index.specs.Rows.{IsRow}
-use Rattle.rdl_counters.specs.Narrow.{AreNarrow}
-use Rattle.rdl_node_numbers.specs.Listed.{is_primary}
+use Rattle.rdl_nodes.specs.declared.table.Row.{Row}
+use Rattle.rdl_nodes.specs.Rows.{IsRow}
+use Rattle.rdl_feeds.specs.Narrow.{AreNarrow}
+use Rattle.rdl_block_numbers.specs.Listed.{is_primary}
 use Rattle.rdl_rules.specs.Numbers.{all_fields}
 
 -- The row is that of a node.

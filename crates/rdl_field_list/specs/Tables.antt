@@ -4,11 +4,11 @@ use Rattle.rdl_tree.specs.declared.node.Elab.{Elab}
 use Rattle.rdl_values.specs.Elaborated.{nodes_of}
 use Rattle.rdl_values.specs.Instances.{Instance}
 use Rattle.rdl_layers.specs.Fields.{is_once}
-use Rattle.rdl_facts.specs.Facts.{AreFacts}
-use Rattle.rdl_node_texts.specs.Texts.{AreTexts}
-use Rattle.rdl_over_views.specs.Covered.{AreOverViews}
-use Rattle.rdl_resets.specs.Nearest.{AreNearest}
-use Rattle.rdl_wires.specs.Touched.{touches}
+use Rattle.rdl_rules.specs.Facts.{AreFacts}
+use Rattle.rdl_block_numbers.specs.Texts.{AreTexts}
+use Rattle.rdl_members.specs.Covered.{AreOverViews}
+use Rattle.rdl_reset_rules.specs.Nearest.{AreNearest}
+use Rattle.rdl_fields.specs.Touched.{touches}
 use Rattle.rdl_field_list.specs.declared.tables.Tables.{Tables}
 
 -- The tables are those of this tree.

@@ -9,26 +9,18 @@ ghost use Rattle.rdl_layers.specs.Fields.{is_a};
 ghost use Rattle.rdl_refs.specs.Answers.{IsBound};
 ghost use Rattle.rdl_rules.specs.Fields as fields;
 ghost use Rattle.rdl_rules.specs.Numbers.{Numbered};
-ghost use Rattle.rdl_counters.specs.Narrow.{AreNarrow};
+ghost use Rattle.rdl_feeds.specs.Narrow.{AreNarrow};
 ghost use Rattle.rdl_block_fields.specs.Known.{AreFieldFacts, IsKnown};
 ghost use Rattle.rdl_field_list.specs.Own.{IsOwn};
 ghost use Rattle.rdl_field_list.specs.Tables.{AreTables};
 
 use crate::tables::Tables;
-use rb_base::{NoMemory, Text};
+use rb_base::{NoMemory, copy_of};
 use rb_model::{Field, Shows};
 use rdl_block_fields::{FieldFacts, Known, field};
 use rdl_field_kinds::shown;
-use rdl_resets::reset_by;
+use rdl_reset_rules::reset_by;
 use std::alloc::Global;
-
-/// A text of its own, the same as this.
-fn copy_of(alloc: Global, text: &Text) -> Result<Text, NoMemory>
-    ensures { IfOk result (λ t. t ≡ text.now) }
-{
-    let bytes = Vec::from_slice(alloc, &text.bytes)?;
-    Ok(Text { bytes })
-}
 
 /// A width of at most 64 bits.
 fn narrow(width: u64) -> u8

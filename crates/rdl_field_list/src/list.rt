@@ -3,21 +3,21 @@
 ghost use Rattle.std.specs.Prelude.{◌≡◌, ℕ, ◌+◌, ◌++◌, ◌<◌, ◌^◌, [], cond, IfOk, OnOk, Some, map, slice_get};
 ghost use Rattle.rdl_tree.specs.declared.item.Kind.TheVariants as kinds;
 ghost use Rattle.rdl_tree.specs.declared.node.Elab.{Elab as AnyElab};
-ghost use Rattle.rdl_props.specs.Same.{same_kind};
+ghost use Rattle.rdl_tree.specs.Kinds.{same_kind};
 ghost use Rattle.rdl_values.specs.Elaboration.{IsClean};
 ghost use Rattle.rdl_values.specs.Lineages.{Lineage, lineages_of};
 ghost use Rattle.rdl_values.specs.Verdict.{IsListOf};
 ghost use Rattle.rdl_layers.specs.Answers.{IsSettled};
 ghost use Rattle.rdl_layers.specs.Fields.{fields_of};
-ghost use Rattle.rdl_index.specs.Rows.{IsRow};
+ghost use Rattle.rdl_nodes.specs.Rows.{IsRow};
 ghost use Rattle.rdl_refs.specs.Answers.{IsBound};
 ghost use Rattle.rdl_rules.specs.Answers.{meaning_fails};
 ghost use Rattle.rdl_rules.specs.Block as blocks;
 ghost use Rattle.rdl_rules.specs.Fields.{field_of};
 ghost use Rattle.rdl_rules.specs.Numbers.{Numbered};
-ghost use Rattle.rdl_facts.specs.Facts.{AreFacts};
-ghost use Rattle.rdl_node_numbers.specs.Listed as lists;
-ghost use Rattle.rdl_node_texts.specs.Texts.{AreTexts};
+ghost use Rattle.rdl_rules.specs.Facts.{AreFacts};
+ghost use Rattle.rdl_block_numbers.specs.Listed as lists;
+ghost use Rattle.rdl_block_numbers.specs.Texts.{AreTexts};
 ghost use Rattle.rdl_block_fields.specs.Known.{IsKnown};
 ghost use Rattle.rdl_field_list.specs.Own.{AreNarrowFields, IsRowOf};
 ghost use Rattle.rdl_field_list.specs.Tables.{AreTables};
@@ -27,26 +27,20 @@ use crate::register::add_fields;
 use crate::tables::{Tables, once_fields, touched_fields};
 use rb_base::{NoMemory, Text};
 use rb_model::Field;
-use rdl_aliases::primary;
 use rdl_block_fields::Known;
-use rdl_facts::Fact;
-use rdl_faultless::clean_is_faultless;
-use rdl_index::Row;
-use rdl_resets::nearest_resets;
+use rdl_fields::primary;
+use rdl_nodes::Row;
+use rdl_reset_rules::nearest_resets;
+use rdl_rules::Fact;
+use rdl_sound_laws::clean_is_faultless;
 use rdl_tree::{Elab, Kind};
 use std::alloc::Global;
-
-fn is_register(kind: Kind) -> bool
-    ensures { result ≡ same_kind kinds.Reg kind }
-{
-    kind == Kind::Reg
-}
 
 /// Whether a node is a register that is no alias.
 fn is_primary(row: &Row<'_>) -> bool
     ensures { (e : AnyElab) (k : ℕ) (l : Lineage) → IsClean e → slice_get (lineages_of e) k ≡ Some l → IsRow e (lineages_of e) k row.now l → result ≡ lists.is_primary l.node }
 {
-    is_register(row.node.kind) & !primary(row).is_some()
+    row.node.kind.is_register() & !primary(row).is_some()
 }
 
 /// The number of the first register behind a node of this kind, where this is that of the first one from the node on.
@@ -54,7 +48,7 @@ fn next_number(kind: Kind, number: u32) -> u32
     requires { number + 1 < 2 ^ 32 }
     ensures { result ≡ number + cond (same_kind kinds.Reg kind) 1 0 }
 {
-    if is_register(kind) {
+    if kind.is_register() {
         number + 1
     } else {
         number

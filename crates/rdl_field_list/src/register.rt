@@ -3,7 +3,7 @@
 ghost use Rattle.std.specs.Prelude.{◌≡◌, ◌∷◌, ◌++◌, [], ◌<◌, cond, OnOk, Some, map, slice_get, true};
 ghost use Rattle.rdl_tree.specs.declared.item.Kind.TheVariants as kinds;
 ghost use Rattle.rdl_tree.specs.declared.node.Node.{out-Node};
-ghost use Rattle.rdl_props.specs.Same.{same_kind};
+ghost use Rattle.rdl_tree.specs.Kinds.{same_kind};
 ghost use Rattle.rdl_values.specs.Elaborated.{nodes_of};
 ghost use Rattle.rdl_values.specs.Instances.{Instance, kind_of};
 ghost use Rattle.rdl_values.specs.Lineages.{Lineage, lineages_of};
@@ -11,7 +11,7 @@ ghost use Rattle.rdl_layers.specs.Fields.{fields_of, is_a};
 ghost use Rattle.rdl_refs.specs.Answers.{IsBound};
 ghost use Rattle.rdl_rules.specs.Fields as fields;
 ghost use Rattle.rdl_rules.specs.Numbers.{Numbered};
-ghost use Rattle.rdl_counters.specs.Narrow.{AreNarrow};
+ghost use Rattle.rdl_feeds.specs.Narrow.{AreNarrow};
 ghost use Rattle.rdl_block_fields.specs.Known.{IsKnown};
 ghost use Rattle.rdl_field_list.specs.Own.{AreNarrowFields, IsOwn, IsPrimaryRow};
 ghost use Rattle.rdl_field_list.specs.Tables.{AreTables};
@@ -21,15 +21,9 @@ use crate::tables::Tables;
 use rb_base::NoMemory;
 use rb_model::Field;
 use rdl_block_fields::Known;
-use rdl_index::Row;
-use rdl_tree::{Kind, Node};
+use rdl_nodes::Row;
+use rdl_tree::Node;
 use std::alloc::Global;
-
-fn is_field(kind: Kind) -> bool
-    ensures { result ≡ same_kind kinds.Field kind }
-{
-    kind == Kind::Field
-}
 
 /// Adds a node, where it is a field, in the node of a number, which has another among the registers. The only error is want of memory.
 fn add_field(
@@ -50,7 +44,7 @@ fn add_field(
     ensures { OnOk result ((r : Numbered Lineage) (f : Instance) → IsOwn known.entry.props.now register (out-Node node.now).id r.register f → (out-Node node.now).kind ≡ kind_of f → number ≡ r.number
         → list.new.items ≡ list.old.items ++ cond (is_a kinds.Field f) (fields.field_of known.entry.props.now.source.now (lineages_of known.entry.props.now) r f ∷ []) []) }
 {
-    if !is_field(node.kind) {
+    if !node.kind.is_field() {
         return Ok(());
     }
     let field = field_at(alloc, known, tables, node.id, register, number)?;

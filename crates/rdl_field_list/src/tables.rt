@@ -2,19 +2,18 @@
 
 ghost use Rattle.std.specs.Prelude.{◌≡◌, IfOk};
 ghost use Rattle.rdl_layers.specs.Fields as settings;
-ghost use Rattle.rdl_wires.specs.Touched.{touches};
-ghost use Rattle.rdl_over_views.specs.Covered.{AreOverViews};
+ghost use Rattle.rdl_fields.specs.Touched.{touches};
+ghost use Rattle.rdl_members.specs.Covered.{AreOverViews};
 ghost use Rattle.rdl_block_fields.specs.Known.{IsKnown};
 ghost use Rattle.rdl_field_list.specs.Tables.{AreOnceTo};
 
 use rb_base::{NoMemory, Text};
 use rdl_block_fields::Known;
-use rdl_facts::Fact;
-use rdl_field_settings::is_once;
+use rdl_fields::{is_once, own_touches};
 use rdl_layers::Props;
-use rdl_over_views::any_view;
+use rdl_members::any_view;
+use rdl_rules::Fact;
 use rdl_tree::Elab;
-use rdl_wires::own_touches;
 use std::alloc::Global;
 
 /// The facts of all nodes, their paths' texts and the nearest reset signals round what stands in them; and for each field whether

@@ -1,1 +1,4 @@
+mod Agreeing
 mod Noted
+mod Told
+mod Turns

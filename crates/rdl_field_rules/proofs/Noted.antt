@@ -1,13 +1,13 @@
 -- Failures of a field noted one after the other.
 use Rattle.std.proofs.Common.{◌≡◌, ◌∙◌, ℕ, ◌/◌, ◌==◌, ◌&&◌, ◌||◌, Bool, not, List, [], ◌∷◌, ◌++◌, refl, sym, ap}
-use Rattle.rb_base.specs.declared.fault.Fault.{Fault}
+use Rattle.rdl_base.specs.declared.fault.Fault.{Fault}
 use Rattle.rb_base.specs.declared.place.Place.{Place}
-use Rattle.rb_base.specs.declared.rule.Rule.TheVariants as rules
+use Rattle.rdl_base.specs.declared.rule.Rule.TheVariants as rules
 use Rattle.rdl_props.specs.declared.prop.Prop.TheVariants as prop
 use Rattle.rdl_values.specs.Faults.{at_, when}
 use Rattle.rdl_values.specs.Instances.{Instance}
-use Rattle.rdl_judging.specs.Noted.{IsNoted, with_all}
-use Rattle.rdl_judging.proofs.Noting.{both_noted}
+use Rattle.rdl_failures.specs.Noted.{IsNoted, with_all}
+use Rattle.rdl_failures.proofs.Noting.{both_noted}
 use Rattle.rdl_layers.specs.Fields.{has, has_on_read, has_on_write, has_one_of, hardware_writes, is_counter, is_interrupt, is_once, reads, writes}
 use Rattle.rdl_layers.specs.Phase4.{number_at}
 use Rattle.rdl_layers.specs.Settings.{setting}

@@ -6,13 +6,13 @@ ghost use Rattle.rdl_values.specs.Elaborated.{nodes_of};
 ghost use Rattle.rdl_values.specs.Instances.{Instance};
 ghost use Rattle.rdl_layers.specs.Settings.{setting};
 ghost use Rattle.rdl_rules.specs.FieldRules as rules;
-ghost use Rattle.rdl_facts.specs.Facts.{IsFact};
+ghost use Rattle.rdl_rules.specs.Facts.{IsFact};
 
 use rb_base::Edge;
-use rdl_facts::Fact;
-use rdl_field_settings::{has, has_one_of};
+use rdl_fields::{has, has_one_of};
 use rdl_layers::{Props, Setting};
 use rdl_props::Prop;
+use rdl_rules::Fact;
 
 fn is_nonsticky(props: &Props<'_>, node: u32) -> bool
     requires { node < props.now.count }

@@ -8,8 +8,8 @@ ghost use Rattle.rdl_layers.specs.Fields as fields;
 ghost use Rattle.rdl_layers.specs.Settings.{setting};
 ghost use Rattle.rdl_rules.specs.FieldRules as rules;
 
-use rb_base::Keyword;
-use rdl_field_settings::{hardware_writes, has, has_one_of};
+use rdl_base::Keyword;
+use rdl_fields::{hardware_writes, has, has_one_of};
 use rdl_layers::{Props, Setting};
 use rdl_props::Prop;
 

@@ -6,11 +6,11 @@ ghost use Rattle.rdl_values.specs.Elaborated.{nodes_of};
 ghost use Rattle.rdl_values.specs.Instances.{Instance};
 ghost use Rattle.rdl_layers.specs.Settings.{setting};
 ghost use Rattle.rdl_rules.specs.FieldRules as rules;
-ghost use Rattle.rdl_facts.specs.Facts.{IsFact};
+ghost use Rattle.rdl_rules.specs.Facts.{IsFact};
 
-use rdl_facts::Fact;
 use rdl_layers::{Props, Setting};
 use rdl_props::Prop;
+use rdl_rules::Fact;
 
 /// Whether a number needs more bits than these.
 fn is_over(width: u64, number: u64) -> bool

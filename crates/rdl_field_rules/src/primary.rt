@@ -3,18 +3,19 @@
 ghost use Rattle.std.specs.Prelude.{◌≡◌, ◌<◌, ◌≤◌, OnOk, Some, slice_get};
 ghost use Rattle.rdl_values.specs.Elaborated.{nodes_of};
 ghost use Rattle.rdl_values.specs.Instances.{Instance};
-ghost use Rattle.rdl_judging.specs.Noted.{with_all};
+ghost use Rattle.rdl_failures.specs.Noted.{with_all};
 ghost use Rattle.rdl_rules.specs.FieldRules.{of_primary};
-ghost use Rattle.rdl_facts.specs.Facts.{IsFact};
+ghost use Rattle.rdl_rules.specs.Facts.{IsFact};
 
 use crate::interrupts::is_no_interrupt;
 use crate::kinds::{is_mixed, is_no_counter, is_unread, lacks_writer};
 use crate::numbers::is_too_wide;
 use crate::pulse::is_bad_pulse;
-use rb_base::{NoMemory, Place, Rule};
-use rdl_facts::Fact;
-use rdl_judging::Failures;
+use rb_base::{NoMemory, Place};
+use rdl_base::Rule;
+use rdl_failures::Failures;
 use rdl_layers::Props;
+use rdl_rules::Fact;
 
 /// Puts in F1 and F5 to F10 of the field of this number, whose name stands at the place. The only error is want of memory.
 pub fn judge_primary(

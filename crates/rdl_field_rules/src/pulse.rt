@@ -7,13 +7,13 @@ ghost use Rattle.rdl_values.specs.Instances.{Instance};
 ghost use Rattle.rdl_layers.specs.Settings.{setting};
 ghost use Rattle.rdl_rules.specs.FieldRules as rules;
 ghost use Rattle.rdl_rules.specs.Fields as spec;
-ghost use Rattle.rdl_facts.specs.Facts.{IsFact};
+ghost use Rattle.rdl_rules.specs.Facts.{IsFact};
 
-use rdl_facts::Fact;
-use rdl_field_settings::{hardware_writes, has, has_on_write, is_once};
+use rdl_addr::{changes, takes};
+use rdl_fields::{hardware_writes, has, has_on_write, is_once};
 use rdl_layers::{Props, Setting};
 use rdl_props::Prop;
-use rdl_reading::{changes, takes};
+use rdl_rules::Fact;
 
 fn resets_to_zero(props: &Props<'_>, node: u32) -> bool
     requires { node < props.now.count }

@@ -4,20 +4,21 @@ ghost use Rattle.std.specs.Prelude.{◌≡◌, ◌<◌, ◌/◌, ◌==◌, ◌&&
 ghost use Rattle.rdl_props.specs.declared.prop.Prop.TheVariants as props_;
 ghost use Rattle.rdl_values.specs.Elaborated.{nodes_of};
 ghost use Rattle.rdl_values.specs.Instances.{Instance};
-ghost use Rattle.rdl_judging.specs.Noted.{with_all};
+ghost use Rattle.rdl_failures.specs.Noted.{with_all};
 ghost use Rattle.rdl_layers.specs.Fields as fields;
 ghost use Rattle.rdl_layers.specs.Phase4.{number_at};
 ghost use Rattle.rdl_addr.specs.Bits.{Bits};
 ghost use Rattle.rdl_rules.specs.FieldRules as rules;
-ghost use Rattle.rdl_facts.specs.Facts.{IsFact};
+ghost use Rattle.rdl_rules.specs.Facts.{IsFact};
 
-use rb_base::{NoMemory, Place, Rule};
-use rdl_facts::Fact;
-use rdl_field_settings::{has, has_on_write, is_once};
-use rdl_judging::Failures;
+use rb_base::{NoMemory, Place};
+use rdl_addr::{changes, gives, takes};
+use rdl_base::Rule;
+use rdl_failures::Failures;
+use rdl_fields::{has, has_on_write, is_once};
 use rdl_layers::Props;
 use rdl_props::Prop;
-use rdl_reading::{changes, gives, takes};
+use rdl_rules::Fact;
 
 /// Whether bits lie in more than one word.
 fn are_split(bits: (u8, u8), access: u64) -> bool

@@ -1,6 +1,8 @@
 -- The assignments that apply to a node stand in the order of their ranks, so the first related one decides.
 use Rattle.std.proofs.Common.{◌≡◌, ℕ, ◌+◌, Bool, true, false, not, ◌&&◌, ◌||◌, nat_lt, ◌==◌, List, [], ◌∷◌, ◌++◌, length, map, flat_map, filter, find, option_to_list, refl, sym, subst, arith, length-append, append_assoc}
 use Rattle.std.specs.List.{AllByRecursion, list_all}
+use Rattle.plain_lemmas.proofs.Lists.{each-filter}
+use Rattle.plain_lemmas.proofs.Numbers.{before-itself as same}
 use Rattle.rdl_props.specs.declared.prop.Prop.{Prop}
 use Rattle.rdl_props.specs.declared.prop.Prop.TheVariants as prop
 use Rattle.rdl_values.specs.Bodies.{Scope, Body, standing, standing_from, around}
@@ -17,7 +19,7 @@ use Rattle.rdl_layers.specs.Judged.{failures_of, failures_of_dynamic, legal_on, 
 use Rattle.rdl_layers.specs.Meanings.{Assignment, prop_of, meaning}
 use Rattle.rdl_layers.specs.Ranks.{is_related, is_before, layer, within, decides}
 use Rattle.rdl_layers.specs.Settings.{Applied, applied, given, gives, from_above, from_instance, from_body, from_defaults, applied_to, deciding_of}
-use Rattle.rdl_layers.proofs.Formed.{each-all, each-filter}
+use Rattle.rdl_layers.proofs.Formed.{each-all}
 
 -- the one doesn't rank behind the other
 abbrev Le : Rank → Rank → Type 0
@@ -28,9 +30,6 @@ through la wa lb wb lc wc f g = grind arith
 
 le_through : (a b c : Rank) → Le a b → Le b c → Le a c
 le_through a b c = through (layer a) (within a) (layer b) (within b) (layer c) (within c)
-
-same : (l w : ℕ) → (nat_lt l l || (l == l && nat_lt w w)) ≡ false
-same l w = grind arith
 
 le_itself : (r : Rank) → Le r r
 le_itself r = same (layer r) (within r)

@@ -2,11 +2,11 @@
 use Rattle.std.proofs.Common.{◌≡◌, ℕ, ◌+◌, length, bytes_eq, codes, Bool, true, false, not, ◌&&◌, cond, is_some, List, [], ◌∷◌, ◌++◌, map, flat_map, filter, find, Option, None, Some, option_map, option_and_then, option_to_list, Ok, Err, refl, sym, subst, ◌∙◌}
 use Rattle.std.specs.List.{AllByRecursion}
 use Rattle.rb_base.specs.declared.edge.Edge.{Edge}
-use Rattle.rb_base.specs.declared.keyword.Keyword.{Keyword}
-use Rattle.rb_base.specs.declared.keyword.Keyword.TheVariants as word
+use Rattle.rdl_base.specs.declared.keyword.Keyword.{Keyword}
+use Rattle.rdl_base.specs.declared.keyword.Keyword.TheVariants as word
 use Rattle.rb_base.specs.declared.place.Place.{Place}
-use Rattle.rb_base.specs.declared.rule.Rule.{Rule}
-use Rattle.rb_base.specs.declared.rule.Rule.TheVariants as rules
+use Rattle.rdl_base.specs.declared.rule.Rule.{Rule}
+use Rattle.rdl_base.specs.declared.rule.Rule.TheVariants as rules
 use Rattle.rdl_tree.specs.declared.expr.Expr.{Expr, Number, Flag, Str, Ref, EntryOf, Not', Binary', Pick'}
 use Rattle.rdl_tree.specs.declared.expr.Name.{Name}
 use Rattle.rdl_tree.specs.declared.expr.Path.{Path}
@@ -31,6 +31,7 @@ use Rattle.rdl_layers.specs.Assignments.{Nested, locals, defaults_before, dynami
 use Rattle.rdl_layers.specs.Judged.{failures_of, failures_of_dynamic, legal_on, anywhere, sound}
 use Rattle.rdl_layers.specs.Formed.{IsOfForm}
 use denote.Enum.Bare.{same_true}
+use Rattle.plain_lemmas.proofs.Lists.{each-filter}
 use Rattle.rdl_props.specs.contracts.prop.Prop as of_prop
 use Rattle.rdl_layers.specs.Forms.{Meaning, hard, unset, named, enum_of, reference, from_value, from_word, addressing_word, sw_word, hw_word, write_word, read_word, takes_reference, side, level_if, only_true}
 use Rattle.rdl_layers.specs.Meanings.{Assignment, prop_of, meaning, meaning_as, from_given, from_expr, from_edge, from_path, parameter_or_reference, enum_named}
@@ -223,14 +224,6 @@ gives_formed r a = go (prop_of a)
 pub each-all : {X Y : Type 0} (P : Y → Type 0) (f : X → List Y) (xs : List X) → ((x : X) → AllByRecursion P (f x)) → AllByRecursion P (flat_map f xs)
 each-all P f [] h = tt
 each-all P f (x ∷ xs) h = each-append P (f x) (flat_map f xs) (h x) (each-all P f xs h)
-
-pub each-filter : {X : Type 0} (P : X → Type 0) (f : X → Bool) (xs : List X) → AllByRecursion P xs → AllByRecursion P (filter f xs)
-each-filter P f [] h = tt
-each-filter P f (x ∷ xs) h = go (f x) (each-filter P f xs h.1)
-  where
-    go : (b : Bool) → AllByRecursion P (filter f xs) → AllByRecursion P (cond b (x ∷ filter f xs) (filter f xs))
-    go true rest = (h.0, rest)
-    go false rest = rest
 
 instance_formed : (u : Use) → AllByRecursion HasForm (from_instance u)
 instance_formed u = each-all HasForm _ (option_to_list u.form.reset) (λ e. each-map HasForm _ (given (number_of (around u.scope) e)) (λ k. tt))

@@ -1,8 +1,10 @@
 -- The first of least rank among the related ones of the first so many candidates, and that it decides.
-use Rattle.std.proofs.Common.{◌≡◌, ℕ, zero, suc, ◌+◌, ◌<◌, ◌⊎◌, inl, inr, Bool, true, false, not, ◌&&◌, ◌||◌, nat_lt, ◌==◌, List, [], ◌∷◌, length, get_or, Option, None, Some, position, refl, sym, ◌∙◌, subst, arith}
+use Rattle.std.proofs.Common.{◌≡◌, ℕ, zero, suc, ◌+◌, ◌<◌, inl, inr, Bool, true, false, not, ◌&&◌, ◌||◌, nat_lt, ◌==◌, List, [], ◌∷◌, length, get_or, Option, None, Some, position, refl, sym, ◌∙◌, subst, arith}
 use Rattle.std.specs.List.{list_all, position_or_len}
 use Rattle.std.proofs.lemmas.List.Folds.{list_all_at}
 use Rattle.std.proofs.lemmas.List.Sums.{position_or_len_is}
+use Rattle.plain_lemmas.proofs.Bools.{and-false_left as and_false}
+use Rattle.plain_lemmas.proofs.Numbers.{before-itself as not_before_itself, below_next-same_or as last_or_before}
 use Rattle.rdl_props.specs.declared.prop.Prop.{Prop}
 use Rattle.rdl_props.specs.declared.prop.Prop.TheVariants as prop
 use Rattle.rdl_layers.specs.declared.rank.Rank.{Rank}
@@ -34,9 +36,6 @@ Among p cs n (Some best) = Least p cs n best
 
 -- Ranks are ordered.
 
-not_before_itself : (l w : ℕ) → (nat_lt l l || (l == l && nat_lt w w)) ≡ false
-not_before_itself l w = grind arith
-
 pub before_itself : (a : Rank) → is_before a a ≡ false
 before_itself a = not_before_itself (layer a) (within a)
 
@@ -55,14 +54,8 @@ one_way a c = not_both (layer a) (within a) (layer c) (within c)
 
 -- One candidate more.
 
-last_or_before : (k n : ℕ) → k < n + 1 → (k ≡ n) ⊎ (k < n)
-last_or_before k n l = grind arith
-
 up_to_next : (P : ℕ → Type 0) (n : ℕ) → ((k : ℕ) → k < n → P k) → P n → (k : ℕ) → k < n + 1 → P k
 up_to_next P n before last k l = elim (last_or_before k n l) [ inl e ↦ subst P (sym e) last | inr h ↦ before k h ]
-
-and_false : (a b : Bool) → a ≡ false → (a && b) ≡ false
-and_false a b e = grind arith
 
 and_true : (a b : Bool) → a ≡ true → (a && b) ≡ b
 and_true a b e = grind arith

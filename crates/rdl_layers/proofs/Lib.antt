@@ -1,5 +1,10 @@
-mod Least
+mod Applied
 mod Decided
-pub mod Formed
-mod First
+mod Ends
 mod Entries
+mod First
+pub mod Formed
+mod Given
+mod Least
+pub mod Spared
+mod Turns

@@ -5,8 +5,8 @@ use Rattle.rdl_tree.specs.declared.node.Elab.{Elab}
 use Rattle.rdl_values.specs.Elaborated.{top_name, nodes_of}
 use Rattle.rdl_values.specs.Instances.{Instance}
 use Rattle.rdl_values.specs.Verdict.{Fails, IsListOf, IsRefusal}
-use Rattle.rdl_layers.specs.declared.error.LayerError.{LayerError}
-use Rattle.rdl_layers.specs.declared.error.LayerError.TheVariants as error
+use Rattle.rdl_failures.specs.declared.error.PhaseError.{PhaseError}
+use Rattle.rdl_failures.specs.declared.error.PhaseError.TheVariants as error
 use Rattle.rdl_layers.specs.declared.setting.Setting.{Setting}
 use Rattle.rdl_layers.specs.Phase4.{fails4}
 use Rattle.rdl_layers.specs.Says.{Says}
@@ -22,7 +22,7 @@ IsSettled e = IsListOf (settings_fail e) []
 
 -- `settle`: the settings of the tree where no rule on settings fails, else the list of all failures. Want of memory may be
 -- answered anywhere. Settings are seen as the tree that they are of.
-abbrev pub Answers4 : Elab → Result Elab LayerError → Type 0
+abbrev pub Answers4 : Elab → Result Elab PhaseError → Type 0
 Answers4 e (Ok of) = IsSettled e × (of ≡ e)
 Answers4 e (Err (error.Faults list)) = IsRefusal (settings_fail e) list.items
 Answers4 e (Err error.NoMemory) = Unit {0}

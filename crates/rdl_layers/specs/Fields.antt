@@ -5,8 +5,8 @@ use Rattle.rdl_tree.specs.declared.item.Kind.{Kind}
 use Rattle.rdl_tree.specs.declared.item.Kind.TheVariants as kind
 use Rattle.rdl_tree.specs.declared.expr.Name.{Name}
 use Rattle.rb_base.specs.declared.edge.Edge.TheVariants as edge
-use Rattle.rb_base.specs.declared.keyword.Keyword.TheVariants as word
-use Rattle.rdl_props.specs.Same.{same_kind}
+use Rattle.rdl_base.specs.declared.keyword.Keyword.TheVariants as word
+use Rattle.rdl_tree.specs.Kinds.{same_kind}
 use Rattle.rdl_props.specs.declared.prop.Prop.{Prop}
 use Rattle.rdl_props.specs.declared.prop.Prop.TheVariants as prop
 use Rattle.rdl_values.specs.Bodies.{Path, Step, of_signal, below_top}

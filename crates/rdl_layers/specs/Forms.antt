@@ -4,8 +4,8 @@ use Rattle.rdl_tree.specs.declared.expr.Path.{Path}
 use Rattle.rdl_tree.specs.declared.expr.Name.{Name}
 use Rattle.rb_base.specs.declared.edge.Edge.{Edge}
 use Rattle.rb_base.specs.declared.edge.Edge.TheVariants as edge
-use Rattle.rb_base.specs.declared.keyword.Keyword.{Keyword}
-use Rattle.rb_base.specs.declared.keyword.Keyword.TheVariants as word
+use Rattle.rdl_base.specs.declared.keyword.Keyword.{Keyword}
+use Rattle.rdl_base.specs.declared.keyword.Keyword.TheVariants as word
 use Rattle.rb_base.specs.declared.place.Place.{Place}
 use Rattle.rdl_props.specs.declared.form.Form.{Form}
 use Rattle.rdl_props.specs.declared.form.Form.TheVariants as form

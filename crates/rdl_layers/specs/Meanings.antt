@@ -8,7 +8,7 @@ use Rattle.rdl_tree.specs.declared.item.Given.{Given}
 use Rattle.rdl_tree.specs.declared.item.Given.TheVariants as given
 use Rattle.rb_base.specs.declared.edge.Edge.{Edge}
 use Rattle.rb_base.specs.declared.place.Place.{Place}
-use Rattle.rb_base.specs.declared.rule.Rule.TheVariants as rules
+use Rattle.rdl_base.specs.declared.rule.Rule.TheVariants as rules
 use Rattle.rdl_props.specs.declared.prop.Prop.{Prop}
 use Rattle.rdl_props.specs.declared.form.Form.{Form}
 use Rattle.rdl_props.specs.declared.form.Form.TheVariants as form

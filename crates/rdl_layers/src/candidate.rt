@@ -2,7 +2,7 @@
 ghost use Rattle.std.specs.Prelude.{◌≡◌, position};
 ghost use Rattle.rdl_layers.specs.Ranks.{decides};
 
-use crate::Rank;
+use crate::rank::Rank;
 use crate::related::is_related;
 use rdl_props::Prop;
 

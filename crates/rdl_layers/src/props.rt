@@ -4,9 +4,9 @@ ghost use Rattle.std.specs.Prelude.{◌≡◌, ◌<◌};
 ghost use Rattle.rdl_layers.specs.Answers.{SaysAt};
 ghost use Rattle.rdl_layers.specs.Tables.{AreTablesOf, decided_in, default_in, is_false_set, setting_in, settled_by};
 
-use crate::Setting;
 use crate::related::is_related;
-use rb_base::Keyword;
+use crate::setting::Setting;
+use rdl_base::Keyword;
 use rdl_props::{Prop, group};
 use rdl_tree::Elab;
 use std::marker::Model;

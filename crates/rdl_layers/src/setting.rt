@@ -1,6 +1,7 @@
 //! Settings of properties.
 
-use rb_base::{Edge, Keyword, Place};
+use rb_base::{Edge, Place};
+use rdl_base::Keyword;
 use rdl_tree::{Name, Path};
 
 /// What a property of a node is set to.

@@ -1,8 +1,8 @@
 -- What is fit has an extent that is.
 use Rattle.std.specs.List.{All}
 use Rattle.std.proofs.Common.{◌≡◌, zero, suc, List, [], ◌∷◌, map, sym, subst, arith}
-use Rattle.rdl_extents.specs.declared.claim.Claim.{Claim}
-use Rattle.rdl_extents.specs.Claims as claims
+use Rattle.rdl_layout.specs.declared.claim.Claim.{Claim}
+use Rattle.rdl_layout.specs.Claims as claims
 use Rattle.rdl_layout.specs.Fields as fields
 use Rattle.rdl_layout.specs.Registers as registers
 use Rattle.rdl_layout.specs.declared.bits.FieldBits.{FieldBits}

@@ -3,11 +3,8 @@ use Rattle.std.proofs.Common.{◌≡◌, ◌∙◌, ℕ, zero, suc, ◌+◌, ◌
 use Rattle.std.proofs.Math.Nat.{two-pow-succ, mul-mod_right, div-add-mod, mod-lt, mod-eq_of_lt, mod_self, mul-le-mul_left}
 use Rattle.std.proofs.lemmas.Bool.{eq-eqb, le-leb}
 use Rattle.std.proofs.lemmas.Bool.Decides.{nat_tests}
+use Rattle.plain_lemmas.proofs.Bools.{false-of_not_true as refute}
 use Rattle.rdl_layout.specs.Rounding.{IsLeastFrom, IsLeastPower, is_multiple, multiple_from, holds, doubled, up}
-
-refute : (t : Bool) → (t ≡ true → ⊥) → t ≡ false
-refute true h = absurd (h refl)
-refute false h = refl
 
 is_zero : (k : ℕ) → (k == 0) ≡ true → k ≡ 0
 is_zero k e = grind (arith, nat_tests)

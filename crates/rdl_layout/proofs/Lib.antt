@@ -1,3 +1,5 @@
+mod Clashes
 mod Fitting
 pub mod Least
+mod Listing
 mod Powers

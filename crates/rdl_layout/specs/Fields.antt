@@ -1,10 +1,10 @@
 -- The bits of fields, and the rules on them, by numbers alone.
 use Rattle.std.specs.Prelude.{ℕ, ◌+◌, ◌-◌, ◌<◌, ◌≤◌, ◌^◌, Option, None, Some, List, [], ◌∷◌, ◌++◌, map, flat_map, nat_le}
-use Rattle.rb_base.specs.declared.fault.Fault.{Fault}
-use Rattle.rb_base.specs.declared.rule.Rule.TheVariants as rules
+use Rattle.rdl_base.specs.declared.fault.Fault.{Fault}
+use Rattle.rdl_base.specs.declared.rule.Rule.TheVariants as rules
 use Rattle.rdl_values.specs.Faults.{at_, when}
-use Rattle.rdl_extents.specs.declared.claim.Claim.{Claim}
-use Rattle.rdl_extents.specs.Claims.{clashing_claims}
+use Rattle.rdl_layout.specs.declared.claim.Claim.{Claim}
+use Rattle.rdl_layout.specs.Claims.{clashing_claims}
 use Rattle.rdl_layout.specs.declared.bits.Field.{Field}
 use Rattle.rdl_layout.specs.declared.bits.FieldBits.{FieldBits}
 

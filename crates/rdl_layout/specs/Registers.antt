@@ -1,11 +1,11 @@
 -- The rules on the addresses of registers, by numbers alone.
 use Rattle.std.specs.Prelude.{◌+◌, ◌/◌, ◌%◌, ◌^◌, ◌<◌, Bool, not, List, ◌++◌, length, map, flat_map, nat_lt, ◌==◌}
-use Rattle.rb_base.specs.declared.fault.Fault.{Fault}
+use Rattle.rdl_base.specs.declared.fault.Fault.{Fault}
 use Rattle.rb_base.specs.declared.place.Place.{Place}
-use Rattle.rb_base.specs.declared.rule.Rule.TheVariants as rules
+use Rattle.rdl_base.specs.declared.rule.Rule.TheVariants as rules
 use Rattle.rdl_values.specs.Faults.{at_, when}
-use Rattle.rdl_extents.specs.declared.claim.Claim.{Claim}
-use Rattle.rdl_extents.specs.Claims.{clashing_claims}
+use Rattle.rdl_layout.specs.declared.claim.Claim.{Claim}
+use Rattle.rdl_layout.specs.Claims.{clashing_claims}
 use Rattle.rdl_layout.specs.declared.register.Register.{Register}
 
 abbrev pub is_misaligned : Register → Bool

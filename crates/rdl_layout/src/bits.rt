@@ -4,8 +4,10 @@ ghost use Rattle.std.specs.Prelude.{◌≡◌, ◌+◌, ◌++◌, ◌<◌, ◌�
 ghost use Rattle.std.specs.List.{All};
 ghost use Rattle.rdl_layout.specs.Fields as spec;
 
-use rb_base::{Fault, NoMemory, Place, Rule};
-use rdl_extents::{Claim, Extent, Form, Side, Tenant, clashing};
+use crate::claim::{Claim, clashing};
+use crate::extent::{Extent, Form, Side, Tenant};
+use rb_base::{NoMemory, Place};
+use rdl_base::{Fault, Rule};
 use std::alloc::Global;
 
 /// A field: its place in the source, its range, high bit first, or else its width, and what software does with it.

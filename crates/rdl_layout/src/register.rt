@@ -4,8 +4,10 @@ ghost use Rattle.std.specs.Prelude.{◌≡◌, ◌+◌, ◌++◌, ◌<◌, ◌^�
 ghost use Rattle.std.specs.List.{All};
 ghost use Rattle.rdl_layout.specs.Registers as spec;
 
-use rb_base::{Fault, NoMemory, Place, Rule};
-use rdl_extents::{Claim, Extent, Form, Side, Tenant, clashing};
+use crate::claim::{Claim, clashing};
+use crate::extent::{Extent, Form, Side, Tenant};
+use rb_base::{NoMemory, Place};
+use rdl_base::{Fault, Rule};
 use std::alloc::Global;
 
 /// A register where it stands: its place in the source, its address and size in bytes, its widths in bits, and what software

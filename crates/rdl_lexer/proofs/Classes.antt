@@ -14,14 +14,12 @@ use Rattle.rdl_tree.specs.declared.token.TokenKind.TheVariants as kinds
 use Rattle.rdl_tree.specs.Tokens.{spelling, marks, mark_of}
 use Rattle.std.specs.List.{before_first, after_first}
 use Rattle.std.specs.Str.Parse.{digits_value}
+use Rattle.plain_lemmas.proofs.Bools.{false-of_not_true as refute}
+use Rattle.plain_lemmas.proofs.Numbers.{eq-swapped as is_byte}
 use Rattle.rdl_lexer.specs.Numbers.{value_of, value_of_size, digits_of, is_quote, is_decimal, is_hexadecimal, is_sized, is_in_decimal}
 use Rattle.rdl_lexer.specs.Lexemes.{is_letter, is_in_word, is_word, is_backslash, is_string_quote, is_closed, is_other, word_kind, number, systemrdl}
 use Rattle.rdl_lexer.specs.Reading.{begins}
 use Rattle.rdl_lexer.proofs.Splits.{before_cons, find_passes}
-
-pub refute : (t : Bool) → (t ≡ true → ⊥) → t ≡ false
-refute true h = absurd (h refl)
-refute false h = refl
 
 -- The byte that begins one class begins no other.
 
@@ -30,9 +28,6 @@ letter_only b h = (refute _ (λ e. grind (arith, nat_tests)), refute _ (λ e. gr
 
 digit_only : (b : ℕ) → is_ascii_digit b ≡ true → (is_letter b ≡ false) × (is_backslash b ≡ false) × (is_string_quote b ≡ false)
 digit_only b h = (refute _ (λ e. grind (arith, nat_tests)), refute _ (λ e. grind (arith, nat_tests)), refute _ (λ e. grind (arith, nat_tests)))
-
-is_byte : (k b : ℕ) → (b == k) ≡ true → b ≡ k
-is_byte k b e = grind (arith, nat_tests)
 
 pub other_only : (b : ℕ) → is_other b ≡ true → (is_letter b ≡ false) × (is_ascii_digit b ≡ false) × (is_backslash b ≡ false) × (is_string_quote b ≡ false)
 other_only b h = split (is_letter b) (is_ascii_digit b) (is_backslash b) (is_string_quote b) h

@@ -5,12 +5,13 @@ use Rattle.std.specs.Cmp.Lexicographic.{bytes_decides}
 use Rattle.std.proofs.Common.{◌≡◌, ℕ, ◌+◌, ◌-◌, ◌<◌, ◌≤◌, Bool, true, false, ◌||◌, ◌==◌, nat_eq, if◌then◌else◌, is_some, Option, Some, None, List, [], ◌∷◌, ◌++◌, length, take, drop, get_or, suc, codes, refl, sym, ap, ◌∙◌, subst, arith, ◌⊎◌, inl, inr, length-append, length-take, take-append-drop, drop-cons}
 use Rattle.std.proofs.lemmas.Bool.{and_parts}
 use native.Mathlib.Decide.{dec_le}
-use Rattle.std.proofs.lemmas.Bool.Decides.{nat_tests}
-use Rattle.std.proofs.lemmas.Grind.{common_steps}
 use Rattle.std.proofs.lemmas.List.{take_at, take-take}
 use Rattle.std.specs.List.{starts_with}
-use Rattle.rb_base.specs.declared.rule.Rule.{Rule}
-use Rattle.rb_base.specs.declared.rule.Rule.TheVariants.{L1, L3, L5, L6}
+use Rattle.plain_lemmas.proofs.Bools.{false-of_not_true as refute}
+use Rattle.plain_lemmas.proofs.Lists.{take_drop-one as behind_one}
+use Rattle.plain_lemmas.proofs.Numbers.{eq-swapped as byte_is}
+use Rattle.rdl_base.specs.declared.rule.Rule.{Rule}
+use Rattle.rdl_base.specs.declared.rule.Rule.TheVariants.{L1, L3, L5, L6}
 use Rattle.rb_grammar.specs.Separators.{begins_separator}
 use Rattle.rb_grammar.specs.Lexemes.{has_form}
 use Rattle.rb_grammar.specs.Spelling.{IsNext, no_lexeme, no_meaning, NoLexeme, NoMeaning}
@@ -23,7 +24,7 @@ use Rattle.rdl_tree.specs.Tokens.{spelling as bytes_of, mark_of}
 use Rattle.rdl_lexer.specs.Lexemes.{is_letter, is_in_word, is_word, is_backslash, is_string_quote, is_closed, is_other, word_kind, systemrdl}
 use Rattle.rdl_lexer.specs.Faults.{rule_of}
 use Rattle.rdl_lexer.specs.Reading.{IsLexeme, Breaks, begins, begins_other}
-use Rattle.rdl_lexer.proofs.Classes.{form_of_letter, letter_means, form_of_backslash, backslash_means, form_of_quote, quote_means, form_of_other, mark_spelled, mark_form, mark_means, perl_form, perl_means, perl_longest, other_only, refute}
+use Rattle.rdl_lexer.proofs.Classes.{form_of_letter, letter_means, form_of_backslash, backslash_means, form_of_quote, quote_means, form_of_other, mark_spelled, mark_form, mark_means, perl_form, perl_means, perl_longest, other_only}
 
 -- no front with a form is longer
 abbrev pub IsBound : ℕ → List ℕ → Type 0
@@ -73,13 +74,6 @@ word_lexeme n (b ∷ bs) kind bare h e k =
     }
 
 -- Words behind a backslash.
-
-byte_is : (k b : ℕ) → (b == k) ≡ true → b ≡ k
-byte_is k b e = grind (arith, nat_tests)
-
--- what the code passes as the text behind one byte
-behind_one : (x : ℕ) (bs : List ℕ) → take (length (x ∷ bs) - 1) (drop 1 (x ∷ bs)) ≡ bs
-behind_one x bs = grind (arith, common_steps)
 
 -- nothing that begins with a backslash is longer than the word behind it
 escaped_bound : (n b : ℕ) (bs : List ℕ) → is_letter b ≡ true → n ≡ length (take_while is_in_word (b ∷ bs)) → IsBound (suc n) (92 ∷ b ∷ bs)

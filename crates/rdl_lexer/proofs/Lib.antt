@@ -1,8 +1,8 @@
-mod Values
-mod Splits
 mod Classes
 pub mod Fronts
-mod Sizes
-pub mod NumberFronts
-pub mod Steps
 mod InOrder
+pub mod NumberFronts
+mod Sizes
+mod Splits
+pub mod Steps
+mod Values

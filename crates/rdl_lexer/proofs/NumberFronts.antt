@@ -6,9 +6,10 @@ use Rattle.std.specs.Str.Parse.{digits_value}
 use Rattle.std.proofs.Common.{◌≡◌, ℕ, ◌+◌, ◌-◌, ◌<◌, ◌≤◌, Bool, true, false, not, ◌&&◌, ◌||◌, ◌==◌, Option, None, List, [], ◌∷◌, ◌++◌, length, take, drop, get_or, suc, codes, refl, sym, ap, ◌∙◌, subst, arith, ◌⊎◌, inl, inr, length-append, length-take, length-drop, take-append-drop, drop-cons, append_assoc}
 use Rattle.std.proofs.lemmas.Bool.{and_parts}
 use Rattle.std.proofs.lemmas.Bool.Decides.{nat_tests}
-use Rattle.std.proofs.lemmas.Grind.{common_steps}
 use Rattle.std.proofs.Math.Bool.{and-false}
-use Rattle.std.proofs.lemmas.List.{take_at, take_all, drop_at, get_or-drop}
+use Rattle.std.proofs.lemmas.List.{take_at, drop_at, get_or-drop}
+use Rattle.plain_lemmas.proofs.Bools.{false-of_not_true as refute}
+use Rattle.plain_lemmas.proofs.Lists.{take_drop-rest as rest_is, take_drop-two as behind_two}
 use Rattle.rb_grammar.specs.Separators.{begins_separator}
 use Rattle.rb_grammar.specs.Lexemes.{has_form, meaning_of}
 use Rattle.rb_grammar.proofs.Scanning.{run_passes, run_cons, run_longest, run_taken}
@@ -16,9 +17,9 @@ use Rattle.rdl_lexer.specs.Numbers.{is_quote, is_in_decimal, is_in_hexadecimal, 
 use Rattle.rdl_lexer.specs.Lexemes.{systemrdl, number}
 use Rattle.rdl_lexer.specs.Reading.{IsNumberAt, Breaks, begins}
 use Rattle.rb_grammar.specs.Spelling.{no_meaning, NoMeaning}
-use Rattle.rb_base.specs.declared.rule.Rule.TheVariants.{L4}
+use Rattle.rdl_base.specs.declared.rule.Rule.TheVariants.{L4}
 use Rattle.rdl_lexer.proofs.Splits.{split_quote, before_digits, after_digits, has_quote, not_all_digits, run_before}
-use Rattle.rdl_lexer.proofs.Classes.{refute, form_of_digit, decimal_means, hexadecimal_means, sized_means, no_perl}
+use Rattle.rdl_lexer.proofs.Classes.{form_of_digit, decimal_means, hexadecimal_means, sized_means, no_perl}
 use Rattle.rdl_lexer.proofs.Sizes.{decimal_passes}
 use Rattle.rdl_lexer.proofs.Fronts.{IsBound, next_by}
 
@@ -149,9 +150,6 @@ no_sized_hexadecimal y z zs d q s = let p = sized_parts (y ∷ z ∷ zs) s in go
         let k = and_parts (is_in_decimal e) (list_all is_in_decimal es) p.1 in
         clash _ (subst (λ w. is_in_decimal w ≡ true) same k.0) d
 
-behind_two : (x y : ℕ) (bs : List ℕ) → take (length (x ∷ y ∷ bs) - 2) (drop 2 (x ∷ y ∷ bs)) ≡ bs
-behind_two x y bs = grind (arith, common_steps)
-
 hexadecimal_bound : (k b x : ℕ) (bs : List ℕ) → begins_hexadecimal (b ∷ x ∷ bs) ≡ true → k ≡ length (take_while is_in_hexadecimal bs) → IsBound (suc (suc k)) (b ∷ x ∷ bs)
 hexadecimal_bound k b x bs h r [] after e w = omega arith
 hexadecimal_bound k b x bs h r (y ∷ []) after e w = omega arith
@@ -216,10 +214,6 @@ sized_bound n k text based h x r q longest (y ∷ ys) after e w =
         | inr s ↦ sized_front n k text based r q longest y ys after e s
       ]
     ]
-
--- what the code passes as the text behind so many bytes
-rest_is : (n : ℕ) (text : List ℕ) → take (length text - n) (drop n text) ≡ drop n text
-rest_is n text = take_all (length text - n) (drop n text) (omega (arith, length-drop n text))
 
 sized_value_is : (size based : List ℕ) → is_decimal size ≡ true → value_of_size (digits_value 10 (digits_of (before_first is_quote (size ++ (39 ∷ based))))) (after_first is_quote (size ++ (39 ∷ based))) ≡ value_of_size (digits_value 10 (digits_of size)) based
 sized_value_is size based h = let d = decimal_passes size h in rw (before_digits size based d, after_digits size based d) refl

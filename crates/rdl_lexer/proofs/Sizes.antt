@@ -6,7 +6,7 @@ use Rattle.std.proofs.Common.{◌≡◌, ℕ, ◌+◌, ◌-◌, ◌^◌, ◌<◌
 use Rattle.std.proofs.Math.Bool.{and-false}
 use Rattle.std.proofs.lemmas.Bool.{and_parts}
 use Rattle.std.proofs.lemmas.Bool.Decides.{nat_tests}
-use Rattle.std.proofs.lemmas.Grind.{common_steps}
+use Rattle.plain_lemmas.proofs.Lists.{take_drop-one as behind_one}
 use Rattle.rb_grammar.proofs.Scanning.{run_passes, run_longest, run_taken}
 use Rattle.rdl_lexer.specs.Numbers.{underscore, is_in_decimal, is_decimal, is_in_base, is_based, base_of, digits_of, is_value, value_of, value_of_size}
 
@@ -59,9 +59,6 @@ no_size size (inr h) = let f : nat_le size 64 ≡ false = grind (arith, nat_test
 pub bad_size : (size : ℕ) (based : List ℕ) → (size ≡ 0) ⊎ (64 < size) → None ≡ value_of_size size based
 bad_size size [] h = refl
 bad_size size (b ∷ run) h = rw (no_size size h) refl
-
-behind_one : (x : ℕ) (bs : List ℕ) → take (length (x ∷ bs) - 1) (drop 1 (x ∷ bs)) ≡ bs
-behind_one x bs = grind (arith, common_steps)
 
 pub good_size : (size base : ℕ) (based : List ℕ) → (size ≡ 0 → ⊥) → size ≤ 64 → 1 ≤ length based → Some base ≡ base_of (get_or based 0 0)
     → value_of size base (take (length based - 1) (drop 1 based)) ≡ value_of_size size based

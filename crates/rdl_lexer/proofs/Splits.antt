@@ -4,13 +4,8 @@ use Rattle.std.proofs.Common.{◌≡◌, ℕ, ◌+◌, Bool, true, false, ◌||�
 use Rattle.std.proofs.lemmas.Bool.{and_parts}
 use Rattle.std.proofs.lemmas.Bool.Decides.{nat_tests}
 use Rattle.std.proofs.lemmas.List.Sums.{take_while-cons}
+use Rattle.plain_lemmas.proofs.Numbers.{one-plus as one_more, plus-one as more_one}
 use Rattle.rdl_lexer.specs.Numbers.{is_quote, is_in_decimal}
-
-one_more : (n : ℕ) → 1 + n ≡ suc n
-one_more n = omega arith
-
-more_one : (n : ℕ) → n + 1 ≡ suc n
-more_one n = omega arith
 
 pub before_cons : (x : ℕ) (xs : List ℕ) → is_quote x ≡ false → before_first is_quote (x ∷ xs) ≡ x ∷ before_first is_quote xs
 before_cons x xs e = rw (e, one_more (position_or_len is_quote xs)) refl

@@ -1,8 +1,8 @@
 -- From what stands at the front of the rest to what the next call answers.
 use Rattle.std.proofs.Common.{◌≡◌, ℕ, ◌∷◌, ◌+◌, ◌==◌, true, List, [], length, take, drop, refl, sym, ◌∙◌, subst, arith, eqb-true}
-use Rattle.rb_base.specs.declared.fault.Fault.{Fault}
-use Rattle.rb_base.specs.declared.rule.Rule.{Rule}
-use Rattle.rb_base.specs.declared.rule.Rule.TheVariants.{L2}
+use Rattle.rdl_base.specs.declared.fault.Fault.{Fault}
+use Rattle.rdl_base.specs.declared.rule.Rule.{Rule}
+use Rattle.rdl_base.specs.declared.rule.Rule.TheVariants.{L2}
 use Rattle.rb_grammar.specs.Separators.{Skips, IsOpenComment, opened}
 use Rattle.rb_grammar.specs.Spelling.{IsPlace, IsFault, StartsWith, OpenComment, open_comment}
 use Rattle.rdl_tree.specs.declared.token.TokenKind.{TokenKind}

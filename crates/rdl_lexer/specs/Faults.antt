@@ -1,9 +1,9 @@
 -- The lexical rules.
 use Rattle.std.specs.Str.{bytes_eq}
 use Rattle.std.specs.Prelude.{◌≡◌, ℕ, ◌==◌, if◌then◌else◌, List, codes}
-use Rattle.rb_base.specs.declared.fault.Fault.{Fault}
-use Rattle.rb_base.specs.declared.rule.Rule.{Rule}
-use Rattle.rb_base.specs.declared.rule.Rule.TheVariants.{L1, L2, L3, L4, L5, L6}
+use Rattle.rdl_base.specs.declared.fault.Fault.{Fault}
+use Rattle.rdl_base.specs.declared.rule.Rule.{Rule}
+use Rattle.rdl_base.specs.declared.rule.Rule.TheVariants.{L1, L2, L3, L4, L5, L6}
 use Rattle.rb_grammar.specs.Spelling.{FailsAt, Faults, NoLexeme, OpenComment, NoMeaning}
 use Rattle.rb_grammar.specs.Spelling as spelling
 use Rattle.rdl_lexer.specs.Lexemes.{is_string_quote, systemrdl}

@@ -1,4 +1,6 @@
-pub mod Numbers
-pub mod Lexemes
+pub mod Compact
+pub mod Depth
 pub mod Faults
+pub mod Lexemes
+pub mod Numbers
 pub mod Reading

@@ -1,8 +1,8 @@
 -- How far a source has been read.
 use Rattle.std.specs.Prelude.{◌≡◌, ℕ, ◌≤◌, Bool, false, Option, Some, List, [], ◌∷◌, length, take, drop, codes}
 use Rattle.std.specs.Str.{bytes_eq}
-use Rattle.rb_base.specs.declared.fault.Fault.{Fault}
-use Rattle.rb_base.specs.declared.rule.Rule.{Rule}
+use Rattle.rdl_base.specs.declared.fault.Fault.{Fault}
+use Rattle.rdl_base.specs.declared.rule.Rule.{Rule}
 use Rattle.rb_grammar.specs.Lexemes.{meaning_of}
 use Rattle.rb_grammar.specs.Spelling.{IsNext, IsFault}
 use Rattle.rb_grammar.specs.Spelling as spelling

@@ -9,7 +9,7 @@ ghost use Rattle.rdl_lexer.specs.Reading.{IsLexeme, Breaks, begins, begins_other
 use crate::marks::{mark_at, mark_len};
 use crate::numbers::number_at;
 use crate::runs::word_len;
-use rb_base::{Keyword, Rule};
+use rdl_base::{Keyword, Rule};
 use rdl_tree::TokenKind;
 
 // What a lexeme is, its text, and how many bytes it has.

@@ -4,8 +4,9 @@ ghost use Rattle.std.specs.Result.{result_err};
 ghost use Rattle.std.specs.Prelude.{◌≡◌, ◌-◌, ◌^◌, ◌<◌, ◌≤◌, [], length, drop, IfOk, IfErr, IfSome, IfNone};
 
 use crate::lexeme::lexeme_at;
-use rb_base::{Fault, Place, Rule};
+use rb_base::Place;
 use rb_grammar::separators_len;
+use rdl_base::{Fault, Rule};
 use rdl_tree::Token;
 use std::marker::Model;
 

@@ -1,10 +1,10 @@
 -- The first row under a key.
-use Rattle.std.proofs.Common.{◌≡◌, ◌∙◌, ℕ, zero, suc, ◌+◌, Bool, true, false, cond, List, [], ◌∷◌, ◌++◌, length, take, Option, None, Some, slice_get, refl, sym, ap, subst, arith}
+use Rattle.std.proofs.Common.{◌≡◌, ◌∙◌, ℕ, zero, suc, ◌+◌, Bool, true, false, cond, List, [], ◌∷◌, ◌++◌, length, take, None, Some, slice_get, refl, sym, ap, subst, arith}
 use Rattle.std.specs.Option.{option_or}
 use Rattle.std.proofs.lemmas.List.{take_more}
 use Rattle.rdl_tree.specs.declared.node.Node.{out-Node}
-use Rattle.rdl_index.specs.declared.table.Row.{Row}
-use Rattle.rdl_lineages.proofs.Members.{get-read, get-within}
+use Rattle.rdl_nodes.specs.declared.table.Row.{Row}
+use Rattle.rdl_nodes.proofs.Members.{get-read, get-within}
 use Rattle.rdl_members.specs.Keyed.{Key, row_of}
 use Rattle.rdl_members.specs.Listed.{AddsRow, AreFirst, element_key, first_row, has_key, name_key}
 use Rattle.rdl_members.specs.declared.table.Members.{Members}
@@ -64,8 +64,3 @@ first-whole root rows i m long h = subst (λ xs. AreFirst root xs m) (whole rows
 
 pub none-yet : (root : ℕ) (m : Members) → ((k : Key) → row_of m.elements k ≡ None) → ((k : Key) → row_of m.names k ≡ None) → AreFirst root [] m
 none-yet root m e n = record { elements_ = e; names_ = n }
-
--- a row that is in no body, and one that is
-or-none : (o : Option ℕ) → o ≡ option_or o None
-or-none None = refl
-or-none (Some k) = refl

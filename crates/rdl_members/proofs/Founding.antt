@@ -1,8 +1,9 @@
 -- What the first rows say of the nodes in bodies.
-use Rattle.std.proofs.Common.{◌≡◌, ◌∙◌, ℕ, ◌≤◌, ◌<◌, ◌&&◌, ◌||◌, ◌==◌, inl, inr, Bool, true, false, List, [], ◌∷◌, bytes_eq, filter, Option, None, Some, is_some, option_and_then, option_map, option_to_list, slice_get, refl, sym, ap, subst, arith}
+use Rattle.std.proofs.Common.{◌≡◌, ◌∙◌, ℕ, ◌≤◌, ◌<◌, ◌&&◌, ◌||◌, inl, inr, Bool, true, false, List, [], ◌∷◌, bytes_eq, filter, Option, None, Some, is_some, option_and_then, option_map, option_to_list, slice_get, refl, sym, ap, subst, arith}
 use Rattle.std.specs.List.{list_any}
 use Rattle.std.specs.Cmp.Lexicographic.{bytes_decides}
-use Rattle.std.proofs.lemmas.Bool.Decides.{nat_tests}
+use Rattle.plain_lemmas.proofs.Bools.{and-both as both-true}
+use Rattle.plain_lemmas.proofs.Numbers.{eq-itself as number-itself}
 use Rattle.rdl_tree.specs.declared.node.Elab.{Elab}
 use Rattle.rdl_tree.specs.declared.node.Node.{out-Node}
 use Rattle.rdl_values.specs.Elaborated.{index_of, top_name}
@@ -10,11 +11,11 @@ use Rattle.rdl_values.specs.Elaboration.{IsClean}
 use Rattle.rdl_values.specs.Instances.{Instance, nodes}
 use Rattle.rdl_values.specs.Lineages.{Lineage, lineages_of}
 use Rattle.rdl_nodes.proofs.Lineages.{all_nodes}
-use Rattle.rdl_index.specs.declared.table.Row.{Row}
-use Rattle.rdl_index.specs.Rows.{AreRows}
-use Rattle.rdl_lineages.proofs.Members.{In, get-within}
+use Rattle.rdl_nodes.specs.declared.table.Row.{Row}
+use Rattle.rdl_nodes.specs.Rows.{AreRows}
+use Rattle.rdl_nodes.proofs.Members.{In, get-within}
 use Rattle.rdl_refs.proofs.OneTarget.{AtMost, Other, members, members_fine, of_nodes, one_passes, same_members, same_passing}
-use Rattle.rdl_registers.proofs.Filtered.{in-kept, kept-in, kept-passes}
+use Rattle.rdl_bits.proofs.Filtered.{in-kept, kept-in, kept-passes}
 use Rattle.rdl_sizes.proofs.Facts.{count-is, row-at}
 use Rattle.rdl_members.specs.Found.{AreMembersOf, is_element, is_named, members_at}
 use Rattle.rdl_members.specs.Keyed.{Key, row_of}
@@ -48,14 +49,6 @@ any-here p (y ∷ ys) x (inr h) e = go (p y) (any-here p ys x h e)
 any-nowhere : {X : Type 0} (p : X → Bool) (xs : List X) → ((x : X) → In xs x → p x ≡ false) → list_any p xs ≡ false
 any-nowhere p [] h = refl
 any-nowhere p (y ∷ ys) h = (λ i. h y (inl refl) i || any-nowhere p ys (λ x q. h x (inr q)) i)
-
-both-true : (a b : Bool) → a && b ≡ true → (a ≡ true) × (b ≡ true)
-both-true true true e = (refl, refl)
-both-true true false e = cc e
-both-true false b e = cc e
-
-number-itself : (a : ℕ) → (a == a) ≡ true
-number-itself a = grind (arith, nat_tests)
 
 -- of a body, one node at most has a name and indices
 one-element : (e : Elab) (b : ℕ) (name index : List ℕ) → AtMost (filter (λ l. is_element name index l.node) (members_at (lineages_of e) b))

@@ -1,24 +1,15 @@
 -- A row more under a key.
-use Rattle.std.proofs.Common.{◌≡◌, ◌∙◌, ℕ, Bool, true, false, ◌&&◌, ◌==◌, cond, bytes_eq, List, Option, None, Some, is_some, refl, sym, ap, arith}
+use Rattle.std.proofs.Common.{◌≡◌, ◌∙◌, ℕ, Bool, true, false, ◌&&◌, ◌==◌, cond, bytes_eq, List, None, Some, is_some, refl, sym, ap}
 use Rattle.std.specs.Cmp.Lexicographic.{bytes_decides}
 use Rattle.std.specs.HashMap.{UpdatesBy}
 use Rattle.std.specs.Option.{option_or}
-use Rattle.std.proofs.lemmas.Bool.Decides.{nat_tests}
 use Rattle.std.specs.Map.{AreApart, IsKeyTest, KeepsOthers, lookup}
 use denote.Ref.{Bor}
+use Rattle.plain_lemmas.proofs.Bools.{and-both as both-true}
+use Rattle.plain_lemmas.proofs.Numbers.{eq-itself as number-itself, eq-same as same-number}
+use Rattle.plain_lemmas.proofs.Options.{option_or-first as or-some, option_or-none as or-none, option_or-second as or-first}
 use Rattle.rdl_members.specs.Keyed.{Key, row_of, same_key}
 use Rattle.rdl_members.specs.declared.keys.Keys.{Keys}
-
-both-true : (a b : Bool) → a && b ≡ true → (a ≡ true) × (b ≡ true)
-both-true true true e = (refl, refl)
-both-true true false e = cc e
-both-true false b e = cc e
-
-same-number : (a b : ℕ) → (a == b) ≡ true → a ≡ b
-same-number a b e = grind (arith, nat_tests)
-
-number-itself : (a : ℕ) → (a == a) ≡ true
-number-itself a = grind (arith, nat_tests)
 
 pub keys-decide : (j k : Key) → same_key j k ≡ true → j ≡ k
 keys-decide j k e =
@@ -67,18 +58,6 @@ others-kept j old new h k differ = h (test k) (one-key k) (two-keys j k differ)
 -- what a table is once a row is put in under a key
 abbrev pub IsPut : Key → ℕ → Keys → Keys → Type 0
 IsPut key row old new = (k : Key) → row_of new k ≡ option_or (row_of old k) (cond (same_key key k) (Some row) None)
-
-or-none : (o : Option ℕ) → o ≡ option_or o None
-or-none None = refl
-or-none (Some k) = refl
-
-or-some : (o p : Option ℕ) → is_some o ≡ true → o ≡ option_or o p
-or-some None p e = cc e
-or-some (Some k) p e = refl
-
-or-first : (o p : Option ℕ) → is_some o ≡ false → p ≡ option_or o p
-or-first None p e = refl
-or-first (Some k) p e = cc e
 
 pub put-again : (key : Key) (row : ℕ) (t : Keys) → is_some (row_of t key) ≡ true → IsPut key row t t
 put-again key row t there k = go (same_key key k) refl

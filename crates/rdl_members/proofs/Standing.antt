@@ -1,6 +1,6 @@
 -- The rows of the nodes in a body.
-use Rattle.std.proofs.Common.{◌≡◌, ◌∙◌, ℕ, zero, suc, ◌+◌, ◌≤◌, ◌<◌, ◌⊎◌, inl, inr, true, false, ◌&&◌, List, [], ◌∷◌, bytes_eq, filter, length, Option, None, Some, option_map, slice_get, refl, sym, ap, subst, arith}
-use Rattle.std.specs.Cmp.Lexicographic.{bytes_decides}
+use Rattle.std.proofs.Common.{◌≡◌, ◌∙◌, ℕ, zero, suc, ◌+◌, ◌≤◌, ◌<◌, ◌⊎◌, inl, inr, true, false, ◌&&◌, List, [], ◌∷◌, filter, length, Option, None, Some, option_map, slice_get, refl, sym, ap, subst, arith}
+use Rattle.plain_lemmas.proofs.Lists.{bytes_eq-itself as same-bytes-itself, get-beyond as none-beyond}
 use Rattle.rdl_tree.specs.declared.item.Kind.{Kind}
 use Rattle.rdl_tree.specs.declared.item.Kind.TheVariants as kind
 use Rattle.rdl_tree.specs.declared.node.Elab.{Elab}
@@ -16,21 +16,18 @@ use Rattle.rdl_values.proofs.Given.{IsAtRoot, signals-given}
 use Rattle.rdl_values.proofs.Numbered.{At}
 use Rattle.rdl_layers.specs.Assignments.{same_path, same_steps}
 use Rattle.rdl_nodes.proofs.Paths.{IsChild, are_children, paths_differ}
-use Rattle.rdl_index.specs.declared.table.Row.{Row}
-use Rattle.rdl_index.specs.Rows.{AreRows, IsParent, IsRow}
+use Rattle.rdl_nodes.specs.declared.table.Row.{Row}
+use Rattle.rdl_nodes.specs.Rows.{AreRows, IsParent, IsRow}
 use Rattle.rdl_addr.proofs.Covers.{address_by_kind}
-use Rattle.rdl_lineages.proofs.Members.{In, each-in, flat-in, get-read, get-within, in-flat, in-map, in-place, map-in, place-in}
-use Rattle.rdl_lineages.proofs.Order.{behind, once, shallow-at, stands-under}
+use Rattle.rdl_nodes.proofs.Members.{In, each-in, flat-in, get-read, get-within, in-flat, in-map, in-place, map-in, place-in}
+use Rattle.rdl_nodes.proofs.Order.{behind, once, shallow-at, stands-under}
 use Rattle.rdl_refs.specs.Leads.{is_at_root, members_of}
 use Rattle.rdl_refs.proofs.OneTarget.{is_same_path}
-use Rattle.rdl_registers.proofs.Filtered.{in-kept, kept-in, kept-passes}
+use Rattle.rdl_bits.proofs.Filtered.{in-kept, kept-in, kept-passes}
 use Rattle.rdl_sizes.proofs.Facts.{count-is, node-at, row-at, rows-many}
-use Rattle.rdl_collected.proofs.Descending.{at-top, listed-down, top-placed}
+use Rattle.rdl_bits.proofs.Descending.{at-top, listed-down, top-placed}
 use Rattle.rdl_members.specs.Found.{members_at}
 use Rattle.rdl_members.specs.Listed.{body_by, body_in}
-
-same-bytes-itself : (xs : List ℕ) → bytes_eq xs xs ≡ true
-same-bytes-itself xs = (bytes_decides xs xs).1 refl
 
 same-steps-itself : (ss : List Step) → same_steps ss ss ≡ true
 same-steps-itself [] = refl
@@ -39,11 +36,6 @@ same-steps-itself (s ∷ ss) = (λ i. (same-bytes-itself s.name i && same-bytes-
 pub same-path-itself : (p : Path) → same_path p p ≡ true
 same-path-itself (of_signal s) = same-steps-itself (s ∷ [])
 same-path-itself (below_top ss) = same-steps-itself ss
-
-none-beyond : {X : Type 0} (xs : List X) (k : ℕ) → length xs ≤ k → slice_get xs k ≡ None
-none-beyond [] k l = refl
-none-beyond (x ∷ xs) zero l = absurd (omega (arith, l))
-none-beyond (x ∷ xs) (suc k) l = none-beyond xs k (omega (arith, l))
 
 module _ (e : Elab) where
   abbrev all : List Lineage

@@ -1,3 +1,4 @@
+pub mod Covered
 pub mod Found
 pub mod Keyed
 pub mod Listed

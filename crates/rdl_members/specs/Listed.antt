@@ -4,7 +4,7 @@ use Rattle.std.specs.Option.{option_or}
 use Rattle.rdl_tree.specs.declared.item.Kind.{Kind}
 use Rattle.rdl_tree.specs.declared.item.Kind.TheVariants as kind
 use Rattle.rdl_tree.specs.declared.node.Node.{out-Node}
-use Rattle.rdl_index.specs.declared.table.Row.{Row}
+use Rattle.rdl_nodes.specs.declared.table.Row.{Row}
 use Rattle.rdl_members.specs.Keyed.{Key, row_of, same_key}
 use Rattle.rdl_members.specs.declared.table.Members.{Members}
 

@@ -1,7 +1,10 @@
-//! The nodes of a tree by the body that they are in, their names and their indices.
+//! The nodes of a tree by the body that they are in and their names, and which fields have a view with a property.
 #![tactic(auto)]
 
 mod keys;
+mod over_views;
 mod table;
+mod view_table;
 
 pub use table::{Members, members_of};
+pub use view_table::any_view;

@@ -2,13 +2,13 @@
 
 ghost use Rattle.std.specs.Prelude.{◌≡◌, IfOk};
 ghost use Rattle.rdl_values.specs.Elaboration.{IsClean};
-ghost use Rattle.rdl_index.specs.Rows.{AreRows};
+ghost use Rattle.rdl_nodes.specs.Rows.{AreRows};
 ghost use Rattle.rdl_members.specs.Found.{AreMembersOf};
 ghost use Rattle.rdl_members.specs.Listed.{body_by};
 
 use crate::keys::Keys;
 use rb_base::NoMemory;
-use rdl_index::Row;
+use rdl_nodes::Row;
 use rdl_tree::{Elab, Kind};
 use std::alloc::Global;
 

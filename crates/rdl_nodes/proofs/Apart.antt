@@ -3,6 +3,7 @@ use Rattle.std.proofs.Common.{◌≡◌, ◌≢◌, ℕ, zero, suc, ◌<◌, Lis
 use Rattle.std.specs.List.{AllByRecursion, AllPairs}
 use Rattle.std.proofs.lemmas.List.Elements.{All-from_recursion}
 use Rattle.std.proofs.lemmas.List.Kept.{AllPairs-cons}
+use Rattle.plain_lemmas.proofs.Lists.{each-both as both}
 use Rattle.rdl_values.specs.Instances.{upto, rows}
 use Rattle.rdl_values.proofs.Given.{each-append, each-flat_map, each-imp}
 
@@ -22,10 +23,6 @@ pairs R (x ∷ xs) h = AllPairs-cons R x xs (All-from_recursion (R x) xs h.0) (p
 pub all-of : {X : Type 0} (P : X → Type 0) (xs : List X) → ((x : X) → P x) → AllByRecursion P xs
 all-of P [] h = tt
 all-of P (x ∷ xs) h = (h x, all-of P xs h)
-
-pub both : {X : Type 0} (P Q R : X → Type 0) (xs : List X) → ((x : X) → P x → Q x → R x) → AllByRecursion P xs → AllByRecursion Q xs → AllByRecursion R xs
-both P Q R [] f p q = tt
-both P Q R (x ∷ xs) f p q = (f x p.0 q.0, both P Q R xs f p.1 q.1)
 
 pub across : {X : Type 0} (P Q : X → Type 0) (R : X → X → Type 0) (xs ys : List X) → ((x y : X) → P x → Q y → R x y) → AllByRecursion P xs → AllByRecursion Q ys → Across R xs ys
 across P Q R xs ys f p q = each-imp P (λ x. AllByRecursion (R x) ys) xs (λ x h. each-imp Q (R x) ys (λ y g. f x y h g) q) p

@@ -1,5 +1,11 @@
+mod Adding
 pub mod Apart
+mod Derived
 pub mod Lineages
+pub mod Members
+mod Nodes
 mod Numbered
+pub mod Order
 pub mod Paths
+mod Tied
 mod Words

@@ -2,6 +2,7 @@
 use Rattle.std.proofs.Common.{◌≡◌, ◌∙◌, ℕ, zero, suc, ◌+◌, ◌*◌, ◌/◌, ◌%◌, ◌<◌, List, [], ◌∷◌, refl, ap, arith, mod-eq_of_lt}
 use Rattle.std.proofs.Math.Nat.{mul-add-mod_self_right}
 use Rattle.std.proofs.lemmas.Nat.{div-mul-add, div-add-mod', div_below, mod_below}
+use Rattle.plain_lemmas.proofs.Numbers.{below_times-positive as positive}
 use Rattle.rdl_values.specs.Rows.{product, row}
 use Rattle.rdl_nodes.specs.Numbers.{AreWithin, number_in}
 
@@ -25,10 +26,6 @@ found (d ∷ ds) (i ∷ is) h =
     ap (λ q. q ∷ row ds ((i * product ds + number_in ds is) % product ds)) quotient ∙ ap (λ r. i ∷ row ds r) rest ∙ ap (λ is. i ∷ is) (found ds is h.1)
 
 -- The number of a row.
-
-positive : (d p k : ℕ) → k < d * p → 0 < p
-positive d zero k l = let e : d * 0 ≡ 0 = omega arith in absurd (omega (arith, l, e))
-positive d (suc p) k l = omega arith
 
 pub once : (dims : List ℕ) (k : ℕ) → k < product dims → number_in dims (row dims k) ≡ k
 once [] zero l = refl

@@ -2,7 +2,7 @@
 use Rattle.std.proofs.Common.{◌≡◌, ◌≢◌, ◌⊎◌, inl, inr, ℕ, zero, suc, Bool, true, false, cond, List, [], ◌∷◌, ◌++◌, map, flat_map, reverse, bytes_eq, Option, None, Some, option_to_list, option_and_then, Ok, Err, refl, sym, ap, subst, ◌∙◌, append_assoc, append-nil, ◌&&◌}
 use Rattle.std.specs.Cmp.Lexicographic.{bytes_decides}
 use Rattle.std.specs.List.{AllByRecursion, AllPairs, list_any}
-use Rattle.rb_base.specs.declared.rule.Rule.TheVariants as rules
+use Rattle.rdl_base.specs.declared.rule.Rule.TheVariants as rules
 use Rattle.rdl_tree.specs.declared.expr.Name.{Name}
 use Rattle.rdl_tree.specs.declared.item.Def.{Def}
 use Rattle.rdl_tree.specs.declared.item.Item.{Item}

@@ -1,8 +1,9 @@
 -- The names of nodes are names of the tree.
-use Rattle.std.proofs.Common.{◌≡◌, inl, inr, ℕ, zero, suc, Bool, true, false, ◌&&◌, cond, List, [], ◌∷◌, ◌++◌, map, flat_map, reverse, Option, None, Some, option_map, option_and_then, option_to_list, refl, sym, subst}
+use Rattle.std.proofs.Common.{◌≡◌, inl, inr, ℕ, zero, suc, Bool, true, false, ◌&&◌, cond, List, [], ◌∷◌, ◌++◌, flat_map, reverse, Option, None, Some, option_map, option_and_then, option_to_list, refl, sym, subst}
 use Rattle.std.specs.List.{AllByRecursion}
 use Rattle.std.specs.Option.{option_or}
 use Rattle.std.proofs.lemmas.List.Elements.{All-from_recursion, recursion_from_All}
+use Rattle.plain_lemmas.proofs.Lists.{each-mapped as mapped}
 use Rattle.rb_base.specs.declared.place.Place.{Place}
 use Rattle.rdl_tree.specs.declared.expr.Name.{Name}
 use Rattle.rdl_tree.specs.declared.item.Def.{Def}
@@ -103,10 +104,6 @@ component_in n (l ∷ outer) h = go (nearest (found n) (standing l.before)) (fou
 
 abbrev OfUse : Use → Type 0
 OfUse u = IsWordName u.name × OfClosure u.closure
-
-mapped : {X Y : Type 0} (P : X → Type 0) (Q : Y → Type 0) (f : X → Y) (xs : List X) → ((x : X) → P x → Q (f x)) → AllByRecursion P xs → AllByRecursion Q (map f xs)
-mapped P Q f [] g h = tt
-mapped P Q f (x ∷ xs) g h = (g x h.0, mapped P Q f xs g h.1)
 
 insts_in : (scope : Scope) (alias : Option Name) (place : Place) (c : Option Closure) (is : Insts) → HaveWords (Some is) → OfClosure c → AllByRecursion OfUse (uses_of_insts scope alias place c is)
 insts_in scope alias place c is w h = mapped (λ i. IsWordName i.name) OfUse _ is.list.now (λ i n. (n, h)) (recursion_from_All (λ i. IsWordName i.name) is.list.now w)

@@ -1,1 +1,4 @@
+pub mod Below
 pub mod Numbers
+pub mod Rows
+pub mod Single

@@ -1,6 +1,12 @@
-//! What is known of the nodes of a source: their paths, their names and their numbers within an array.
+//! The nodes of a source: their numbers, names, paths, forms, and the nodes that they stand in.
 #![tactic(auto)]
 
+mod ancestors;
+mod forms;
 mod laws;
+mod table;
 
+pub use ancestors::lineages_in_order;
+pub use forms::{derived_forms_are_single, forms_are_single};
 pub use laws::{lineages_are_nodes, names_are_words, paths_differ, row_has_one_number};
+pub use table::{Row, rows};

@@ -9,7 +9,7 @@ use Rattle.rdl_tree.specs.declared.token.Token.{Token}
 use Rattle.rdl_tree.specs.Grammar.{Rule, grammar}
 use Rattle.rdl_tree.specs.Tokens.{is}
 use Rattle.rdl_lexer.specs.Lexemes.{seen}
-use Rattle.rdl_depth.specs.Depth.{Depth, deeper, effect, start, IsWithin, StaysWithin}
+use Rattle.rdl_lexer.specs.Depth.{Depth, deeper, effect, start, IsWithin, StaysWithin}
 use Rattle.rdl_parser.specs.Judging.{IsGood, IsWrongAt, IsTooDeepAt}
 use Rattle.rdl_parser.specs.Verdicts.{place_of, rule_of}
 

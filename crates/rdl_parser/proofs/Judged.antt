@@ -9,7 +9,7 @@ use Rattle.rb_grammar.proofs.Judgement.{stops_once}
 use Rattle.rdl_tree.specs.declared.token.Token.{Token}
 use Rattle.rdl_tree.specs.Grammar.{grammar}
 use Rattle.rdl_tree.specs.Grammar as rules
-use Rattle.rdl_depth.specs.Depth.{depth_after, IsWithin, StaysWithin, IsFirstTooDeep}
+use Rattle.rdl_lexer.specs.Depth.{depth_after, IsWithin, StaysWithin, IsFirstTooDeep}
 use Rattle.rdl_parser.specs.Judging.{IsGood, IsWrongAt, IsTooDeepAt}
 use Rattle.rdl_parser.specs.Verdicts.{place_of, rule_of}
 

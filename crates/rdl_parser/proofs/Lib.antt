@@ -1,7 +1,7 @@
-mod Phrases
-mod Lists
-mod Items
-mod Sources
-mod Judged
 mod Alike
+mod Items
+mod Judged
+mod Lists
 pub mod OneVerdict
+mod Phrases
+mod Sources

@@ -1,8 +1,8 @@
 -- A source has one verdict.
 use Rattle.std.proofs.Common.{◌≡◌, ◌≢◌, ℕ, Result, Ok, Err, IfErr, List, drop, map, refl, ap, sym, ◌∙◌, subst}
-use Rattle.rb_base.specs.declared.fault.Fault.{Fault}
+use Rattle.rdl_base.specs.declared.fault.Fault.{Fault}
 use Rattle.rb_base.specs.declared.place.Place.{Place}
-use Rattle.rb_base.specs.declared.rule.Rule.{Rule}
+use Rattle.rdl_base.specs.declared.rule.Rule.{Rule}
 use Rattle.rb_grammar.proofs.OneSpelling.{spells_once, faults_once, not_both}
 use Rattle.rdl_tree.specs.declared.token.Token.{Token}
 use Rattle.rdl_lexer.specs.Lexemes.{seen, systemrdl}

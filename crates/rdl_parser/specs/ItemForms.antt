@@ -1,7 +1,7 @@
 -- What the functions of items read: the forms that are left in the middle of a rule, and the terminals with which a form that
 -- has been read could have gone on.
 use Rattle.std.specs.Prelude.{◌≡◌, Option, None, List, [], ◌∷◌, option_copied}
-use Rattle.rb_base.specs.declared.keyword.Keyword.TheVariants as words
+use Rattle.rdl_base.specs.declared.keyword.Keyword.TheVariants as words
 use Rattle.rb_base.specs.declared.place.Place.{Place}
 use Rattle.rb_grammar.specs.Forms.{Form, Non, ◌or◌, Opt, Many, ◌then◌}
 use Rattle.rdl_tree.specs.declared.expr.Name.{Name}

@@ -3,7 +3,7 @@ use Rattle.std.specs.Prelude.{ℕ, ◌+◌, ◌-◌, List, length, take}
 use Rattle.rb_grammar.specs.Forms.{Non, Fits, Begins, StopsAt}
 use Rattle.rdl_tree.specs.declared.token.Token.{Token}
 use Rattle.rdl_tree.specs.Grammar.{Source, grammar}
-use Rattle.rdl_depth.specs.Depth.{StaysWithin, IsFirstTooDeep}
+use Rattle.rdl_lexer.specs.Depth.{StaysWithin, IsFirstTooDeep}
 
 -- it is a source, and no token nests too deep
 pub record IsGood (ts : List Token) : Type 0 where

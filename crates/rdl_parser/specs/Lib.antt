@@ -1,4 +1,4 @@
-pub mod Judging
-pub mod Verdicts
 pub mod ItemForms
+pub mod Judging
 pub mod Stopping
+pub mod Verdicts

@@ -1,10 +1,10 @@
 -- What is answered for a source.
 use Rattle.std.specs.Prelude.{◌≡◌, ℕ, List, [], ◌∷◌, length, drop, map}
-use Rattle.rb_base.specs.declared.keyword.Keyword.{Keyword}
-use Rattle.rb_base.specs.declared.keyword.Keyword.TheVariants as words
+use Rattle.rdl_base.specs.declared.keyword.Keyword.{Keyword}
+use Rattle.rdl_base.specs.declared.keyword.Keyword.TheVariants as words
 use Rattle.rb_base.specs.declared.place.Place.{Place}
-use Rattle.rb_base.specs.declared.rule.Rule.{Rule}
-use Rattle.rb_base.specs.declared.rule.Rule.TheVariants as rules
+use Rattle.rdl_base.specs.declared.rule.Rule.{Rule}
+use Rattle.rdl_base.specs.declared.rule.Rule.TheVariants as rules
 use Rattle.rb_grammar.specs.Spelling.{Spells}
 use Rattle.rdl_tree.specs.declared.item.Item.{Item}
 use Rattle.rdl_tree.specs.declared.token.Mark.{Mark}
@@ -17,7 +17,7 @@ use Rattle.rdl_lexer.specs.Lexemes.{seen, systemrdl}
 use Rattle.rdl_lexer.specs.Faults.{FailsLexically}
 use Rattle.rdl_parser.specs.declared.error.ParseError.{ParseError}
 use Rattle.rdl_parser.specs.declared.error.ParseError.TheVariants.{Lex, Syntax, TooDeep, NoMemory}
-use Rattle.rdl_depth.specs.Depth.{StaysWithin}
+use Rattle.rdl_lexer.specs.Depth.{StaysWithin}
 use Rattle.rdl_parser.specs.Judging.{IsGood, IsWrongAt, IsTooDeepAt}
 
 -- the text spells these tokens

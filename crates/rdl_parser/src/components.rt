@@ -3,8 +3,8 @@
 ghost use Rattle.std.specs.Prelude.{◌≡◌, ◌<◌, ◌*◌, ◌+◌, ℕ, Err, Some, None, true, false, List, [], ◌∷◌, length, IfOk, OnOk, MatchBool};
 ghost use Rattle.rb_grammar.specs.Forms.{Non, Opt, Many, ◌then◌, StopsAt};
 ghost use Rattle.rb_grammar.specs.Readings.{at, Same, Stops};
-ghost use Rattle.rb_base.specs.declared.keyword.Keyword as keyword;
-ghost use Rattle.rb_base.specs.declared.keyword.Keyword.TheVariants as words;
+ghost use Rattle.rdl_base.specs.declared.keyword.Keyword as keyword;
+ghost use Rattle.rdl_base.specs.declared.keyword.Keyword.TheVariants as words;
 ghost use Rattle.rdl_tree.specs.declared.token.Mark.TheVariants as marks;
 ghost use Rattle.rdl_tree.specs.declared.token.Terminal.TheVariants as terminals;
 ghost use Rattle.rdl_tree.specs.declared.token.Token as token;
@@ -18,8 +18,9 @@ use crate::instances::{inst_list, insts, params};
 use crate::properties::{enumeration, local, set, set_from};
 use bumpalo::Bump;
 use bumpalo::collections::into_bump_slice;
-use rb_base::{Keyword, Place};
+use rb_base::Place;
 use rb_grammar::Stop;
+use rdl_base::Keyword;
 use rdl_expressions::{Parser, Run, Sort, add};
 use rdl_tree::{Def, Insts, Item, Kind, Mark, Name, Terminal, TokenKind};
 

@@ -1,6 +1,7 @@
 //! Why a source has no tree.
 
-use rb_base::{Fault, Place, Rule};
+use rb_base::Place;
+use rdl_base::{Fault, Rule};
 use std::alloc::{AllocError, AllocFailed};
 use thiserror::Error;
 

@@ -14,8 +14,8 @@ ghost use Rattle.rdl_expressions.specs.Following.{Adds, after_indices, is_type};
 
 use bumpalo::Bump;
 use bumpalo::collections::into_bump_slice;
-use rb_base::Keyword;
 use rb_grammar::Stop;
+use rdl_base::Keyword;
 use rdl_expressions::{Parser, Run, Sort, add};
 use rdl_tree::{Arg, Expr, Inst, Insts, Mark, PType, Param};
 

@@ -3,7 +3,7 @@
 ghost use Rattle.std.specs.Prelude.{◌≡◌, ◌<◌, Err, Some, true, List, [], ◌∷◌, length, IfOk, OnOk, MatchOption};
 ghost use Rattle.rb_grammar.specs.Forms.{Non, Many, ◌then◌};
 ghost use Rattle.rb_grammar.specs.Readings.{Same, Stops};
-ghost use Rattle.rb_base.specs.declared.keyword.Keyword.TheVariants as words;
+ghost use Rattle.rdl_base.specs.declared.keyword.Keyword.TheVariants as words;
 ghost use Rattle.rdl_tree.specs.declared.token.Mark.TheVariants as marks;
 ghost use Rattle.rdl_tree.specs.declared.token.Token as token;
 ghost use Rattle.rdl_tree.specs.Grammar.{grammar, mark};
@@ -15,8 +15,9 @@ ghost use Rattle.rdl_expressions.specs.Following.{Adds, after_expr, is_edge};
 use crate::instances::behind;
 use bumpalo::Bump;
 use bumpalo::collections::into_bump_slice;
-use rb_base::{Edge, Keyword, Place};
+use rb_base::{Edge, Place};
 use rb_grammar::Stop;
+use rdl_base::Keyword;
 use rdl_expressions::{Parser, Run, Sort, add};
 use rdl_tree::{Entry, Given, Item, Mark, Name, Set};
 

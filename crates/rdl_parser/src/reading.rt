@@ -2,19 +2,19 @@
 
 ghost use Rattle.std.specs.Prelude.{◌≡◌, ◌≢◌, ◌-◌, ◌^◌, ◌<◌, ℕ, List, [], length, drop, IfOk, IfErr, OnOk};
 ghost use Rattle.rdl_tree.specs.Tree.{DerivesItems};
-ghost use Rattle.rdl_depth.specs.Depth.{StaysWithin, IsFirstTooDeep};
+ghost use Rattle.rdl_lexer.specs.Depth.{StaysWithin, IsFirstTooDeep};
 ghost use Rattle.rdl_parser.specs.Verdicts.{SpellsTokens, place_of, mark_rule, word_rule, rule_of, Reads, IsAccepted, HasError};
 ghost use Rattle.rdl_parser.specs.Stopping.{StopsThere, IsJudged};
 
-use crate::ParseError;
 use crate::components::source;
+use crate::error::ParseError;
 use bumpalo::Bump;
 use bumpalo::collections::into_bump_slice;
-use rb_base::{Keyword, Place, Rule};
+use rb_base::Place;
 use rb_grammar::Stop;
-use rdl_depth::{CompactToken, first_too_deep};
+use rdl_base::{Keyword, Rule};
 use rdl_expressions::Parser;
-use rdl_lexer::Lexer;
+use rdl_lexer::{CompactToken, Lexer, first_too_deep};
 use rdl_tree::{Item, Mark, Source, TokenKind};
 
 /// Why tokens are not read: these are left where they stop being a source, or memory was refused.

@@ -6,7 +6,7 @@ use Rattle.rdl_values.specs.Instances.{Instance, children}
 use Rattle.rdl_values.proofs.Numbered.{Deep, bottom, lower}
 use Rattle.rdl_layers.specs.Fields.{is_a}
 use Rattle.rdl_layers.specs.Phase4.{number_at}
-use Rattle.rdl_lineages.proofs.Members.{In, each-in, flat-in, in-flat, map-in}
+use Rattle.rdl_nodes.proofs.Members.{In, each-in, flat-in, in-flat, map-in}
 use Rattle.rdl_addr.specs.Answers.{is_filled}
 use Rattle.rdl_addr.specs.Layout.{Group, Mode, Placed, access_of, elements_from, end, greatest, greatest_end, group, groups, has_address, instances, mode_in, offsets, placed_from, size_of, span, starts, stride}
 use Rattle.rdl_addr.proofs.Covers.{members}

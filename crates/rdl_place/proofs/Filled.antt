@@ -1,13 +1,14 @@
 -- Nodes whose containers all hold registers.
 use Rattle.std.proofs.Common.{◌≡◌, ◌∙◌, ℕ, ◌&&◌, ◌||◌, inl, inr, Bool, true, false, not, List, [], ◌∷◌, refl, sym, ap, subst, arith}
 use Rattle.std.specs.List.{list_any}
+use Rattle.plain_lemmas.proofs.Bools.{false-of_not as not-true}
 use Rattle.rdl_tree.specs.declared.item.Kind.{Kind}
 use Rattle.rdl_tree.specs.declared.item.Kind.TheVariants as kind
 use Rattle.rdl_values.specs.Bodies.{Path, below_top, of_signal}
 use Rattle.rdl_values.specs.Instances.{Instance, children, kind_of, most_names, with_below}
 use Rattle.rdl_values.proofs.Numbered.{At, Deep, lower}
 use Rattle.rdl_layers.specs.Fields.{is_a, is_container}
-use Rattle.rdl_lineages.proofs.Members.{In, each-in, in-flat}
+use Rattle.rdl_nodes.proofs.Members.{In, each-in, in-flat}
 use Rattle.rdl_addr.specs.Answers.{is_filled}
 use Rattle.rdl_addr.specs.Layout.{has_address}
 use Rattle.rdl_addr.proofs.Covers.{address_by_kind, deep_enough}
@@ -42,10 +43,6 @@ child-deep n c d i = most-deep 30 c (each-in (Deep 30) (children n) c (lower 30 
 
 abbrev pub bare : Instance → Bool
 bare m = is_container m && not (list_any (is_a kind.Reg) (with_below most_names m))
-
-not-true : (b : Bool) → not b ≡ true → b ≡ false
-not-true false e = refl
-not-true true e = cc e
 
 pub below-child : (n c m : Instance) → Deep 31 c → In (children n) c → In (with_below most_names c) m → In (with_below most_names n) m
 below-child n c m d i h = inr (in-flat (with_below 31) (children n) c m i (subst (λ xs. In xs m) (deep_enough 31 c d) h))

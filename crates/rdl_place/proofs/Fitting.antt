@@ -6,12 +6,12 @@ use Rattle.rdl_tree.specs.declared.item.Kind.TheVariants as kind
 use Rattle.rdl_values.specs.Instances.{Instance, children, kind_of, most_names, with_below}
 use Rattle.rdl_values.proofs.Numbered.{Deep, bottom, lower}
 use Rattle.rdl_layers.specs.Fields.{is_a}
-use Rattle.rdl_lineages.proofs.Members.{In, each-in, flat-in, in-flat, in-map, map-in}
+use Rattle.rdl_nodes.proofs.Members.{In, each-in, flat-in, in-flat, in-map, map-in}
 use Rattle.rdl_addr.specs.Answers.{is_filled}
 use Rattle.rdl_addr.specs.Layout.{Mode, Placed, groups, has_address, mode_in, offsets, placed_from, size_of}
 use Rattle.rdl_addr.proofs.Covers as covers
 use Rattle.rdl_addr.proofs.Covers.{address_by_kind, members, offsets_of}
-use Rattle.rdl_registers.proofs.Filtered.{in-kept, kept-in, kept-passes}
+use Rattle.rdl_bits.proofs.Filtered.{in-kept, kept-in, kept-passes}
 use Rattle.rdl_place.proofs.Filled.{child-deep, contains, filled-child, filled-register}
 
 -- What stands in a node.

@@ -1,10 +1,11 @@
 -- Places, one after the other.
 use Rattle.std.proofs.Common.{◌≡◌, ◌∙◌, ℕ, zero, suc, ◌+◌, ◌<◌, ◌⊎◌, inl, inr, List, [], ◌∷◌, ◌++◌, length, sym, ap, refl, arith, length-append}
+use Rattle.plain_lemmas.proofs.Numbers.{below_next-same_or as split-next}
 use Rattle.rdl_addr.specs.Spots.{spot_at}
 use Rattle.rdl_addr.specs.declared.map.Spot.{Spot}
 use Rattle.rdl_sizes.specs.declared.known.Measure.{Measure}
 use Rattle.rdl_sizes.specs.Sized.{measure_at}
-use Rattle.rdl_spots.specs.Addresses.{address_at}
+use Rattle.rdl_sizes.specs.Addresses.{address_at}
 use Rattle.rdl_place.specs.Kept.{spot}
 
 -- those of the first nodes
@@ -22,9 +23,6 @@ before-end : (ss : List Spot) (s : Spot) (k : ℕ) → k < length ss → spot_at
 before-end [] s k l = absurd (omega (arith, l))
 before-end (x ∷ xs) s zero l = refl
 before-end (x ∷ xs) s (suc k) l = before-end xs s k (omega (arith, l))
-
-split-next : (k i : ℕ) → k < i + 1 → (k ≡ i) ⊎ (k < i)
-split-next k i l = grind (arith, l)
 
 pub no-spots : (as_ : List ℕ) (ms : List Measure) (ss : List Spot) → ss ≡ [] → AreFirst as_ ms 0 ss
 no-spots as_ ms ss none = record { many = ap length none; each = λ k l. absurd (omega (arith, l)) }

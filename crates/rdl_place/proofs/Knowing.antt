@@ -1,6 +1,6 @@
 -- What is known of a tree, from its tables.
 use Rattle.std.proofs.Common.{◌≡◌, ◌∙◌, ◌↔◌, ◌++◌, ℕ, List, length, Contains, sym, ap, subst}
-use Rattle.rb_base.specs.declared.fault.Fault.{Fault}
+use Rattle.rdl_base.specs.declared.fault.Fault.{Fault}
 use Rattle.rdl_tree.specs.declared.node.Elab.{Elab}
 use Rattle.rdl_values.specs.Elaboration.{IsClean}
 use Rattle.rdl_layers.specs.Answers.{IsSettled}
@@ -11,9 +11,9 @@ use Rattle.rdl_sizes.specs.Sized.{AreSizes}
 use Rattle.rdl_sizes.proofs.Facts.{nodes-many}
 use Rattle.rdl_bits.specs.declared.table.BitTable.{BitTable}
 use Rattle.rdl_bits.specs.Tabled.{AreBits}
-use Rattle.rdl_spots.specs.Addresses.{AreAddresses}
-use Rattle.rdl_registers.specs.Failing.{failures_of_addresses}
-use Rattle.rdl_collected.specs.Judged.{failures_of_bits, failures_of_bodies}
+use Rattle.rdl_sizes.specs.Addresses.{AreAddresses}
+use Rattle.rdl_bits.specs.Failing.{failures_of_addresses}
+use Rattle.rdl_bits.specs.Judged.{failures_of_bits, failures_of_bodies}
 use Rattle.rdl_place.specs.Kept.{AreSpots}
 use Rattle.rdl_place.specs.Known.{IsKnown}
 use Rattle.rdl_place.specs.declared.tables.Laid.{Laid}

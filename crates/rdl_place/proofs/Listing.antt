@@ -1,7 +1,7 @@
 -- The failures that were collected are those of the phase.
 use Rattle.std.proofs.Common.{◌≡◌, ◌∙◌, ◌↔◌, ◌==◌, inl, inr, ℕ, suc, true, false, length, List, [], ◌∷◌, ◌++◌, flat_map, filter, Contains, Some, refl, sym, ap, subst, arith}
 use Rattle.std.proofs.lemmas.Bool.Decides.{nat_tests}
-use Rattle.rb_base.specs.declared.fault.Fault.{Fault}
+use Rattle.rdl_base.specs.declared.fault.Fault.{Fault}
 use Rattle.rdl_tree.specs.declared.item.Kind.TheVariants as kind
 use Rattle.rdl_tree.specs.declared.node.Elab.{Elab}
 use Rattle.rdl_values.specs.Bodies.{standing}
@@ -11,12 +11,12 @@ use Rattle.rdl_values.specs.Instances.{top_of}
 use Rattle.rdl_values.specs.Verdict.{IsListOf}
 use Rattle.rdl_values.proofs.Sorted.{none_fails}
 use Rattle.rdl_layers.specs.Fields.{is_a}
-use Rattle.rdl_lineages.proofs.Members.{In, in-either, in-from, in-left, in-right, in-to}
+use Rattle.rdl_nodes.proofs.Members.{In, in-either, in-from, in-left, in-right, in-to}
 use Rattle.rdl_addr.specs.Answers.{IsPlaced, places_fail}
 use Rattle.rdl_addr.specs.Bits.{bits_of}
 use Rattle.rdl_addr.specs.Rules.{all_groups, failures_ab, misaligned, no_alignment, of_bits, overlaps, small_stride, too_large, too_many}
-use Rattle.rdl_registers.specs.Failing.{failures_of_addresses, registers_of}
-use Rattle.rdl_collected.specs.Judged.{failures_of_bits, failures_of_bodies}
+use Rattle.rdl_bits.specs.Failing.{failures_of_addresses, registers_of}
+use Rattle.rdl_bits.specs.Judged.{failures_of_bits, failures_of_bodies}
 
 either : {R : Type 0} (xs ys : List Fault) (f : Fault) → In (xs ++ ys) f → (In xs f → R) → (In ys f → R) → R
 either xs ys f h l r = elim (in-either xs ys f h) [ inl p ↦ l p | inr p ↦ r p ]

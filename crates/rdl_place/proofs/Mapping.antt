@@ -3,13 +3,14 @@ use Rattle.std.proofs.Common.{◌≡◌, ◌∙◌, ℕ, suc, ◌+◌, ◌-◌, 
 use Rattle.std.specs.List.{list_any}
 use Rattle.std.proofs.lemmas.Bool.Decides.{nat_tests}
 use denote.Enum.Bare.{same_true}
-use Rattle.rb_base.specs.declared.fault.Fault.{Fault}
-use Rattle.rb_base.specs.declared.rule.Rule.TheVariants as rules
+use Rattle.plain_lemmas.proofs.Numbers.{nat_lt-word_false as not-above}
+use Rattle.rdl_base.specs.declared.fault.Fault.{Fault}
+use Rattle.rdl_base.specs.declared.rule.Rule.TheVariants as rules
 use Rattle.rdl_tree.specs.contracts.item.Kind as of_kind
 use Rattle.rdl_tree.specs.declared.item.Kind.{Kind}
 use Rattle.rdl_tree.specs.declared.item.Kind.TheVariants as kind
 use Rattle.rdl_tree.specs.declared.node.Elab.{Elab}
-use Rattle.rdl_props.specs.Same.{same_kind}
+use Rattle.rdl_tree.specs.Kinds.{same_kind}
 use Rattle.rdl_props.specs.declared.prop.Prop.TheVariants as prop
 use Rattle.rdl_values.specs.Bodies.{standing, standing_from}
 use Rattle.rdl_values.specs.Elaborated.{nodes_of, top_name}
@@ -22,8 +23,8 @@ use Rattle.rdl_values.proofs.Numbered.{Deep}
 use Rattle.rdl_layers.specs.Answers.{IsSettled}
 use Rattle.rdl_layers.specs.Fields.{fields_of, is_a}
 use Rattle.rdl_layers.specs.Phase4.{bad_width, number_at, range_of, width_of}
-use Rattle.rdl_lineages.proofs.Members.{In, each-in, get-within, in-from, in-place, in-to, place-in}
-use Rattle.rdl_lineages.proofs.Order.{behind, shallow-at}
+use Rattle.rdl_nodes.proofs.Members.{In, each-in, get-within, in-from, in-place, in-to, place-in}
+use Rattle.rdl_nodes.proofs.Order.{behind, shallow-at}
 use Rattle.rdl_addr.specs.Answers.{AreBitsAt, HasAddressAt, IsAddressAt, IsFieldAt, IsPlaced, IsSizeAt, is_filled}
 use Rattle.rdl_addr.specs.Bits.{Bits, bits_from, bits_of}
 use Rattle.rdl_addr.specs.Bits as bits
@@ -40,10 +41,10 @@ use Rattle.rdl_sizes.proofs.Settled.{field-width, reg-regwidth}
 use Rattle.rdl_bits.specs.declared.table.BitTable.{BitTable}
 use Rattle.rdl_bits.specs.Tabled.{AreBits, IsBitsOf}
 use Rattle.rdl_bits.specs.Written as written
-use Rattle.rdl_spots.specs.Addresses.{AreAddresses, IsSpot, address_at}
-use Rattle.rdl_collected.proofs.Descending.{at-top, listed-down, top-placed}
-use Rattle.rdl_registers.specs.Failing.{registers_of}
-use Rattle.rdl_registers.proofs.Filtered.{in-kept, kept-in, kept-passes}
+use Rattle.rdl_sizes.specs.Addresses.{AreAddresses, IsSpot, address_at}
+use Rattle.rdl_bits.proofs.Descending.{at-top, listed-down, top-placed}
+use Rattle.rdl_bits.specs.Failing.{registers_of}
+use Rattle.rdl_bits.proofs.Filtered.{in-kept, kept-in, kept-passes}
 use Rattle.rdl_place.specs.Kept.{AreSpots, narrow, spot}
 use Rattle.rdl_place.proofs.Bounded.{IsLow, sized}
 use Rattle.rdl_place.proofs.Filled.{most-deep}
@@ -68,9 +69,6 @@ when-nil false f e = refl
 when-nil true f e = cc e
 
 -- Addresses.
-
-not-above : (n : ℕ) → nat_lt (2 ^ 32) n ≡ false → n ≤ 4294967296
-not-above n e = grind (arith, nat_tests)
 
 low-register : (e : Elab) → IsPlaced e → (p : Placed) → Contains (layout (Some (top_name e)) e.source.now) p → is_a kind.Reg p.node ≡ true → p.address + p.size ≤ 4294967296
 low-register e placed p among reg =

@@ -4,7 +4,7 @@ use Rattle.rdl_addr.specs.Spots.{spot_at}
 use Rattle.rdl_addr.specs.declared.map.Spot.{Spot}
 use Rattle.rdl_sizes.specs.declared.known.Measure.{Measure}
 use Rattle.rdl_sizes.specs.Sized.{measure_at}
-use Rattle.rdl_spots.specs.Addresses.{address_at}
+use Rattle.rdl_sizes.specs.Addresses.{address_at}
 
 -- a number of 64 bits, or 0
 abbrev pub narrow : ℕ → ℕ

@@ -1,6 +1,6 @@
 -- What is known of a tree before it is known whether a rule fails.
 use Rattle.std.specs.Prelude.{◌≡◌, ◌↔◌, ℕ, Some, Contains, length}
-use Rattle.rb_base.specs.declared.fault.Fault.{Fault}
+use Rattle.rdl_base.specs.declared.fault.Fault.{Fault}
 use Rattle.rdl_tree.specs.declared.node.Elab.{Elab}
 use Rattle.rdl_values.specs.Elaborated.{nodes_of, top_name}
 use Rattle.rdl_addr.specs.Answers.{AreBitsAt, HasAddressAt, IsAddressAt, IsFieldAt, IsPlaced, IsSizeAt}

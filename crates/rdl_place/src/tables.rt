@@ -6,15 +6,13 @@ ghost use Rattle.rdl_layers.specs.Answers.{IsSettled};
 ghost use Rattle.rdl_place.specs.Known.{IsKnown};
 
 use crate::spots::spots;
-use rb_base::{Fault, NoMemory};
+use rb_base::NoMemory;
 use rdl_addr::Spot;
-use rdl_bits::bit_table;
-use rdl_collected::{bits_are_judged, bodies_are_judged};
-use rdl_index::rows;
+use rdl_base::Fault;
+use rdl_bits::{address_faults, bit_table, bits_are_judged, bodies_are_judged};
 use rdl_layers::Props;
-use rdl_registers::address_faults;
-use rdl_sizes::sizes;
-use rdl_spots::addresses;
+use rdl_nodes::rows;
+use rdl_sizes::{addresses, sizes};
 use rdl_tree::Elab;
 use std::alloc::Global;
 

@@ -1,6 +1,7 @@
 -- What a body has, and what a name means there, apart from addresses.
 use Rattle.std.specs.Option.{option_or}
 use Rattle.std.proofs.Common.{◌≡◌, ℕ, cond, refl, ap, ◌∙◌, List, [], ◌∷◌, ◌++◌, map, Option, Some, None, option_map, Ok, Err}
+use Rattle.plain_lemmas.proofs.Bools.{cond-map as cond_map}
 use Rattle.rdl_tree.specs.declared.expr.Expr.{Expr}
 use Rattle.rdl_tree.specs.declared.expr.Name.{Name}
 use Rattle.rdl_tree.specs.declared.item.Def.{Def}
@@ -13,7 +14,7 @@ use Rattle.rdl_values.specs.Values.{Val, Around, Names, Outcome, nearest}
 use Rattle.rdl_values.specs.Views as view
 use Rattle.rdl_values.specs.Views.{ItemIs, item_is}
 use Rattle.rdl_plain_laws.specs.PlainInstances.{plain_view, plain_layer, plain_scope, plain_closure, plain_body}
-use Rattle.rdl_plain_laws.proofs.Lists.{map_id, both, standing_under, or_under, cond_map}
+use Rattle.rdl_plain_laws.proofs.Lists.{map_id, both, standing_under, or_under}
 use Rattle.rdl_plain_laws.proofs.Values.{item_is-plain, number-plain}
 
 pub around-plain : (s : Scope) → around (plain_scope s) ≡ around s

@@ -1,8 +1,8 @@
 -- Circles of references are those of the tree apart from addresses.
 use Rattle.std.proofs.Common.{◌≡◌, ℕ, zero, suc, refl, sym, ap, ◌∙◌, subst, List, [], ◌∷◌, map, Option, Some, None, option_map, slice_get, Contains}
 use Rattle.rb_base.specs.declared.place.Place.{Place}
-use Rattle.rb_base.specs.declared.rule.Rule.{Rule}
-use Rattle.rb_base.specs.declared.rule.Rule.TheVariants as rules
+use Rattle.rdl_base.specs.declared.rule.Rule.{Rule}
+use Rattle.rdl_base.specs.declared.rule.Rule.TheVariants as rules
 use Rattle.rdl_tree.specs.declared.item.Source.{Source}
 use Rattle.rdl_tree_laws.specs.Plain.{plain_source}
 use Rattle.rdl_values.specs.Faults.{at_}

@@ -3,6 +3,7 @@ use Rattle.std.specs.Option.{option_or, option_and_then}
 use Rattle.std.proofs.Common.{◌≡◌, ℕ, zero, suc, ◌&&◌, cond, refl, sym, ap, ◌∙◌, List, [], ◌∷◌, ◌++◌, map, flat_map, reverse, take, Option, Some, None, option_map, option_to_list, Ok, Err}
 use Rattle.std.proofs.lemmas.Grind.{reverse_onto}
 use Rattle.std.proofs.lemmas.List.{map-append, take-map}
+use Rattle.plain_lemmas.proofs.Bools.{cond-map as cond_map}
 use Rattle.rdl_tree.specs.declared.expr.Name.{Name}
 use Rattle.rdl_tree.specs.declared.item.Def.{Def}
 use Rattle.rdl_tree.specs.declared.item.Item.{Item}
@@ -21,7 +22,7 @@ use Rattle.rdl_values.specs.Uses.{Use, Seen, seen}
 use Rattle.rdl_values.specs.Values.{Outcome, nearest}
 use Rattle.rdl_values.specs.Views.{item_is}
 use Rattle.rdl_plain_laws.specs.PlainInstances.{plain_scope, plain_closure, plain_body, plain_use, plain_seen, plain_instance, plain_lineage}
-use Rattle.rdl_plain_laws.proofs.Lists.{map_to, flat_under, cond_map, list_of, both, standing_under, or_under}
+use Rattle.rdl_plain_laws.proofs.Lists.{map_to, flat_under, list_of, both, standing_under, or_under}
 use Rattle.rdl_plain_laws.proofs.Values.{item_is-plain}
 use Rattle.rdl_plain_laws.proofs.Bodies.{around-plain, names-plain, component_of-plain}
 use Rattle.rdl_plain_laws.proofs.Uses.{seen-plain, bound-plain, dims-plain, no_node-plain}

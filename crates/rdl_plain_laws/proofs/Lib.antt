@@ -1,18 +1,18 @@
-mod Lists
-mod Values
-mod Bodies
-mod Uses
-mod Instances
-pub mod Phase3
-mod Meanings
 mod Assignments
-mod Settings
+pub mod Blocks
+mod Bodies
+pub mod Circles
+mod Counted
 mod Fields
+mod Instances
+mod Lists
+mod Meaning
+mod Meanings
+pub mod Phase3
 pub mod Phase4
 mod Placing
-pub mod Rules
 pub mod References
-mod Counted
-mod Meaning
-pub mod Circles
-pub mod Blocks
+pub mod Rules
+mod Settings
+mod Uses
+mod Values

@@ -3,10 +3,10 @@ use Rattle.std.specs.Option.{option_and_then}
 use Rattle.std.specs.Prelude.{bytes_eq, codes}
 use Rattle.std.proofs.Common.{◌≡◌, Bool, true, false, cond, refl, sym, ap, ◌∙◌, List, flat_map, Option, Some, None, option_map, Ok, Err}
 use Rattle.rb_base.specs.declared.edge.Edge.{Edge}
-use Rattle.rb_base.specs.declared.keyword.Keyword.{Keyword}
+use Rattle.rdl_base.specs.declared.keyword.Keyword.{Keyword}
 use Rattle.rb_base.specs.declared.place.Place.{Place}
-use Rattle.rb_base.specs.declared.rule.Rule.{Rule}
-use Rattle.rb_base.specs.declared.rule.Rule.TheVariants as rules
+use Rattle.rdl_base.specs.declared.rule.Rule.{Rule}
+use Rattle.rdl_base.specs.declared.rule.Rule.TheVariants as rules
 use Rattle.rdl_tree.specs.declared.expr.Expr.{Expr, Ref}
 use Rattle.rdl_tree.specs.declared.expr.Name.{Name}
 use Rattle.rdl_tree.specs.declared.expr.Path.{Path}

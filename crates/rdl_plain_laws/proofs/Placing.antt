@@ -7,11 +7,12 @@ use Rattle.rdl_tree.specs.declared.item.Kind.TheVariants as kind
 use Rattle.rdl_tree.specs.declared.item.Source.{Source}
 use Rattle.rdl_tree_laws.specs.Plain.{plain_expr, plain_source}
 use Rattle.std.specs.Prelude.{option_map}
+use Rattle.plain_lemmas.proofs.Bools.{cond-map as cond_map}
 use Rattle.rdl_props.specs.declared.prop.Prop.TheVariants as prop
 use Rattle.rdl_values.specs.Instances.{Instance, given_by, seen_in, children, kind_of, top_of, most_names}
 use Rattle.rdl_values.specs.Uses.{Seen}
 use Rattle.rdl_plain_laws.specs.PlainInstances.{plain_seen, plain_instance}
-use Rattle.rdl_plain_laws.proofs.Lists.{map_id, map_to, flat_under, filter_under, cond_map}
+use Rattle.rdl_plain_laws.proofs.Lists.{map_id, map_to, flat_under, filter_under}
 use Rattle.rdl_plain_laws.proofs.Instances.{given-plain, seen_in-plain, children-plain, top-plain}
 use Rattle.rdl_layers.specs.Fields.{is_a, fields_of}
 use Rattle.rdl_layers.specs.Phase4.{range_of, first_or, width_of}

@@ -2,8 +2,9 @@
 use Rattle.std.specs.List.{list_any, position_or_len}
 use Rattle.std.proofs.Common.{◌≡◌, ℕ, ◌+◌, Bool, not, ◌&&◌, ◌||◌, cond, refl, sym, ap, ◌∙◌, List, [], ◌∷◌, ◌++◌, map, flat_map, filter, Option, Some, None, option_map}
 use Rattle.std.proofs.lemmas.List.{map-append, take-map}
-use Rattle.rb_base.specs.declared.fault.Fault.{Fault}
-use Rattle.rb_base.specs.declared.rule.Rule.TheVariants as rules
+use Rattle.plain_lemmas.proofs.Bools.{cond-map as cond_map}
+use Rattle.rdl_base.specs.declared.fault.Fault.{Fault}
+use Rattle.rdl_base.specs.declared.rule.Rule.TheVariants as rules
 use Rattle.rdl_tree.specs.declared.expr.Name.{Name}
 use Rattle.rdl_tree.specs.declared.expr.Path.{Path}
 use Rattle.rdl_tree.specs.declared.expr.Step.{Step}
@@ -22,7 +23,7 @@ use Rattle.rdl_values.specs.Lineages.{Lineage, child_of, children_in, lineages, 
 use Rattle.rdl_values.specs.Values.{Around}
 use Rattle.rdl_values.specs.Views.{steps_of}
 use Rattle.rdl_plain_laws.specs.PlainInstances.{plain_layer, plain_scope, plain_instance, plain_lineage}
-use Rattle.rdl_plain_laws.proofs.Lists.{map_to, flat_under, flat_same, filter_under, any_same, cond_map}
+use Rattle.rdl_plain_laws.proofs.Lists.{map_to, flat_under, flat_same, filter_under, any_same}
 use Rattle.rdl_plain_laws.proofs.Values.{steps-plain}
 use Rattle.rdl_plain_laws.proofs.Bodies.{around-plain}
 use Rattle.rdl_plain_laws.proofs.Uses.{empty-plain}

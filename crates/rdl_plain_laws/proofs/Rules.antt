@@ -2,8 +2,8 @@
 use Rattle.std.specs.List.{list_any}
 use Rattle.std.proofs.Common.{◌≡◌, ℕ, zero, suc, ◌/◌, ◌%◌, ◌==◌, nat_lt, nat_le, Bool, not, ◌&&◌, ◌||◌, cond, refl, ap, ◌∙◌, List, ◌∷◌, ◌++◌, map, flat_map, filter, length, Option}
 use Rattle.std.proofs.lemmas.List.{length-map}
-use Rattle.rb_base.specs.declared.fault.Fault.{Fault}
-use Rattle.rb_base.specs.declared.rule.Rule.TheVariants as rules
+use Rattle.rdl_base.specs.declared.fault.Fault.{Fault}
+use Rattle.rdl_base.specs.declared.rule.Rule.TheVariants as rules
 use Rattle.rdl_tree.specs.declared.item.Kind.TheVariants as kind
 use Rattle.rdl_tree.specs.declared.item.Source.{Source}
 use Rattle.rdl_tree_laws.specs.Plain.{plain_source}

@@ -2,8 +2,9 @@
 use Rattle.std.specs.List.{list_any}
 use Rattle.std.proofs.Common.{◌≡◌, ℕ, ◌+◌, Bool, not, ◌&&◌, cond, refl, sym, ap, ◌∙◌, List, [], ◌∷◌, ◌++◌, map, flat_map, filter, length, Option, Some, None, option_map, option_to_list, Ok, Err, is_some}
 use Rattle.std.proofs.lemmas.List.{map-append, length-map}
-use Rattle.rb_base.specs.declared.fault.Fault.{Fault}
-use Rattle.rb_base.specs.declared.rule.Rule.TheVariants as rules
+use Rattle.plain_lemmas.proofs.Bools.{cond-map as cond_map}
+use Rattle.rdl_base.specs.declared.fault.Fault.{Fault}
+use Rattle.rdl_base.specs.declared.rule.Rule.TheVariants as rules
 use Rattle.rdl_tree.specs.declared.expr.Expr.{Expr}
 use Rattle.rdl_tree.specs.declared.expr.Step.{Step}
 use Rattle.rdl_tree_laws.specs.Plain.{plain_expr, plain_step}
@@ -19,7 +20,7 @@ use Rattle.rdl_values.specs.Parts.{is_empty}
 use Rattle.rdl_values.specs.Uses.{Use}
 use Rattle.rdl_values.specs.Values.{Around, Outcome, number_of}
 use Rattle.rdl_plain_laws.specs.PlainInstances.{plain_scope, plain_body, plain_use, plain_instance}
-use Rattle.rdl_plain_laws.proofs.Lists.{map_id, flat_id, flat_under, flat_same, filter_under, find_under, any_same, cond_map, list_of, both, standing_under}
+use Rattle.rdl_plain_laws.proofs.Lists.{map_id, flat_id, flat_under, flat_same, filter_under, find_under, any_same, list_of, both, standing_under}
 use Rattle.rdl_plain_laws.proofs.Values.{number-plain}
 use Rattle.rdl_plain_laws.proofs.Bodies.{around-plain}
 use Rattle.rdl_plain_laws.proofs.Uses.{empty-plain}

@@ -4,9 +4,10 @@ use Rattle.std.specs.List.{list_any, find}
 use Rattle.std.specs.Option.{option_copied}
 use Rattle.std.proofs.Common.{◌≡◌, ℕ, nat_lt, Bool, not, ◌&&◌, ◌||◌, cond, refl, sym, ap, ◌∙◌, List, [], ◌∷◌, ◌++◌, map, flat_map, Option, Some, None, option_map, option_to_list, Ok, Err, is_some, is_none}
 use Rattle.std.proofs.lemmas.List.{map-append, length-map}
-use Rattle.rb_base.specs.declared.fault.Fault.{Fault}
+use Rattle.plain_lemmas.proofs.Bools.{cond-map as cond_map}
+use Rattle.rdl_base.specs.declared.fault.Fault.{Fault}
 use Rattle.rb_base.specs.declared.place.Place.{Place}
-use Rattle.rb_base.specs.declared.rule.Rule.TheVariants as rules
+use Rattle.rdl_base.specs.declared.rule.Rule.TheVariants as rules
 use Rattle.rdl_tree.specs.declared.expr.Expr.{Expr}
 use Rattle.rdl_tree.specs.declared.expr.Name.{Name}
 use Rattle.rdl_tree.specs.declared.item.Arg.{Arg}
@@ -27,7 +28,7 @@ use Rattle.rdl_values.specs.Values.{Around, Outcome, then, or_fails, as_type, nu
 use Rattle.rdl_values.specs.Views as view
 use Rattle.rdl_values.specs.Views.{ItemIs, item_is}
 use Rattle.rdl_plain_laws.specs.PlainInstances.{plain_view, plain_scope, plain_closure, plain_body, plain_form, plain_use, plain_seen}
-use Rattle.rdl_plain_laws.proofs.Lists.{map_to, flat_id, flat_under, flat_same, any_same, find_under, cond_map, list_of, both, standing_under}
+use Rattle.rdl_plain_laws.proofs.Lists.{map_to, flat_id, flat_under, flat_same, any_same, find_under, list_of, both, standing_under}
 use Rattle.rdl_plain_laws.proofs.Values.{item_is-plain, start-plain, value-plain, number-plain, values-plain}
 use Rattle.rdl_plain_laws.proofs.Bodies.{around-plain, component-plain}
 

@@ -1,6 +1,6 @@
 -- Expressions have the values that they have apart from addresses.
 use Rattle.std.proofs.Common.{◌≡◌, not, cond, refl, ap, ◌∙◌, List, [], ◌∷◌, map, Option, Some, None, option_map, Ok}
-use Rattle.rb_base.specs.declared.rule.Rule.TheVariants as rules
+use Rattle.rdl_base.specs.declared.rule.Rule.TheVariants as rules
 use Rattle.rdl_tree.specs.declared.expr.Expr.{Expr, Number, Flag, Str, Ref, EntryOf, Not', Binary', Pick'}
 use Rattle.rdl_tree.specs.declared.expr.Name.{Name}
 use Rattle.rdl_tree.specs.declared.expr.Path.{Path, Path', Row_of-Step, end_of-Step, more_of-Step, Row_of-Expr, end_of-Expr, more_of-Expr}

@@ -1,5 +1,5 @@
 pub mod PlainInstances
-pub mod PlainSettings
-pub mod PlainPlaces
 pub mod PlainItems
+pub mod PlainPlaces
 pub mod PlainRegisters
+pub mod PlainSettings

@@ -2,7 +2,7 @@
 
 ghost use Rattle.std.specs.Prelude.{◌≡◌, ◌↔◌, ℕ, List, Option};
 ghost use Rattle.rb_base.specs.declared.place.Place.{Place};
-ghost use Rattle.rb_base.specs.declared.rule.Rule.{Rule};
+ghost use Rattle.rdl_base.specs.declared.rule.Rule.{Rule};
 ghost use Rattle.rb_model.specs.declared.block.Block.{Block};
 ghost use Rattle.rdl_tree.specs.declared.item.Source.{Source};
 ghost use Rattle.rdl_tree_laws.specs.Plain.{plain_source};

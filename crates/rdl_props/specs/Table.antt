@@ -3,15 +3,16 @@ use Rattle.std.specs.Prelude.{ℕ, Bool, false, true, List, [], ◌∷◌, bytes
 use Rattle.std.specs.List.{list_any}
 use Rattle.rdl_props.specs.declared.prop.Prop.{Prop}
 use Rattle.rdl_props.specs.declared.prop.Prop.TheVariants as prop
-use Rattle.rdl_props.specs.declared.letter.Letter.{Letter}
-use Rattle.rdl_props.specs.declared.letter.Letter.TheVariants as letter
+use Rattle.rdl_props.specs.declared.groups.Group.{Group}
+use Rattle.rdl_props.specs.declared.groups.Group.TheVariants as groups
 use Rattle.rdl_props.specs.declared.form.Form.{Form}
 use Rattle.rdl_props.specs.declared.form.Form.TheVariants as form
-use Rattle.rdl_props.specs.Same.{same_kind, same_letter}
+use Rattle.rdl_tree.specs.Kinds.{same_kind}
+use Rattle.rdl_props.specs.Same.{same_group}
 use Rattle.rdl_tree.specs.declared.item.Kind.{Kind}
 use Rattle.rdl_tree.specs.declared.item.Kind.TheVariants as kind
-use Rattle.rb_base.specs.declared.keyword.Keyword.{Keyword}
-use Rattle.rb_base.specs.declared.keyword.Keyword.TheVariants as word
+use Rattle.rdl_base.specs.declared.keyword.Keyword.{Keyword}
+use Rattle.rdl_base.specs.declared.keyword.Keyword.TheVariants as word
 
 -- what a property is where nothing assigns it: nothing, a boolean, a number, a word, or a precedence, which is true for hw
 pub data Default : Type 0 where
@@ -27,10 +28,10 @@ pub record Row : Type 0 where
   pub on : List Kind
   pub takes : Form
   pub default : Default
-  pub group : Option Letter
+  pub group : Option Group
 
 -- the row with these parts
-abbrev pub entry : (name : List ℕ) (on : List Kind) → Form → Default → Option Letter → Row
+abbrev pub entry : (name : List ℕ) (on : List Kind) → Form → Default → Option Group → Row
 entry name on takes default group = record { name = name; on = on; takes = takes; default = default; group = group }
 
 -- every kind
@@ -58,31 +59,31 @@ row prop.Littleendian = entry (codes "littleendian") (only kind.Addrmap) form.Tr
 row prop.Regwidth = entry (codes "regwidth") (only kind.Reg) form.Number (number 32) None
 row prop.Accesswidth = entry (codes "accesswidth") (only kind.Reg) form.Number unset None
 row prop.Signalwidth = entry (codes "signalwidth") (only kind.Signal) form.Number (number 1) None
-row prop.Sync = entry (codes "sync") (only kind.Signal) form.Flag (flag true) (Some letter.A)
-row prop.Async = entry (codes "async") (only kind.Signal) form.Flag unset (Some letter.A)
-row prop.Activehigh = entry (codes "activehigh") (only kind.Signal) form.Flag (flag true) (Some letter.B)
-row prop.Activelow = entry (codes "activelow") (only kind.Signal) form.Flag unset (Some letter.B)
+row prop.Sync = entry (codes "sync") (only kind.Signal) form.Flag (flag true) (Some groups.Synchrony)
+row prop.Async = entry (codes "async") (only kind.Signal) form.Flag unset (Some groups.Synchrony)
+row prop.Activehigh = entry (codes "activehigh") (only kind.Signal) form.Flag (flag true) (Some groups.Activity)
+row prop.Activelow = entry (codes "activelow") (only kind.Signal) form.Flag unset (Some groups.Activity)
 row prop.FieldReset = entry (codes "field_reset") (only kind.Signal) form.Flag (flag false) None
 row prop.Fieldwidth = entry (codes "fieldwidth") (only kind.Field) form.Number (number 1) None
 row prop.Sw = entry (codes "sw") (only kind.Field) form.SwWord (named word.Rw) None
 row prop.Hw = entry (codes "hw") (only kind.Field) form.HwWord (named word.Rw) None
 row prop.Reset = entry (codes "reset") (only kind.Field) form.Number unset None
 row prop.Resetsignal = entry (codes "resetsignal") (only kind.Field) form.Refer unset None
-row prop.Onwrite = entry (codes "onwrite") (only kind.Field) form.WriteWord unset (Some letter.C)
-row prop.Woset = entry (codes "woset") (only kind.Field) form.Flag unset (Some letter.C)
-row prop.Woclr = entry (codes "woclr") (only kind.Field) form.Flag unset (Some letter.C)
-row prop.Onread = entry (codes "onread") (only kind.Field) form.ReadWord unset (Some letter.D)
-row prop.Rclr = entry (codes "rclr") (only kind.Field) form.Flag unset (Some letter.D)
-row prop.Rset = entry (codes "rset") (only kind.Field) form.Flag unset (Some letter.D)
-row prop.Swwe = entry (codes "swwe") (only kind.Field) form.FlagRefer unset (Some letter.E)
-row prop.Swwel = entry (codes "swwel") (only kind.Field) form.FlagRefer unset (Some letter.E)
-row prop.We = entry (codes "we") (only kind.Field) form.FlagRefer unset (Some letter.F)
-row prop.Wel = entry (codes "wel") (only kind.Field) form.FlagRefer unset (Some letter.F)
+row prop.Onwrite = entry (codes "onwrite") (only kind.Field) form.WriteWord unset (Some groups.OnWrite)
+row prop.Woset = entry (codes "woset") (only kind.Field) form.Flag unset (Some groups.OnWrite)
+row prop.Woclr = entry (codes "woclr") (only kind.Field) form.Flag unset (Some groups.OnWrite)
+row prop.Onread = entry (codes "onread") (only kind.Field) form.ReadWord unset (Some groups.OnRead)
+row prop.Rclr = entry (codes "rclr") (only kind.Field) form.Flag unset (Some groups.OnRead)
+row prop.Rset = entry (codes "rset") (only kind.Field) form.Flag unset (Some groups.OnRead)
+row prop.Swwe = entry (codes "swwe") (only kind.Field) form.FlagRefer unset (Some groups.SwEnable)
+row prop.Swwel = entry (codes "swwel") (only kind.Field) form.FlagRefer unset (Some groups.SwEnable)
+row prop.We = entry (codes "we") (only kind.Field) form.FlagRefer unset (Some groups.HwEnable)
+row prop.Wel = entry (codes "wel") (only kind.Field) form.FlagRefer unset (Some groups.HwEnable)
 row prop.Next = entry (codes "next") (only kind.Field) form.Refer unset None
 row prop.Hwset = entry (codes "hwset") (only kind.Field) form.FlagRefer unset None
 row prop.Hwclr = entry (codes "hwclr") (only kind.Field) form.FlagRefer unset None
-row prop.Hwenable = entry (codes "hwenable") (only kind.Field) form.Refer unset (Some letter.G)
-row prop.Hwmask = entry (codes "hwmask") (only kind.Field) form.Refer unset (Some letter.G)
+row prop.Hwenable = entry (codes "hwenable") (only kind.Field) form.Refer unset (Some groups.HwMask)
+row prop.Hwmask = entry (codes "hwmask") (only kind.Field) form.Refer unset (Some groups.HwMask)
 row prop.Anded = entry (codes "anded") (only kind.Field) form.Flag (flag false) None
 row prop.Ored = entry (codes "ored") (only kind.Field) form.Flag (flag false) None
 row prop.Xored = entry (codes "xored") (only kind.Field) form.Flag (flag false) None
@@ -95,21 +96,21 @@ row prop.Overflow = entry (codes "overflow") (only kind.Field) form.Flag (flag f
 row prop.Underflow = entry (codes "underflow") (only kind.Field) form.Flag (flag false) None
 row prop.Incr = entry (codes "incr") (only kind.Field) form.Refer unset None
 row prop.Decr = entry (codes "decr") (only kind.Field) form.Refer unset None
-row prop.Incrvalue = entry (codes "incrvalue") (only kind.Field) form.NumberRefer unset (Some letter.H)
-row prop.Incrwidth = entry (codes "incrwidth") (only kind.Field) form.Number unset (Some letter.H)
-row prop.Decrvalue = entry (codes "decrvalue") (only kind.Field) form.NumberRefer unset (Some letter.I)
-row prop.Decrwidth = entry (codes "decrwidth") (only kind.Field) form.Number unset (Some letter.I)
+row prop.Incrvalue = entry (codes "incrvalue") (only kind.Field) form.NumberRefer unset (Some groups.Incr)
+row prop.Incrwidth = entry (codes "incrwidth") (only kind.Field) form.Number unset (Some groups.Incr)
+row prop.Decrvalue = entry (codes "decrvalue") (only kind.Field) form.NumberRefer unset (Some groups.Decr)
+row prop.Decrwidth = entry (codes "decrwidth") (only kind.Field) form.Number unset (Some groups.Decr)
 row prop.Incrsaturate = entry (codes "incrsaturate") (only kind.Field) form.FlagNumberRefer unset None
 row prop.Decrsaturate = entry (codes "decrsaturate") (only kind.Field) form.FlagNumberRefer unset None
 row prop.Incrthreshold = entry (codes "incrthreshold") (only kind.Field) form.FlagNumberRefer unset None
 row prop.Decrthreshold = entry (codes "decrthreshold") (only kind.Field) form.FlagNumberRefer unset None
 row prop.Intr = entry (codes "intr") (only kind.Field) form.Intr unset None
-row prop.Sticky = entry (codes "sticky") (only kind.Field) form.Flag unset (Some letter.J)
-row prop.Stickybit = entry (codes "stickybit") (only kind.Field) form.Flag unset (Some letter.J)
-row prop.Enable = entry (codes "enable") (only kind.Field) form.Refer unset (Some letter.K)
-row prop.Mask = entry (codes "mask") (only kind.Field) form.Refer unset (Some letter.K)
-row prop.Haltenable = entry (codes "haltenable") (only kind.Field) form.Refer unset (Some letter.L)
-row prop.Haltmask = entry (codes "haltmask") (only kind.Field) form.Refer unset (Some letter.L)
+row prop.Sticky = entry (codes "sticky") (only kind.Field) form.Flag unset (Some groups.Stickiness)
+row prop.Stickybit = entry (codes "stickybit") (only kind.Field) form.Flag unset (Some groups.Stickiness)
+row prop.Enable = entry (codes "enable") (only kind.Field) form.Refer unset (Some groups.Enable)
+row prop.Mask = entry (codes "mask") (only kind.Field) form.Refer unset (Some groups.Enable)
+row prop.Haltenable = entry (codes "haltenable") (only kind.Field) form.Refer unset (Some groups.HaltEnable)
+row prop.Haltmask = entry (codes "haltmask") (only kind.Field) form.Refer unset (Some groups.HaltEnable)
 row prop.Encode = entry (codes "encode") (only kind.Field) form.EnumName unset None
 
 -- all of them, in the order of the table
@@ -144,15 +145,15 @@ abbrev pub is_legal : Prop → Kind → Bool
 is_legal p k = list_any (same_kind k) (row p).on
 
 -- its group, if any other property excludes it
-abbrev pub group_of : Prop → Option Letter
+abbrev pub group_of : Prop → Option Group
 group_of p = (row p).group
 
 -- they are members of one group
 abbrev pub share_group : Prop → Prop → Bool
 share_group p q = go (group_of p) (group_of q)
   where
-    go : Option Letter → Option Letter → Bool
-    go (Some a) (Some b) = same_letter a b
+    go : Option Group → Option Group → Bool
+    go (Some a) (Some b) = same_group a b
     go _ _ = false
 
 -- what it takes

@@ -3,13 +3,13 @@
 #![tactic(auto)]
 
 mod form;
-mod letter;
+mod groups;
 mod names;
 mod prop;
 mod table;
 
 pub use form::Form;
-pub use letter::Letter;
+pub use groups::Group;
 pub use names::{find, left_out};
 pub use prop::Prop;
 pub use table::{group, legal, takes};

@@ -2,8 +2,75 @@
 ghost use Rattle.std.specs.Prelude.{◌≡◌};
 ghost use Rattle.rdl_props.specs.Table.{find_prop, in_full as full_name, is_left_out};
 
-use crate::Prop;
-use crate::prop::PROPS;
+use crate::prop::Prop;
+use crate::table::name as name_of;
+
+// Every property, in the order of the table.
+static PROPS: [Prop; 63] = [
+    Prop::Name,
+    Prop::Desc,
+    Prop::DontTest,
+    Prop::DontCompare,
+    Prop::Addressing,
+    Prop::Lsb0,
+    Prop::Littleendian,
+    Prop::Regwidth,
+    Prop::Accesswidth,
+    Prop::Signalwidth,
+    Prop::Sync,
+    Prop::Async,
+    Prop::Activehigh,
+    Prop::Activelow,
+    Prop::FieldReset,
+    Prop::Fieldwidth,
+    Prop::Sw,
+    Prop::Hw,
+    Prop::Reset,
+    Prop::Resetsignal,
+    Prop::Onwrite,
+    Prop::Woset,
+    Prop::Woclr,
+    Prop::Onread,
+    Prop::Rclr,
+    Prop::Rset,
+    Prop::Swwe,
+    Prop::Swwel,
+    Prop::We,
+    Prop::Wel,
+    Prop::Next,
+    Prop::Hwset,
+    Prop::Hwclr,
+    Prop::Hwenable,
+    Prop::Hwmask,
+    Prop::Anded,
+    Prop::Ored,
+    Prop::Xored,
+    Prop::Swmod,
+    Prop::Swacc,
+    Prop::Singlepulse,
+    Prop::Precedence,
+    Prop::Counter,
+    Prop::Overflow,
+    Prop::Underflow,
+    Prop::Incr,
+    Prop::Decr,
+    Prop::Incrvalue,
+    Prop::Incrwidth,
+    Prop::Decrvalue,
+    Prop::Decrwidth,
+    Prop::Incrsaturate,
+    Prop::Decrsaturate,
+    Prop::Incrthreshold,
+    Prop::Decrthreshold,
+    Prop::Intr,
+    Prop::Sticky,
+    Prop::Stickybit,
+    Prop::Enable,
+    Prop::Mask,
+    Prop::Haltenable,
+    Prop::Haltmask,
+    Prop::Encode,
+];
 
 // The properties of the standard that this project doesn't read.
 static LEFT_OUT: [&str; 18] = [
@@ -50,7 +117,7 @@ pub fn find(text: &[u8]) -> Option<Prop>
     PROPS
         .iter()
         .copied()
-        .find(|prop| prop.name().as_bytes() == name)
+        .find(|prop| name_of(*prop).as_bytes() == name)
 }
 
 /// Whether this is the name of a property of SystemRDL 2.0 that this project leaves out.

@@ -1,1 +1,5 @@
-mod Meant
+mod Bodies
+mod Closed
+pub mod Items
+mod Marked
+pub mod NamedItems

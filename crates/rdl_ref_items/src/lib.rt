@@ -1,6 +1,13 @@
-//! The items of a block that settings name.
+//! Whether the items that settings name are there, and their numbers.
 #![tactic(auto)]
 
-mod item;
+mod aliased;
+mod fields;
+mod mark;
+mod missing;
+mod named;
 
-pub use item::ref_item;
+pub use aliased::is_in_alias;
+pub use mark::{Mark, marks};
+pub use missing::is_missing;
+pub use named::named_item;

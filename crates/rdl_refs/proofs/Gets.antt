@@ -1,5 +1,5 @@
 -- Elements of lists by their places.
-use Rattle.std.proofs.Common.{◌≡◌, ◌∙◌, ℕ, zero, suc, ◌+◌, ◌<◌, ◌⊎◌, inl, inr, true, false, Option, None, Some, is_some, option_map, Result, Ok, Err, IfOk, Vec, Global, List, [], ◌∷◌, ◌++◌, length, get_or, slice_get, map, drop, Contains, refl, sym, ap, arith}
+use Rattle.std.proofs.Common.{◌≡◌, ◌∙◌, ℕ, zero, suc, ◌+◌, ◌<◌, ◌⊎◌, inl, inr, true, Option, None, Some, is_some, Vec, Global, List, [], ◌∷◌, ◌++◌, length, get_or, slice_get, map, drop, Contains, refl, sym, ap, arith}
 use Rattle.std.specs.Option.{unwrap_or}
 use Rattle.topological_order.specs.Levels.{lists}
 use Rattle.topological_order.specs.Waiting.{list_at}
@@ -46,11 +46,6 @@ module _ {X : Type 0} where
   pub at-has : (xs : List X) (x : X) → Contains xs x → (i : ℕ) × (slice_get xs i ≡ Some x)
   at-has xs x (i, l, e) = (i, get-at xs i x l ∙ ap Some e)
 
-pub get-map : {X Y : Type 0} (f : X → Y) (xs : List X) (i : ℕ) → slice_get (map f xs) i ≡ option_map f (slice_get xs i)
-get-map f [] i = refl
-get-map f (x ∷ xs) zero = refl
-get-map f (x ∷ xs) (suc i) = get-map f xs i
-
 pub get-mapped : {X Y : Type 0} (f : X → Y) (xs : List X) (i : ℕ) (y : Y) → slice_get (map f xs) i ≡ Some y → (x : X) × (slice_get xs i ≡ Some x) × (y ≡ f x)
 get-mapped f [] i y h = cc h
 get-mapped f (x ∷ xs) zero y h = (x, refl, cc)
@@ -66,10 +61,6 @@ any-default [] i d e l = absurd (omega (arith, l))
 any-default (x ∷ xs) zero d e l = refl
 any-default (x ∷ xs) (suc i) d e l = any-default xs i d e (omega (arith, l))
 
-pub none-from : {X : Type 0} (o : Option X) → is_some o ≡ false → o ≡ None
-none-from None h = refl
-none-from (Some x) h = cc h
-
 pub some-from : {X : Type 0} (o : Option X) (d : X) → is_some o ≡ true → o ≡ Some (unwrap_or o d)
 some-from None d h = cc h
 some-from (Some x) d h = refl
@@ -82,8 +73,3 @@ pub list-at : {X : Type 0} (vs : List (Vec X Global)) (i : ℕ) (d : Vec X Globa
 list-at [] i d l = absurd (omega (arith, l))
 list-at (x ∷ xs) zero d l = refl
 list-at (x ∷ xs) (suc i) d l = list-at xs i d (omega (arith, l))
-
--- what holds on success holds in a weaker form
-pub if-ok : {T E : Type 0} (r : Result T E) (P Q : T → Type 0) → ((x : T) → P x → Q x) → IfOk r P → IfOk r Q
-if-ok (Ok x) P Q f h = f x h
-if-ok (Err e) P Q f h = h

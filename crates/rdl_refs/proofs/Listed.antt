@@ -1,5 +1,6 @@
 -- Only the properties that take references can hold one.
 use Rattle.std.proofs.Common.{◌≡◌, ◌∙◌, ℕ, Bool, true, false, cond, List, [], ◌∷◌, ◌++◌, flat_map, filter, Option, refl, sym, ap}
+use Rattle.plain_lemmas.proofs.Lists.{flat_map-alike as each_same}
 use Rattle.rb_base.specs.declared.place.Place.{Place}
 use Rattle.rdl_tree.specs.declared.expr.Name.{Name}
 use Rattle.rdl_tree.specs.declared.expr.Path.{Path}
@@ -21,10 +22,6 @@ kept f t (x ∷ xs) h = go (t x) refl (kept f t xs h)
     go : (b : Bool) → t x ≡ b → flat_map f (filter t xs) ≡ flat_map f xs → flat_map f (cond b (x ∷ filter t xs) (filter t xs)) ≡ f x ++ flat_map f xs
     go true e k = ap (λ ys. f x ++ ys) k
     go false e k = k ∙ sym (ap (λ ys. ys ++ flat_map f xs) (h x e))
-
-pub each_same : {X Y : Type 0} (f g : X → List Y) (xs : List X) → ((x : X) → f x ≡ g x) → flat_map f xs ≡ flat_map g xs
-each_same f g [] h = refl
-each_same f g (x ∷ xs) h = ap (λ ys. ys ++ flat_map f xs) (h x) ∙ ap (λ ys. g x ++ ys) (each_same f g xs h)
 
 abbrev pub NeverReference : Meaning → Type 0
 NeverReference m = (q : Path) (item : Option Name) (scope : Scope) (place : Place) → m ≡ reference q item scope place → ⊥

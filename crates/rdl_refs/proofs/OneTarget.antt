@@ -1,8 +1,9 @@
 -- A reference leads to one node at most.
-use Rattle.std.proofs.Common.{◌≡◌, ◌∙◌, ◌⊎◌, inl, inr, ℕ, ◌≤◌, Bool, true, false, ◌&&◌, cond, List, [], ◌∷◌, ◌++◌, length, map, filter, flat_map, bytes_eq, Option, None, Some, option_to_list, Ok, Err, refl, sym, ap, subst, arith, append-nil}
-use Rattle.std.specs.Cmp.Lexicographic.{bytes_decides}
+use Rattle.std.proofs.Common.{◌≡◌, ◌∙◌, ◌⊎◌, inl, inr, ℕ, ◌≤◌, Bool, true, false, cond, List, [], ◌∷◌, ◌++◌, length, map, filter, flat_map, bytes_eq, Option, None, Some, option_to_list, Ok, Err, refl, sym, ap, subst, arith, append-nil}
 use Rattle.std.specs.List.{AllByRecursion}
 use Rattle.std.proofs.lemmas.List.{map-append}
+use Rattle.plain_lemmas.proofs.Lists.{bytes_eq-same as same_bytes, each-both as both, each-filter, filter-each as passing}
+use Rattle.plain_lemmas.proofs.Bools.{and-both as both_true}
 use Rattle.rdl_tree.specs.declared.expr.Name.{Name}
 use Rattle.rdl_tree.specs.declared.expr.Step as tree
 use Rattle.rdl_tree.specs.declared.item.Kind.{Kind}
@@ -23,7 +24,7 @@ use Rattle.rdl_values.specs.Values.{Around, Outcome}
 use Rattle.rdl_values.specs.Views.{steps_of}
 use Rattle.rdl_values.proofs.Given.{each-append, each-flat_map, each-imp, IsChildOf, IsAtRoot, children-given, signals-given, tops-given, held}
 use Rattle.rdl_values.proofs.Numbered.{bottom, At}
-use Rattle.rdl_nodes.proofs.Apart.{Apart, both, apart-imp}
+use Rattle.rdl_nodes.proofs.Apart.{Apart, apart-imp}
 use Rattle.rdl_nodes.proofs.Lineages.{all_nodes}
 use Rattle.rdl_nodes.proofs.Paths.{Differ, IsChild, IsUnder, nodes_apart, children_apart, are_children, under}
 use Rattle.rdl_layers.specs.Assignments.{same_step, same_steps, same_path, is_index, is_step_exactly, led_down}
@@ -45,22 +46,6 @@ at_most_length [] h = omega arith
 at_most_length (x ∷ []) h = omega arith
 at_most_length (x ∷ y ∷ xs) h = absurd h
 
-passing : {X : Type 0} (f : X → Bool) (xs : List X) → AllByRecursion (λ x. f x ≡ true) (filter f xs)
-passing f [] = tt
-passing f (x ∷ xs) = go (f x) refl (passing f xs)
-  where
-    go : (b : Bool) → f x ≡ b → AllByRecursion (λ x. f x ≡ true) (filter f xs) → AllByRecursion (λ x. f x ≡ true) (cond b (x ∷ filter f xs) (filter f xs))
-    go true e h = (e, h)
-    go false e h = h
-
-each-filter : {X : Type 0} (P : X → Type 0) (f : X → Bool) (xs : List X) → AllByRecursion P xs → AllByRecursion P (filter f xs)
-each-filter P f [] h = tt
-each-filter P f (x ∷ xs) h = go (f x) (each-filter P f xs h.1)
-  where
-    go : (b : Bool) → AllByRecursion P (filter f xs) → AllByRecursion P (cond b (x ∷ filter f xs) (filter f xs))
-    go true k = (h.0, k)
-    go false k = k
-
 apart-filter : {X : Type 0} (R : X → X → Type 0) (f : X → Bool) (xs : List X) → Apart R xs → Apart R (filter f xs)
 apart-filter R f [] h = tt
 apart-filter R f (x ∷ xs) h = go (f x) (apart-filter R f xs h.1)
@@ -77,14 +62,7 @@ one_passes {X = X} R f xs h never = by (filter f xs) (apart-filter R f xs h) (pa
     by (x ∷ []) a p = tt
     by (x ∷ y ∷ ys) a p = never x y p.0 p.1.0 a.0.0
 
-both_true : (a b : Bool) → a && b ≡ true → (a ≡ true) × (b ≡ true)
-both_true true b e = (refl, e)
-both_true false b e = cc
-
 -- The same path.
-
-same_bytes : (xs ys : List ℕ) → bytes_eq xs ys ≡ true → xs ≡ ys
-same_bytes xs ys e = (bytes_decides xs ys).0 e
 
 equal_step : (s t : bodies.Step) → s.name ≡ t.name → s.index ≡ t.index → s ≡ t
 equal_step s t e g i = record { name = e i; index = g i }

@@ -2,9 +2,9 @@
 use Rattle.std.specs.List.{All, AllByRecursion, IsDistinct, remove}
 use Rattle.std.proofs.Common.{◌≡◌, ◌∙◌, ℕ, zero, suc, ◌^◌, ◌<◌, inl, inr, false, eqb, Option, Some, List, [], ◌∷◌, ◌++◌, length, get_or, slice_get, Contains, IsPermutation, refl, sym, ap, arith}
 use Rattle.std.proofs.lemmas.Bool.{cases_eq, eq-eqb, ne_eqb}
-use Rattle.std.proofs.lemmas.Bool.Decides.{nat_tests}
 use Rattle.std.proofs.lemmas.List.Sorted.{Contains-permutation, IsPermutation-refl, IsPermutation-sym, IsPermutation-trans, IsPermutation-cons, IsPermutation-to_front, IsPermutation-remove}
 use Rattle.std.proofs.lemmas.Map.Keys.{IsDistinct-from_apart, IsDistinct-head, IsDistinct-tail, IsDistinct-IsPermutation}
+use Rattle.plain_lemmas.proofs.Numbers.{eqb-swap as eqb-flips}
 use Rattle.topological_order.specs.Levels.{AreLevels, rank_at}
 use Rattle.rdl_values.specs.Instances.{upto}
 use Rattle.rdl_refs.specs.Graph.{Edges, IsOrder}
@@ -13,9 +13,6 @@ use Rattle.rdl_refs.proofs.Gets.{get-at, get-within, get-value, has-at, at-has, 
 use Rattle.rdl_refs.proofs.Ending.{falls}
 
 -- Different numbers that are all below one are these numbers in another order.
-
-eqb-flips : (m n : ℕ) → eqb m n ≡ eqb n m
-eqb-flips m n = grind (arith, nat_tests)
 
 head-differs : (n : ℕ) (xs : List ℕ) → AllByRecursion (λ y. eqb n y ≡ false) xs → (i x : ℕ) → slice_get xs i ≡ Some x → x ≡ n → ⊥
 head-differs n [] h i x e s = cc e

@@ -1,9 +1,10 @@
 -- The failures of R7, from the things without a rank.
 use Rattle.std.proofs.Common.{◌≡◌, ◌∙◌, ◌↔◌, ℕ, suc, ◌+◌, inl, inr, Option, None, Some, option_map, List, [], ◌∷◌, ◌++◌, length, slice_get, map, Contains, refl, sym, ap, arith}
 use Rattle.std.proofs.lemmas.Bool.{cases_eq}
-use Rattle.rb_base.specs.declared.fault.Fault.{Fault}
+use Rattle.plain_lemmas.proofs.Lists.{get-map}
+use Rattle.rdl_base.specs.declared.fault.Fault.{Fault}
 use Rattle.rb_base.specs.declared.place.Place.{Place}
-use Rattle.rb_base.specs.declared.rule.Rule.TheVariants as rules
+use Rattle.rdl_base.specs.declared.rule.Rule.TheVariants as rules
 use Rattle.topological_order.specs.Levels.{AreLevels, AreWithin, rank_at}
 use Rattle.rdl_values.specs.Faults.{at_}
 use Rattle.rdl_values.specs.Lineages.{Lineage}
@@ -12,7 +13,7 @@ use Rattle.rdl_refs.specs.Follows.{FailsR7, edges_of, refers_to, item_number}
 use Rattle.rdl_refs.specs.Items.{Item, items}
 use Rattle.rdl_refs.specs.Walk.{AreUnordered}
 use Rattle.rdl_refs.proofs.Ending.{unranked-goes-on, for-ever-unranked}
-use Rattle.rdl_refs.proofs.Gets.{at-has, get-last, get-front, get-mapped, get-map, get-pushed, get-within, has-at}
+use Rattle.rdl_refs.proofs.Gets.{at-has, get-last, get-front, get-mapped, get-pushed, get-within, has-at}
 
 -- Collected.
 

@@ -1,7 +1,7 @@
 -- What the calls of this crate answer.
 use Rattle.std.specs.Prelude.{◌≡◌, ℕ, List, [], ◌∷◌, Option, None, Some, Result, Ok, Err, slice_get}
-use Rattle.rb_base.specs.declared.fault.Fault.{Fault}
-use Rattle.rb_base.specs.declared.rule.Rule.TheVariants as rules
+use Rattle.rdl_base.specs.declared.fault.Fault.{Fault}
+use Rattle.rdl_base.specs.declared.rule.Rule.TheVariants as rules
 use Rattle.rdl_props.specs.declared.prop.Prop.{Prop}
 use Rattle.rdl_tree.specs.declared.node.Elab.{Elab}
 use Rattle.rdl_values.specs.Elaborated.{top_name, nodes_of}
@@ -9,8 +9,8 @@ use Rattle.rdl_values.specs.Instances.{Instance}
 use Rattle.rdl_values.specs.Lineages.{Lineage, lineages_of}
 use Rattle.rdl_values.specs.Verdict.{Fails, IsListOf, IsRefusal}
 use Rattle.rdl_layers.specs.Settings.{setting}
-use Rattle.rdl_refs.specs.declared.error.RefError.{RefError}
-use Rattle.rdl_refs.specs.declared.error.RefError.TheVariants as error
+use Rattle.rdl_failures.specs.declared.error.PhaseError.{PhaseError}
+use Rattle.rdl_failures.specs.declared.error.PhaseError.TheVariants as error
 use Rattle.rdl_refs.specs.declared.circle.OrderError.{OrderError}
 use Rattle.rdl_refs.specs.declared.circle.OrderError.TheVariants as circle
 use Rattle.rdl_refs.specs.declared.item.ItemOf.{ItemOf}
@@ -28,7 +28,7 @@ IsBound e = IsListOf (references_fail e) []
 
 -- `bind`: the references of the tree where each leads to an item, else the list of all failures. Want of memory may be answered
 -- anywhere. References are seen as the tree that they are of.
-abbrev pub AnswersR : Elab → Result Elab RefError → Type 0
+abbrev pub AnswersR : Elab → Result Elab PhaseError → Type 0
 AnswersR e (Ok of) = IsBound e × (of ≡ e)
 AnswersR e (Err (error.Faults list)) = IsRefusal (references_fail e) list.items
 AnswersR e (Err error.NoMemory) = Unit {0}

@@ -1,8 +1,8 @@
 -- What a reference may mean: a field, a signal, or an item of a field or register (SystemRDL 2.0, 9.4 to 9.10).
 use Rattle.std.specs.Prelude.{ℕ, Bool, true, false, not, ◌&&◌, ◌||◌, cond, ◌==◌, List, [], ◌∷◌, ◌++◌, bytes_eq, map, flat_map, Option, None, Some, option_to_list, Contains, codes}
 use Rattle.std.specs.List.{list_any}
-use Rattle.rb_base.specs.declared.fault.Fault.{Fault}
-use Rattle.rb_base.specs.declared.rule.Rule.TheVariants as rules
+use Rattle.rdl_base.specs.declared.fault.Fault.{Fault}
+use Rattle.rdl_base.specs.declared.rule.Rule.TheVariants as rules
 use Rattle.rdl_tree.specs.declared.expr.Name.{Name}
 use Rattle.rdl_tree.specs.declared.item.Kind.{Kind}
 use Rattle.rdl_tree.specs.declared.item.Kind.TheVariants as kind

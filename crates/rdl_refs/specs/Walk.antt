@@ -1,8 +1,8 @@
 -- Following references from a thing without a rank.
 use Rattle.std.specs.Prelude.{◌≡◌, ℕ, suc, ◌<◌, Option, None, Some, is_some, List, length, count_by, slice_get, Contains, ◌↔◌}
-use Rattle.rb_base.specs.declared.fault.Fault.{Fault}
+use Rattle.rdl_base.specs.declared.fault.Fault.{Fault}
 use Rattle.rb_base.specs.declared.place.Place.{Place}
-use Rattle.rb_base.specs.declared.rule.Rule.TheVariants as rules
+use Rattle.rdl_base.specs.declared.rule.Rule.TheVariants as rules
 use Rattle.topological_order.specs.Levels.{rank_at}
 use Rattle.rdl_refs.specs.Graph.{Edges, Refers}
 

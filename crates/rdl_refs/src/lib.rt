@@ -2,7 +2,6 @@
 #![tactic(auto)]
 
 mod circle;
-mod error;
 mod graph;
 mod item;
 mod laws;
@@ -10,7 +9,6 @@ mod ordering;
 mod refs;
 
 pub use circle::OrderError;
-pub use error::RefError;
 pub use item::{ItemOf, What};
 pub use laws::{all_references, circles_go_on, one_target};
 pub use ordering::{circling, order};

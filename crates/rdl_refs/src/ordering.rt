@@ -4,10 +4,12 @@ ghost use Rattle.std.specs.Prelude.{◌≡◌, Err, IfOk, MatchResult, Ok, lengt
 ghost use Rattle.rdl_refs.specs.Answers.{AreCircling, Orders};
 ghost use Rattle.rdl_refs.specs.Walk.{AreUnordered};
 
+use crate::circle::OrderError;
 use crate::graph::{circle_from, numbers, unranked};
-use crate::{OrderError, Refs};
-use rb_base::{Fault, NoMemory, Place, Rule};
-use rdl_faults::listed;
+use crate::refs::Refs;
+use rb_base::{NoMemory, Place};
+use rdl_base::{Fault, Rule};
+use rdl_failures::listed;
 use std::alloc::Global;
 use topological_order::levelize;
 

@@ -11,7 +11,7 @@ ghost use Rattle.rdl_refs.specs.Items.{items};
 ghost use Rattle.rdl_refs.specs.Items.{items as items_of};
 ghost use Rattle.rdl_refs.specs.Tables.{item_at};
 
-use crate::ItemOf;
+use crate::item::ItemOf;
 use rb_base::Place;
 use rdl_props::Prop;
 use rdl_tree::Elab;

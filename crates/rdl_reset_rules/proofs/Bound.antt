@@ -1,9 +1,10 @@
 -- Where references lead to items, a resetsignal names a signal.
-use Rattle.std.proofs.Common.{◌≡◌, ◌∙◌, inl, inr, ℕ, Bool, true, false, not, ◌&&◌, ◌||◌, List, [], ◌∷◌, ◌++◌, flat_map, slice_get, Option, Some, refl, sym, ap, subst}
+use Rattle.std.proofs.Common.{◌≡◌, ◌∙◌, inl, inr, ℕ, Bool, true, false, not, ◌&&◌, List, [], ◌∷◌, ◌++◌, flat_map, slice_get, Option, Some, refl, sym, ap, subst}
 use Rattle.std.specs.List.{list_any}
-use Rattle.rb_base.specs.declared.fault.Fault.{Fault}
+use Rattle.plain_lemmas.proofs.Bools.{or-false, true-of_not as not-false}
+use Rattle.rdl_base.specs.declared.fault.Fault.{Fault}
 use Rattle.rb_base.specs.declared.place.Place.{Place}
-use Rattle.rb_base.specs.declared.rule.Rule.TheVariants as rules
+use Rattle.rdl_base.specs.declared.rule.Rule.TheVariants as rules
 use Rattle.rdl_tree.specs.declared.expr.Name.{Name}
 use Rattle.rdl_tree.specs.declared.item.Kind.TheVariants as kinds
 use Rattle.rdl_tree.specs.declared.node.Elab.{Elab}
@@ -20,7 +21,7 @@ use Rattle.rdl_layers.specs.Settings.{Meaning, enum_of, flag, hard, intr, named,
 use Rattle.rdl_refs.specs.Answers.{IsBound}
 use Rattle.rdl_refs.specs.Items.{Item, bad_reference, failures_r, is_wanted, item_named, target}
 use Rattle.rdl_refs.specs.Leads.{led_to}
-use Rattle.rdl_lineages.proofs.Members.{In, place-in}
+use Rattle.rdl_nodes.proofs.Members.{In, place-in}
 
 left-nil : (xs ys : List Fault) → xs ++ ys ≡ [] → xs ≡ []
 left-nil [] ys e = refl
@@ -38,14 +39,6 @@ flat-nil f (y ∷ ys) x e (inr h) = flat-nil f ys x (right-nil (f y) (flat_map f
 when-nil : (b : Bool) (f : Fault) → when b f ≡ [] → b ≡ false
 when-nil true f e = cc e
 when-nil false f e = refl
-
-not-false : (b : Bool) → not b ≡ false → b ≡ true
-not-false true e = refl
-not-false false e = cc e
-
-or-false : (b : Bool) → (b || false) ≡ b
-or-false true = refl
-or-false false = refl
 
 wanted : (ls : List Lineage) (item : Option Name) (i : Item) (place : Place) → flat_map (item_named item) ls ≡ i ∷ []
     → when (is_empty ls) (at_ rules.R1 place) ++ when (not (is_empty ls) && not (list_any (is_wanted prop.Resetsignal) (flat_map (item_named item) ls))) (at_ rules.R2 place) ≡ [] → is_a kinds.Signal i.node ≡ true

@@ -1,2 +1,5 @@
 pub mod Bound
+pub mod Items
+mod Nearing
 pub mod Said
+mod Turns

@@ -5,7 +5,7 @@ use Rattle.std.proofs.lemmas.Grind.{flat_map-append}
 use Rattle.std.proofs.lemmas.List.{take_more}
 use Rattle.std.proofs.lemmas.List.Folds.{list_any_more}
 use denote.Enum.Bare.{same_true}
-use Rattle.rb_base.specs.declared.fault.Fault.{Fault}
+use Rattle.rdl_base.specs.declared.fault.Fault.{Fault}
 use Rattle.rdl_tree.specs.contracts.item.Kind as of_kind
 use Rattle.rdl_tree.specs.declared.item.Kind.TheVariants as kinds
 use Rattle.rdl_tree.specs.declared.node.Elab.{Elab}
@@ -14,15 +14,15 @@ use Rattle.rdl_props.specs.declared.prop.Prop.TheVariants as prop
 use Rattle.rdl_values.specs.Bodies.{standing}
 use Rattle.rdl_values.specs.Instances.{Instance, kind_of}
 use Rattle.rdl_values.specs.Parts.{is_unit}
-use Rattle.rdl_judging.specs.Noted.{with_all}
-use Rattle.rdl_judging.proofs.Noting.{standing-push}
-use Rattle.rdl_judging.proofs.Sets.{with_all-append}
+use Rattle.rdl_failures.specs.Noted.{with_all}
+use Rattle.rdl_failures.proofs.Noting.{standing-push}
+use Rattle.rdl_failures.proofs.Sets.{with_all-append}
 use Rattle.rdl_layers.specs.Fields.{has, is_a}
 use Rattle.rdl_layers.specs.Phase4.{width_of}
-use Rattle.rdl_facts.specs.declared.Fact.{Fact}
-use Rattle.rdl_facts.specs.Facts.{AreFacts, fact_at}
+use Rattle.rdl_rules.specs.declared.fact.Fact.{Fact}
+use Rattle.rdl_rules.specs.Facts.{AreFacts, fact_at}
 use Rattle.rdl_rules.specs.Fields.{is_field_reset}
-use Rattle.rdl_lineages.proofs.Members.{get-read, get-within}
+use Rattle.rdl_nodes.proofs.Members.{get-read, get-within}
 use Rattle.rdl_reset_rules.specs.Said.{AreSaid, IsSaid}
 
 pub said-at : (e : Elab) (rs : List Node) (ns : List Instance) → AreSaid e rs ns → (i : ℕ) (r : Node) → slice_get rs i ≡ Some r → (n : Instance) × (slice_get ns i ≡ Some n) × IsSaid e r n

@@ -1,1 +1,4 @@
+pub mod Judged
+pub mod Known
+pub mod Nearest
 pub mod Said

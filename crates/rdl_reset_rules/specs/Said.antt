@@ -1,7 +1,7 @@
 -- Nodes and the instances that they say, and the parts of R6.
 use Rattle.std.specs.Prelude.{◌≡◌, not, ◌&&◌, ◌==◌, List, [], ◌∷◌, Some, flat_map, slice_get}
-use Rattle.rb_base.specs.declared.fault.Fault.{Fault}
-use Rattle.rb_base.specs.declared.rule.Rule.TheVariants as rules
+use Rattle.rdl_base.specs.declared.fault.Fault.{Fault}
+use Rattle.rdl_base.specs.declared.rule.Rule.TheVariants as rules
 use Rattle.rdl_tree.specs.declared.node.Elab.{Elab}
 use Rattle.rdl_tree.specs.declared.node.Node.{Node, out-Node}
 use Rattle.rdl_props.specs.declared.prop.Prop.TheVariants as prop

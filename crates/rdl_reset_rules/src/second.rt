@@ -4,13 +4,14 @@ ghost use Rattle.std.specs.Prelude.{◌≡◌, ◌<◌, List, OnOk};
 ghost use Rattle.std.specs.List.{All};
 ghost use Rattle.rdl_tree.specs.declared.node.Node.{out-Node};
 ghost use Rattle.rdl_values.specs.Instances.{Instance};
-ghost use Rattle.rdl_judging.specs.Noted.{with_all};
+ghost use Rattle.rdl_failures.specs.Noted.{with_all};
 ghost use Rattle.rdl_rules.specs.ReferenceRules.{second_reset};
 ghost use Rattle.rdl_reset_rules.specs.Said.{AreSaid};
 
 use crate::signal::is_field_reset;
-use rb_base::{NoMemory, Rule};
-use rdl_judging::Failures;
+use rb_base::NoMemory;
+use rdl_base::Rule;
+use rdl_failures::Failures;
 use rdl_layers::Props;
 use rdl_tree::Node;
 

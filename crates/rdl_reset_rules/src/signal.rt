@@ -6,7 +6,7 @@ ghost use Rattle.rdl_values.specs.Instances.{Instance};
 ghost use Rattle.rdl_rules.specs.Fields as fields;
 ghost use Rattle.rdl_reset_rules.specs.Said.{IsSaid};
 
-use rdl_field_settings::has;
+use rdl_fields::has;
 use rdl_layers::Props;
 use rdl_props::Prop;
 use rdl_tree::{Kind, Node};

@@ -6,22 +6,23 @@ ghost use Rattle.rdl_values.specs.Elaborated.{nodes_of};
 ghost use Rattle.rdl_values.specs.Elaboration.{IsClean};
 ghost use Rattle.rdl_values.specs.Instances.{Instance};
 ghost use Rattle.rdl_values.specs.Lineages.{lineages_of};
-ghost use Rattle.rdl_judging.specs.Noted.{with_all};
-ghost use Rattle.rdl_index.specs.Rows.{AreRows};
+ghost use Rattle.rdl_failures.specs.Noted.{with_all};
+ghost use Rattle.rdl_nodes.specs.Rows.{AreRows};
 ghost use Rattle.rdl_refs.specs.Answers.{IsBound};
-ghost use Rattle.rdl_facts.specs.Facts.{AreFacts};
+ghost use Rattle.rdl_rules.specs.Facts.{AreFacts};
 ghost use Rattle.rdl_rules.specs.ReferenceRules.{wide_reset};
 ghost use Rattle.rdl_reset_rules.specs.Said.{IsSaid, wide_named, wide_own};
 
 use crate::signal::is_field_reset;
-use rb_base::{NoMemory, Rule};
-use rdl_facts::Fact;
-use rdl_index::Row;
-use rdl_judging::Failures;
+use rb_base::NoMemory;
+use rdl_base::Rule;
+use rdl_failures::Failures;
 use rdl_layers::Props;
-use rdl_named_items::named_item;
+use rdl_nodes::Row;
 use rdl_props::Prop;
+use rdl_ref_items::named_item;
 use rdl_refs::Refs;
+use rdl_rules::Fact;
 use rdl_tree::Node;
 
 /// R6 of a node that is itself a reset signal.

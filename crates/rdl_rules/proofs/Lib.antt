@@ -1,1 +1,2 @@
 mod Targets
+mod Waiting

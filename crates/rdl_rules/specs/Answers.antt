@@ -9,8 +9,8 @@ use Rattle.rdl_values.specs.Verdict.{Fails, IsListOf, IsRefusal}
 use Rattle.rdl_layers.specs.Answers.{IsSettled}
 use Rattle.rdl_addr.specs.Answers.{IsPlaced}
 use Rattle.rdl_refs.specs.Answers.{IsBound}
-use Rattle.rdl_rules.specs.declared.error.CheckError.{CheckError}
-use Rattle.rdl_rules.specs.declared.error.CheckError.TheVariants as error
+use Rattle.rdl_failures.specs.declared.error.PhaseError.{PhaseError}
+use Rattle.rdl_failures.specs.declared.error.PhaseError.TheVariants as error
 use Rattle.rdl_rules.specs.Block.{IsBlockOf}
 use Rattle.rdl_rules.specs.Phase6.{fails6}
 
@@ -33,7 +33,7 @@ pub record IsBlockFor (e : Elab) (b : Block) : Type 0 where
   pub sound : IsSound b
 
 -- `check`: the block where no rule on meaning fails, else the list of all failures. Want of memory may be answered anywhere.
-abbrev pub Answers6 : Elab → Result Block CheckError → Type 0
+abbrev pub Answers6 : Elab → Result Block PhaseError → Type 0
 Answers6 e (Ok b) = IsBlockFor e b
 Answers6 e (Err (error.Faults list)) = IsRefusal (meaning_fails e) list.items
 Answers6 e (Err error.NoMemory) = Unit {0}

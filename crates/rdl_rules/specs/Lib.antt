@@ -1,5 +1,6 @@
 pub mod Answers
 pub mod Block
+pub mod Facts
 pub mod Feeds
 pub mod FieldRules
 pub mod Fields
@@ -8,4 +9,5 @@ pub mod Phase5
 pub mod Phase6
 pub mod ReferenceRules
 pub mod RegisterRules
+pub mod Waits
 pub mod Words

@@ -1,6 +1,6 @@
 -- Layout and targets are one phase: its failures are those of addresses and bits, and of references.
 use Rattle.std.specs.Prelude.{ℕ, List, ◌++◌, Option, Contains}
-use Rattle.rb_base.specs.declared.fault.Fault.{Fault}
+use Rattle.rdl_base.specs.declared.fault.Fault.{Fault}
 use Rattle.rdl_tree.specs.declared.item.Source.{Source}
 use Rattle.rdl_values.specs.Uses.{at_}
 use Rattle.rdl_values.specs.Verdict.{Fails}

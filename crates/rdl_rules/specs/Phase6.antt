@@ -1,7 +1,7 @@
 -- Which rules on the meaning of settings fail where.
 use Rattle.std.specs.Prelude.{ℕ, List, ◌++◌, flat_map, Option, Contains}
-use Rattle.rb_base.specs.declared.fault.Fault.{Fault}
-use Rattle.rb_base.specs.declared.rule.Rule.TheVariants as rules
+use Rattle.rdl_base.specs.declared.fault.Fault.{Fault}
+use Rattle.rdl_base.specs.declared.rule.Rule.TheVariants as rules
 use Rattle.rdl_tree.specs.declared.item.Source.{Source}
 use Rattle.rdl_values.specs.Verdict.{Fails}
 use Rattle.rdl_values.specs.Uses.{at_}

@@ -1,8 +1,8 @@
 -- The rules on what references mean, and on reset signals.
 use Rattle.std.specs.Prelude.{ℕ, Bool, not, ◌&&◌, List, [], ◌++◌, nat_lt, ◌==◌, flat_map}
 use Rattle.std.specs.List.{list_any}
-use Rattle.rb_base.specs.declared.fault.Fault.{Fault}
-use Rattle.rb_base.specs.declared.rule.Rule.TheVariants as rules
+use Rattle.rdl_base.specs.declared.fault.Fault.{Fault}
+use Rattle.rdl_base.specs.declared.rule.Rule.TheVariants as rules
 use Rattle.rdl_props.specs.declared.prop.Prop.{Prop}
 use Rattle.rdl_props.specs.declared.prop.Prop.TheVariants as prop
 use Rattle.rdl_values.specs.Bodies.{standing}

@@ -1,8 +1,10 @@
-//! The rules on meaning, and the register block. What the call answers is defined in `specs/`; it is still to be written.
+//! The rules on meaning and the register block of a source, as definitions, and that the block is one for any number of wait states.
 #![tactic(auto)]
 
-mod error;
+mod fact;
 mod laws;
+mod waits;
 
-pub use error::CheckError;
+pub use fact::Fact;
 pub use laws::all_targets;
+pub use waits::blocks_with_waits;

@@ -6,8 +6,8 @@ use Rattle.rdl_tree.specs.declared.item.Item.{Item}
 use Rattle.rdl_values.specs.Bodies.{Closure, Layer, Scope, around, closure_in, component, found, standing}
 use Rattle.rdl_values.specs.Chained.{chained}
 use Rattle.rdl_values.specs.Values.{Names, nearest}
-use Rattle.rdl_judging.specs.Shown.{IsAlike}
-use Rattle.rdl_names.specs.declared.components.Components.{Components}
+use Rattle.rdl_failures.specs.Shown.{IsAlike}
+use Rattle.rdl_scopes.specs.declared.components.Components.{Components}
 use Rattle.rdl_scopes.specs.Scopes.{IsClosureAt, Shows, items_at}
 use Rattle.rdl_scopes.specs.declared.scopes.Found.{Found}
 

@@ -1,1 +1,4 @@
+pub mod Entries
+pub mod Named
+pub mod Opened
 pub mod Scopes

@@ -5,9 +5,9 @@ use Rattle.rdl_tree.specs.declared.item.Item.{Item}
 use Rattle.rdl_values.specs.Bodies.{Closure, Scope, around}
 use Rattle.rdl_values.specs.Chained.{chained}
 use Rattle.rdl_values.specs.Values.{Names}
-use Rattle.rdl_judging.specs.Shown.{IsAlike}
-use Rattle.rdl_names.specs.Named.{AreComponents}
-use Rattle.rdl_names.specs.declared.components.Components.{Components}
+use Rattle.rdl_failures.specs.Shown.{IsAlike}
+use Rattle.rdl_scopes.specs.Named.{AreComponents}
+use Rattle.rdl_scopes.specs.declared.components.Components.{Components}
 use Rattle.rdl_scopes.specs.declared.scopes.Found.{Found}
 
 -- each table is that of its items

@@ -3,10 +3,10 @@
 ghost use Rattle.std.specs.Prelude.{◌≡◌, ℕ, List, None, Some, ◌<◌, length, take, IfSome, MatchOption, slice_get};
 ghost use Rattle.rdl_values.specs.Bodies.{Closure, Scope, component, found, standing};
 ghost use Rattle.rdl_values.specs.Values.{Names, nearest};
-ghost use Rattle.rdl_names.specs.Named.{AreComponents};
+ghost use Rattle.rdl_scopes.specs.Named.{AreComponents};
 ghost use Rattle.rdl_scopes.specs.Scopes.{AreOpen, IsClosureAt, Shows, items_at};
 
-use rdl_names::Components;
+use crate::components::Components;
 use rdl_tree::Def;
 
 /// The component that a name means: in which of the bodies round the place, the nearest being 0, at which of its items, and what

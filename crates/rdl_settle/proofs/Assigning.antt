@@ -5,7 +5,7 @@ use Rattle.std.specs.List.{AllByRecursion}
 use Rattle.std.proofs.lemmas.Grind.{flat_map-append}
 use Rattle.std.proofs.lemmas.List.{length-map, map-append, take_all}
 use Rattle.std.proofs.lemmas.Option.{slice_get-map}
-use Rattle.rb_base.specs.declared.fault.Fault.{Fault}
+use Rattle.rdl_base.specs.declared.fault.Fault.{Fault}
 use Rattle.rdl_tree.specs.declared.node.Elab.{Elab}
 use Rattle.rdl_tree.specs.declared.node.Node.{Node, out-Node}
 use Rattle.rdl_values.specs.Bodies.{standing}
@@ -15,25 +15,25 @@ use Rattle.rdl_values.specs.Instances.{Instance}
 use Rattle.rdl_values.specs.Lineages.{Lineage, lineages_of}
 use Rattle.rdl_values.proofs.Numbered.{counted}
 use Rattle.rdl_nodes.proofs.Lineages.{all_nodes}
-use Rattle.rdl_index.specs.Rows.{AreRows, AreRowsFrom, IsRow}
-use Rattle.rdl_index.specs.declared.table.Row.{Row}
-use Rattle.rdl_judging.specs.Noted.{with_all}
-use Rattle.rdl_judging.proofs.Sets.{with_all-append}
+use Rattle.rdl_nodes.specs.Rows.{AreRows, AreRowsFrom, IsRow}
+use Rattle.rdl_nodes.specs.declared.table.Row.{Row}
+use Rattle.rdl_failures.specs.Noted.{with_all}
+use Rattle.rdl_failures.proofs.Sets.{with_all-append}
 use Rattle.rdl_layers.specs.Settings.{from_above}
 use Rattle.rdl_layers.specs.Tables.{entries_at}
 use Rattle.rdl_layers.specs.declared.props.Entry.{Entry}
-use Rattle.rdl_above.specs.Nested.{nested}
-use Rattle.rdl_merged.specs.Merged.{AreEntries}
+use Rattle.rdl_layers.specs.Nested.{nested}
+use Rattle.rdl_merge.specs.Merged.{AreEntries}
 use Rattle.rdl_bodies.specs.declared.bodies.Bodies.{Bodies}
 use Rattle.rdl_values.specs.Bodies as values
 use Rattle.rdl_bodies.specs.Sited.{IsOpenAs}
 use Rattle.rdl_bodies.specs.declared.bodies.Body.{Body}
-use Rattle.rdl_opened.specs.Spots.{AreSpots, IsOpenAt, IsOpenTree, IsSpot}
-use Rattle.rdl_opened.specs.declared.spots.OpenTree.{OpenTree}
-use Rattle.rdl_opened.specs.declared.spots.Spot.{Spot}
-use Rattle.rdl_layered.specs.Layered.{AreLayers, AreLayersOf, HasLayers, layers_at}
-use Rattle.rdl_layered.specs.declared.layers.Layers.{Layers}
-use Rattle.rdl_layered.specs.declared.table.LayerTable.{LayerTable}
+use Rattle.rdl_open_bodies.specs.Spots.{AreSpots, IsOpenAt, IsOpenTree, IsSpot}
+use Rattle.rdl_open_bodies.specs.declared.spots.OpenTree.{OpenTree}
+use Rattle.rdl_open_bodies.specs.declared.spots.Spot.{Spot}
+use Rattle.rdl_open_settings.specs.Layered.{AreLayers, AreLayersOf, HasLayers, layers_at}
+use Rattle.rdl_open_settings.specs.declared.layers.Layers.{Layers}
+use Rattle.rdl_open_settings.specs.declared.table.LayerTable.{LayerTable}
 use Rattle.rdl_dynamic.specs.Written.{AreWritten}
 use Rattle.rdl_targets.specs.At.{IsAt}
 use Rattle.rdl_settle.specs.Gathered.{AreAssigned, IsAssigned, of_dynamics}

@@ -3,47 +3,48 @@ use Rattle.std.proofs.Common.{◌≡◌, ◌≢◌, ◌∙◌, ℕ, zero, suc, �
 use Rattle.std.specs.Global.{Global}
 use Rattle.std.proofs.lemmas.Grind.{flat_map-append}
 use Rattle.std.proofs.lemmas.List.{map-set, get_or-set_same, get_or-set_other, get_or-map, length-set, take_all}
-use Rattle.rb_base.specs.declared.fault.Fault.{Fault}
+use Rattle.rdl_base.specs.declared.fault.Fault.{Fault}
 use Rattle.rdl_tree.specs.declared.node.Elab.{Elab}
 use Rattle.rdl_tree.specs.declared.node.Node.{Node}
 use Rattle.rdl_values.specs.Bodies.{standing}
 use Rattle.rdl_values.specs.Elaborated.{nodes_of, top_name}
 use Rattle.rdl_values.specs.Instances.{Instance}
 use Rattle.rdl_values.specs.Lineages.{lineages_of}
-use Rattle.rdl_judging.specs.Noted.{with_all}
-use Rattle.rdl_judging.proofs.Sets.{with_all-append}
+use Rattle.rdl_failures.specs.Noted.{with_all}
+use Rattle.rdl_failures.proofs.Sets.{with_all-append}
 use Rattle.rdl_layers.specs.Phase4.{of_node}
 use Rattle.rdl_layers.specs.Settings.{applied_to, from_above, setting}
 use Rattle.rdl_layers.specs.Tables.{entries_at}
 use Rattle.rdl_layers.specs.declared.props.Entry.{Entry}
-use Rattle.rdl_merged.specs.Merged.{AreEntries}
-use Rattle.rdl_completed.specs.Completed.{IsNode, IsScene}
-use Rattle.rdl_layered.specs.declared.table.LayerTable.{LayerTable}
-use Rattle.rdl_opened.specs.declared.spots.OpenTree.{OpenTree}
-use Rattle.rdl_opened.specs.declared.spots.Spot.{Spot}
+use Rattle.rdl_merge.specs.Merged.{AreEntries}
+use Rattle.rdl_open_settings.specs.Completed.{IsNode, IsScene}
+use Rattle.rdl_open_settings.specs.declared.table.LayerTable.{LayerTable}
+use Rattle.rdl_open_bodies.specs.declared.spots.OpenTree.{OpenTree}
+use Rattle.rdl_open_bodies.specs.declared.spots.Spot.{Spot}
 use Rattle.rdl_targets.specs.At.{IsAt}
 use Rattle.rdl_settle.specs.Gathered.{AreAssigned, AreCompleted, AreGathered, IsCompletedAt, IsRefused, of_dynamics}
 use Rattle.rdl_settle.proofs.Assigning.{at_node, node_of, row_found, rows_count}
-use Rattle.rdl_index.specs.Rows.{AreRows}
-use Rattle.rdl_index.specs.declared.table.Row.{Row}
-use Rattle.rdl_opened.specs.Spots.{IsSpot}
+use Rattle.rdl_nodes.specs.Rows.{AreRows}
+use Rattle.rdl_nodes.specs.declared.table.Row.{Row}
+use Rattle.rdl_open_bodies.specs.Spots.{IsSpot}
 use Rattle.rdl_settle.proofs.Reordered.{phase_list}
 use Rattle.std.specs.List.{AllByRecursion}
+use Rattle.plain_lemmas.proofs.Numbers.{below_next-swapped as less-either}
 use Rattle.rdl_props.specs.declared.prop.Prop.{Prop}
-use Rattle.rdl_above.specs.Nested.{nested}
-use Rattle.rdl_layered.specs.Layered.{of_layers, of_nodes}
+use Rattle.rdl_layers.specs.Nested.{nested}
+use Rattle.rdl_open_settings.specs.Layered.{of_layers, of_nodes}
 use Rattle.rdl_layers.specs.Answers.{Answers4, IsSettled, settings_fail}
 use Rattle.rdl_layers.specs.Says.{Says}
 use Rattle.rdl_layers.specs.Tables.{AreTablesOf, setting_in}
-use Rattle.rdl_layers.specs.declared.error.LayerError.{LayerError}
-use Rattle.rdl_layers.specs.declared.error.LayerError.TheVariants as error
+use Rattle.rdl_failures.specs.declared.error.PhaseError.{PhaseError}
+use Rattle.rdl_failures.specs.declared.error.PhaseError.TheVariants as error
 use Rattle.rdl_values.specs.Elaboration.{IsClean}
 use Rattle.rdl_values.specs.Parts.{is_empty}
 use Rattle.rdl_values.specs.Top.{root}
 use Rattle.rdl_values.specs.Verdict.{IsListOf}
 use Rattle.rdl_values.proofs.Numbered.{counted}
-use Rattle.rdl_lineages.proofs.Members.{get-within}
-use Rattle.rdl_node_facts.specs.Told.{AreTold}
+use Rattle.rdl_nodes.proofs.Members.{get-within}
+use Rattle.rdl_facts.specs.Told.{AreTold}
 
 items-length : (vs : List (Vec Entry Global)) → length (map (λ v. v.items) vs) ≡ length vs
 items-length [] = refl
@@ -79,9 +80,6 @@ pub record AreDone (e : Elab) (i : ℕ) (es : List (Vec Entry Global)) (before a
   pub noted : after ≡ with_all (flat_map of_node (take i (nodes_of e))) before
   pub first : (j : ℕ) (m : Instance) → j < i → j < e.count → IsAt (lineages_of e) j m → AreEntries (nodes_of e) (entries_at es j) (applied_to m)
   pub rest : (j : ℕ) (m : Instance) → i ≤ j → j < e.count → IsAt (lineages_of e) j m → AreEntries (nodes_of e) (entries_at es j) (flat_map (from_above m) (standing m.above))
-
-less-either : (i j : ℕ) → j < i + 1 → (j < i) ⊎ (j ≡ i)
-less-either i j l = grind (arith, l)
 
 pub done_more : (e : Elab) (tree : OpenTree) (layers : LayerTable) (count : ℕ) (r : Node) (o : Spot) (i : ℕ) (n : Instance) (es fs : List (Vec Entry Global)) (start before after : List Fault) → IsScene e tree layers count → IsNode e tree r o n → i < e.count → IsAt (lineages_of e) i n
     → take (suc i) (nodes_of e) ≡ take i (nodes_of e) ++ (n ∷ []) → AreDone e i es start before → IsCompletedAt tree layers count r o i es fs before after → AreDone e (i + 1) fs start after
@@ -176,7 +174,7 @@ told_all e es start now clean h = record {
 pub settled : (e : Elab) (es : List (Vec Entry Global)) (now : List Fault) → IsClean e → AreGathered e es [] now → now ≡ [] → IsSettled e
 settled e es now clean h none = subst (IsListOf (settings_fail e)) (sym h.noted ∙ none) (phase_list e clean)
 
-pub refused : (e : Elab) (es : List (Vec Entry Global)) (now : List Fault) (r : LayerError) → IsClean e → AreGathered e es [] now → (now ≡ [] → ⊥) → IsRefused now r → Answers4 e (Err r)
+pub refused : (e : Elab) (es : List (Vec Entry Global)) (now : List Fault) (r : PhaseError) → IsClean e → AreGathered e es [] now → (now ≡ [] → ⊥) → IsRefused now r → Answers4 e (Err r)
 refused e es now (error.Faults list) clean h some is =
     record { failures = subst (IsListOf (settings_fail e)) (sym h.noted ∙ sym is) (phase_list e clean); some = λ q. some (sym is ∙ q) }
 refused e es now error.NoMemory clean h some is = tt

@@ -1,6 +1,6 @@
 -- All failures of the phase, in whichever order they are put in.
 use Rattle.std.proofs.Common.{◌≡◌, ◌∙◌, ℕ, List, [], ◌∷◌, ◌++◌, flat_map, Option, Some, refl, sym, ap, subst, append_assoc, append-nil}
-use Rattle.rb_base.specs.declared.fault.Fault.{Fault}
+use Rattle.rdl_base.specs.declared.fault.Fault.{Fault}
 use Rattle.rdl_tree.specs.declared.item.Item.{Item}
 use Rattle.rdl_tree.specs.declared.item.Source.{Source}
 use Rattle.rdl_tree.specs.declared.node.Elab.{Elab}
@@ -14,13 +14,13 @@ use Rattle.rdl_values.specs.Verdict.{IsListOf}
 use Rattle.rdl_values.specs.Views as view
 use Rattle.rdl_values.specs.Views.{ItemIs, item_is, steps_of}
 use Rattle.rdl_values.proofs.Sorted.{none_fails}
-use Rattle.rdl_judging.specs.Noted.{with_all}
-use Rattle.rdl_judging.proofs.Sets.{collected, with_all-append, with_all-swap}
+use Rattle.rdl_failures.specs.Noted.{with_all}
+use Rattle.rdl_failures.proofs.Sets.{collected, with_all-append, with_all-swap}
 use Rattle.rdl_layers.specs.Answers.{settings_fail}
 use Rattle.rdl_layers.specs.Assignments.{Dynamic, defaults, dynamic_in, dynamics}
 use Rattle.rdl_layers.specs.Judged.{all_failures, anywhere, failures_of, failures_of_dynamic}
 use Rattle.rdl_layers.specs.Phase4.{failures4, of_body, of_enums, of_locals, of_node}
-use Rattle.rdl_layered.specs.Layered.{of_layers}
+use Rattle.rdl_open_settings.specs.Layered.{of_layers}
 use Rattle.rdl_settle.specs.Gathered.{all_of, of_dynamics}
 
 -- Two lists of failures for each of some things.

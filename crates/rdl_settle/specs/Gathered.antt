@@ -1,31 +1,31 @@
 -- What was found of the nodes of a tree, one by one.
 use Rattle.std.specs.Prelude.{◌≡◌, ◌≢◌, ◌<◌, ℕ, List, ◌++◌, flat_map, length, map, Vec}
 use Rattle.std.specs.Global.{Global}
-use Rattle.rb_base.specs.declared.fault.Fault.{Fault}
+use Rattle.rdl_base.specs.declared.fault.Fault.{Fault}
 use Rattle.rdl_tree.specs.declared.node.Elab.{Elab}
 use Rattle.rdl_values.specs.Elaborated.{nodes_of}
 use Rattle.rdl_values.specs.Instances.{Instance, body}
 use Rattle.rdl_values.specs.Lineages.{lineages_of}
-use Rattle.rdl_judging.specs.Noted.{with_all}
+use Rattle.rdl_failures.specs.Noted.{with_all}
 use Rattle.rdl_layers.specs.Assignments.{dynamics}
 use Rattle.rdl_layers.specs.Judged.{all_failures, failures_of_dynamic}
 use Rattle.rdl_layers.specs.Phase4.{of_node}
 use Rattle.rdl_layers.specs.Settings.{applied_to, from_above}
 use Rattle.rdl_layers.specs.Tables.{entries_at}
 use Rattle.rdl_layers.specs.declared.props.Entry.{Entry}
-use Rattle.rdl_above.specs.Nested.{nested}
-use Rattle.rdl_marked.specs.Given.{ArePushed}
-use Rattle.rdl_merged.specs.Merged.{AreEntries}
+use Rattle.rdl_layers.specs.Nested.{nested}
+use Rattle.rdl_dynamic.specs.Given.{ArePushed}
+use Rattle.rdl_merge.specs.Merged.{AreEntries}
 use Rattle.rdl_targets.specs.At.{IsAt}
-use Rattle.rdl_completed.specs.Completed.{IsNode, IsScene}
-use Rattle.rdl_layered.specs.Layered.{of_layers, of_nodes}
-use Rattle.rdl_layered.specs.declared.table.LayerTable.{LayerTable}
-use Rattle.rdl_layers.specs.declared.error.LayerError.{LayerError}
-use Rattle.rdl_layers.specs.declared.error.LayerError.TheVariants as error
-use Rattle.rdl_index.specs.Rows.{AreRows}
-use Rattle.rdl_opened.specs.Spots.{IsOpenTree}
-use Rattle.rdl_opened.specs.declared.spots.OpenTree.{OpenTree}
-use Rattle.rdl_opened.specs.declared.spots.Spot.{Spot}
+use Rattle.rdl_open_settings.specs.Completed.{IsNode, IsScene}
+use Rattle.rdl_open_settings.specs.Layered.{of_layers, of_nodes}
+use Rattle.rdl_open_settings.specs.declared.table.LayerTable.{LayerTable}
+use Rattle.rdl_failures.specs.declared.error.PhaseError.{PhaseError}
+use Rattle.rdl_failures.specs.declared.error.PhaseError.TheVariants as error
+use Rattle.rdl_nodes.specs.Rows.{AreRows}
+use Rattle.rdl_open_bodies.specs.Spots.{IsOpenTree}
+use Rattle.rdl_open_bodies.specs.declared.spots.OpenTree.{OpenTree}
+use Rattle.rdl_open_bodies.specs.declared.spots.Spot.{Spot}
 use Rattle.rdl_tree.specs.declared.node.Node.{Node}
 use Rattle.rdl_values.specs.Bodies.{standing}
 use Rattle.rdl_values.specs.Top.{root}
@@ -76,6 +76,6 @@ pub record IsGathered (e : Elab) (g : Gathered) (before after : List Fault) : Ty
   pub all : AreGathered e g.entries.items before after
 
 -- the error has these failures, or memory was refused
-abbrev pub IsRefused : List Fault → LayerError → Type 0
+abbrev pub IsRefused : List Fault → PhaseError → Type 0
 IsRefused fs (error.Faults list) = list.items ≡ fs
 IsRefused fs error.NoMemory = Unit {0}

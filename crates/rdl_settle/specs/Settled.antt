@@ -2,8 +2,8 @@
 use Rattle.std.specs.Prelude.{◌≡◌, Result, Ok, Err}
 use Rattle.rdl_tree.specs.declared.node.Elab.{Elab}
 use Rattle.rdl_layers.specs.Answers.{Answers4, IsSettled}
-use Rattle.rdl_layers.specs.declared.error.LayerError.{LayerError}
-use Rattle.rdl_facts.specs.Facts.{AreFacts}
+use Rattle.rdl_failures.specs.declared.error.PhaseError.{PhaseError}
+use Rattle.rdl_rules.specs.Facts.{AreFacts}
 use Rattle.rdl_settle.specs.declared.settling.Settled.{Settled}
 
 -- No rule on settings fails; the settings are seen as the tree that they are of, and the facts are those of its fields and signals.
@@ -14,6 +14,6 @@ pub record IsSettledAs (e : Elab) (s : Settled) : Type 0 where
 
 -- `settle`: the settings and facts of the tree where no rule on settings fails, else the list of all failures. Want of memory may be
 -- answered anywhere.
-abbrev pub Settles : Elab → Result Settled LayerError → Type 0
+abbrev pub Settles : Elab → Result Settled PhaseError → Type 0
 Settles e (Ok s) = IsSettledAs e s
 Settles e (Err error) = Answers4 e (Err error)

@@ -1,28 +1,28 @@
 //! What the bodies of all nodes assign to nodes below them.
 
 ghost use Rattle.std.specs.Prelude.{◌≡◌, [], ℕ, IfOk, List, OnOk, length, slice_get};
-ghost use Rattle.rb_base.specs.declared.fault.Fault.{Fault};
+ghost use Rattle.rdl_base.specs.declared.fault.Fault.{Fault};
 ghost use Rattle.rdl_tree.specs.declared.node.Elab.{Elab};
 ghost use Rattle.rdl_tree.specs.declared.node.Node.{out-Node};
 ghost use Rattle.rdl_values.specs.Elaborated.{nodes_of};
 ghost use Rattle.rdl_values.specs.Elaboration.{IsClean};
 ghost use Rattle.rdl_values.specs.Instances.{Instance};
 ghost use Rattle.rdl_values.specs.Lineages.{lineages_of};
-ghost use Rattle.rdl_index.specs.Rows.{AreRows};
+ghost use Rattle.rdl_nodes.specs.Rows.{AreRows};
 ghost use Rattle.rdl_layers.specs.Tables.{entries_at};
-ghost use Rattle.rdl_opened.specs.Spots.{IsOpenTree, IsSpot};
-ghost use Rattle.rdl_layered.specs.Layered.{AreLayers, AreLayersOf, HasLayers};
+ghost use Rattle.rdl_open_bodies.specs.Spots.{IsOpenTree, IsSpot};
+ghost use Rattle.rdl_open_settings.specs.Layered.{AreLayers, AreLayersOf, HasLayers};
 ghost use Rattle.rdl_targets.specs.At.{IsAt};
 ghost use Rattle.rdl_targets.specs.Contents.{AreContents};
 ghost use Rattle.rdl_settle.specs.Gathered.{AreAssigned, IsAssigned};
 
 use rb_base::NoMemory;
-use rdl_index::Row;
-use rdl_judging::Failures;
-use rdl_layered::LayerTable;
+use rdl_dynamic::judge_dynamics;
+use rdl_failures::Failures;
 use rdl_layers::Entry;
-use rdl_marked::judge_dynamics;
-use rdl_opened::{OpenTree, Spot};
+use rdl_nodes::Row;
+use rdl_open_bodies::{OpenTree, Spot};
+use rdl_open_settings::LayerTable;
 use rdl_targets::{Contents, contents_of};
 use rdl_values::Chain;
 use std::alloc::Global;

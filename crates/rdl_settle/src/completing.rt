@@ -2,21 +2,19 @@
 
 ghost use Rattle.std.specs.Prelude.{◌≡◌, ◌<◌, List, OnOk, length};
 ghost use Rattle.rdl_tree.specs.declared.node.Elab.{Elab};
-ghost use Rattle.rb_base.specs.declared.fault.Fault.{Fault};
+ghost use Rattle.rdl_base.specs.declared.fault.Fault.{Fault};
 ghost use Rattle.rdl_values.specs.Elaborated.{nodes_of};
-ghost use Rattle.rdl_index.specs.Rows.{AreRows};
-ghost use Rattle.rdl_completed.specs.Completed.{IsScene};
+ghost use Rattle.rdl_nodes.specs.Rows.{AreRows};
+ghost use Rattle.rdl_open_settings.specs.Completed.{IsScene};
 ghost use Rattle.rdl_settle.specs.Gathered.{AreAssigned, AreCompleted, IsCompletedAt};
 
 use crate::above::spot_at;
 use rb_base::NoMemory;
-use rdl_above::assigned_from_above;
-use rdl_completed::complete_node;
-use rdl_index::Row;
-use rdl_judging::Failures;
-use rdl_layered::LayerTable;
-use rdl_layers::Entry;
-use rdl_opened::{OpenTree, Spot};
+use rdl_failures::Failures;
+use rdl_layers::{Entry, assigned_from_above};
+use rdl_nodes::Row;
+use rdl_open_bodies::{OpenTree, Spot};
+use rdl_open_settings::{LayerTable, complete_node};
 use std::alloc::Global;
 
 // Completes the entries of the node of a number.

@@ -9,14 +9,14 @@ use crate::above::assign_all;
 use crate::completing::complete_all;
 use bumpalo::Bump;
 use rb_base::NoMemory;
-use rdl_facts::Fact;
-use rdl_index::{Row, rows};
-use rdl_judging::Failures;
-use rdl_layered::judge_layers;
-use rdl_layers::{Entry, LayerError, Props};
-use rdl_merged::entries_say;
-use rdl_node_facts::facts_of;
-use rdl_opened::{OpenTree, open_tree};
+use rdl_facts::facts_of;
+use rdl_failures::{Failures, PhaseError};
+use rdl_layers::{Entry, Props};
+use rdl_merge::entries_say;
+use rdl_nodes::{Row, rows};
+use rdl_open_bodies::{OpenTree, open_tree};
+use rdl_open_settings::judge_layers;
+use rdl_rules::Fact;
 use rdl_tree::Elab;
 use std::alloc::Global;
 
@@ -68,12 +68,12 @@ fn gather<'a>(
 }
 
 // The failures as an error.
-fn refused<'a>(alloc: Global, failures: Failures) -> LayerError
+fn refused<'a>(alloc: Global, failures: Failures) -> PhaseError
     ensures { IsRefused failures result }
 {
     match failures.into_list(alloc) {
-        Ok(list) => LayerError::Faults(list),
-        Err(_) => LayerError::NoMemory,
+        Ok(list) => PhaseError::Faults(list),
+        Err(_) => PhaseError::NoMemory,
     }
 }
 
@@ -83,14 +83,14 @@ pub fn settle<'a>(
     alloc: Global,
     arena: &'a Bump,
     elab: &Elab<'a>,
-) -> Result<Settled<'a>, LayerError>
+) -> Result<Settled<'a>, PhaseError>
     requires { IsClean elab.now }
     ensures { Settles elab.now result }
 {
     entries_say();
     let mut failures = Failures::new(alloc);
     let Ok(gathered) = gather(alloc, arena, elab, &mut failures) else {
-        return Err(LayerError::NoMemory);
+        return Err(PhaseError::NoMemory);
     };
     if !failures.is_empty() {
         return Err(refused(alloc, failures));
@@ -101,7 +101,7 @@ pub fn settle<'a>(
         entries,
     } = gathered;
     let Ok(facts) = facts_of(alloc, &rows, &tree, &entries) else {
-        return Err(LayerError::NoMemory);
+        return Err(PhaseError::NoMemory);
     };
     let props = Props::of(*elab, entries);
     Ok(Settled { props, facts })

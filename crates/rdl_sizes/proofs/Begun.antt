@@ -1,15 +1,15 @@
 -- Tables of which nothing is known, and the row that is taken up next.
 use Rattle.std.specs.List.{All}
 use Rattle.std.proofs.Common.{◌≡◌, ◌∙◌, ℕ, zero, suc, ◌<◌, ◌≤◌, List, [], ◌∷◌, length, drop, flat_map, get_or, slice_get, replicate, Contains, Some, refl, sym, ap, subst, arith}
-use Rattle.rb_base.specs.declared.fault.Fault.{Fault}
+use Rattle.rdl_base.specs.declared.fault.Fault.{Fault}
 use Rattle.rdl_tree.specs.declared.node.Elab.{Elab}
 use Rattle.rdl_tree.specs.declared.node.Node.{out-Node}
 use Rattle.rdl_values.specs.Lineages.{Lineage, lineages_of}
 use Rattle.rdl_layout.specs.declared.part.Mode.{Mode}
-use Rattle.rdl_index.specs.declared.table.Row.{Row}
-use Rattle.rdl_index.specs.Rows.{AreRows, IsRow}
+use Rattle.rdl_nodes.specs.declared.table.Row.{Row}
+use Rattle.rdl_nodes.specs.Rows.{AreRows, IsRow}
 use Rattle.rdl_addr.specs.Parts.{mode_of}
-use Rattle.rdl_lineages.proofs.Members.{any-default, get-made, get-within}
+use Rattle.rdl_nodes.proofs.Members.{any-default, get-made, get-within}
 use Rattle.rdl_sizes.specs.declared.known.Measure.{Measure}
 use Rattle.rdl_sizes.specs.declared.known.Sizes.{Sizes}
 use Rattle.rdl_sizes.specs.Levels.{mode_under}

@@ -1,5 +1,6 @@
 -- What is known of a tree and of its rows.
-use Rattle.std.proofs.Common.{◌≡◌, ◌∙◌, ℕ, zero, suc, ◌+◌, List, [], ◌∷◌, map, length, slice_get, Some, refl, sym, ap, subst, arith}
+use Rattle.std.proofs.Common.{◌≡◌, ◌∙◌, ℕ, zero, suc, ◌+◌, List, [], ◌∷◌, length, slice_get, Some, refl, sym, ap, subst, arith}
+use Rattle.plain_lemmas.proofs.Lists.{length-map as length-mapped}
 use Rattle.rdl_tree.specs.declared.node.Elab.{Elab}
 use Rattle.rdl_values.specs.Elaborated.{nodes_of, top_name}
 use Rattle.rdl_values.specs.Elaboration.{IsClean}
@@ -7,13 +8,9 @@ use Rattle.rdl_values.specs.Instances.{Instance}
 use Rattle.rdl_values.specs.Lineages.{Lineage, lineages_of, nodes_in}
 use Rattle.rdl_values.proofs.Numbered.{counted}
 use Rattle.rdl_nodes.proofs.Lineages.{all_nodes}
-use Rattle.rdl_index.specs.declared.table.Row.{Row}
-use Rattle.rdl_index.specs.Rows.{AreRows, AreRowsFrom, IsRow}
-use Rattle.rdl_lineages.proofs.Members.{get-map}
-
-length-mapped : {X Y : Type 0} (f : X → Y) (xs : List X) → length (map f xs) ≡ length xs
-length-mapped f [] = refl
-length-mapped f (x ∷ xs) = ap suc (length-mapped f xs)
+use Rattle.rdl_nodes.specs.declared.table.Row.{Row}
+use Rattle.rdl_nodes.specs.Rows.{AreRows, AreRowsFrom, IsRow}
+use Rattle.rdl_nodes.proofs.Members.{get-map}
 
 pub count-is : (e : Elab) → IsClean e → e.count ≡ length (lineages_of e)
 count-is e c = counted (Some (top_name e)) e.source.now e c.elaborated.tree ∙ (ap length (sym (all_nodes (Some (top_name e)) e.source.now)) ∙ length-mapped (λ n. n.node) (lineages_of e))

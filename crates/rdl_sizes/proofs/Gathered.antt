@@ -9,7 +9,7 @@ use Rattle.rdl_tree.specs.declared.node.Node.{Node, out-Node}
 use Rattle.rdl_values.specs.Elaborated.{Says}
 use Rattle.rdl_values.specs.Instances.{Instance, kind_of}
 use Rattle.rdl_values.specs.Values.{Around}
-use Rattle.rdl_reading.specs.Texts.{IsGiven}
+use Rattle.rdl_addr.specs.TextReadings.{IsGiven}
 use Rattle.rdl_addr.specs.Layout.{Group, greatest, grouped, has_address}
 use Rattle.rdl_addr.proofs.Read.{one-part}
 use Rattle.rdl_sizes.specs.declared.known.Measure.{Measure}

@@ -9,14 +9,14 @@ use Rattle.rdl_values.specs.Instances.{Instance, kind_of}
 use Rattle.rdl_values.specs.Lineages.{Lineage, lineages_of}
 use Rattle.rdl_layers.specs.Settings.{setting}
 use Rattle.rdl_layout.specs.declared.part.Mode.{Mode}
-use Rattle.rdl_reading.specs.Modes.{mode_by}
-use Rattle.rdl_index.specs.declared.table.Row.{Row}
-use Rattle.rdl_index.specs.Rows.{AreRows, IsParent, IsRow}
+use Rattle.rdl_addr.specs.Modes.{mode_by}
+use Rattle.rdl_nodes.specs.declared.table.Row.{Row}
+use Rattle.rdl_nodes.specs.Rows.{AreRows, IsParent, IsRow}
 use Rattle.rdl_addr.specs.Layout.{mode_in}
 use Rattle.rdl_addr.specs.Parts.{mode_of}
 use Rattle.rdl_addr.proofs.Read.{one-mode}
-use Rattle.rdl_lineages.proofs.Members.{get-made}
-use Rattle.rdl_lineages.proofs.Order.{behind, once}
+use Rattle.rdl_nodes.proofs.Members.{get-made}
+use Rattle.rdl_nodes.proofs.Order.{behind, once}
 use Rattle.rdl_sizes.specs.Levels.{mode_under}
 use Rattle.rdl_sizes.specs.Modes.{AreModes, IsBelow, mode_at, outer_at}
 use Rattle.rdl_sizes.proofs.Facts.{count-is, node-at, row-at, rows-many}

@@ -5,8 +5,8 @@ use Rattle.rdl_tree.specs.declared.item.Kind.{Kind}
 use Rattle.rdl_tree.specs.declared.node.Node.{Node, out-Node}
 use Rattle.rdl_values.specs.Instances.{Instance, kind_of}
 use Rattle.rdl_values.specs.Lineages.{Lineage, child_of}
-use Rattle.rdl_index.specs.Rows.{AreInside, IsInside}
-use Rattle.rdl_lineages.proofs.Members.{In, get-read, get-within, in-from, in-left, in-right, in-to}
+use Rattle.rdl_nodes.specs.Rows.{AreInside, IsInside}
+use Rattle.rdl_nodes.proofs.Members.{In, get-read, get-within, in-from, in-left, in-right, in-to}
 use Rattle.rdl_sizes.proofs.Turns.{inside-at}
 
 module _ {X : Type 0} (p : X → Bool) where

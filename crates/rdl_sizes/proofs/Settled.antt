@@ -2,8 +2,8 @@
 use Rattle.std.proofs.Common.{◌≡◌, ◌∙◌, ℕ, ◌<◌, ◌||◌, ◌==◌, inl, inr, Bool, true, false, not, List, [], ◌∷◌, ◌++◌, flat_map, Some, nat_lt, refl, sym, subst, arith}
 use Rattle.std.specs.List.{list_any}
 use Rattle.std.proofs.lemmas.Bool.Decides.{nat_tests}
-use Rattle.rb_base.specs.declared.fault.Fault.{Fault}
-use Rattle.rb_base.specs.declared.rule.Rule.TheVariants as rules
+use Rattle.rdl_base.specs.declared.fault.Fault.{Fault}
+use Rattle.rdl_base.specs.declared.rule.Rule.TheVariants as rules
 use Rattle.rdl_tree.specs.declared.item.Kind.TheVariants as kind
 use Rattle.rdl_tree.specs.declared.node.Elab.{Elab}
 use Rattle.rdl_props.specs.declared.prop.Prop.TheVariants as prop
@@ -13,7 +13,7 @@ use Rattle.rdl_values.specs.Instances.{Instance, body, kind_of, root}
 use Rattle.rdl_values.proofs.Sorted.{none_fails}
 use Rattle.rdl_layers.specs.Answers.{IsSettled}
 use Rattle.rdl_layers.specs.Phase4.{bad_accesswidth, bad_regwidth, bad_width, failures4, number_at, of_body, of_locals, of_node}
-use Rattle.rdl_lineages.proofs.Members.{In}
+use Rattle.rdl_nodes.proofs.Members.{In}
 
 abbrev all_of : Instance → List Fault
 all_of n = of_locals n ++ of_body (n.above, body n) ++ of_node n

@@ -3,7 +3,8 @@ use Rattle.std.specs.List.{All}
 use Rattle.std.proofs.Common.{◌≡◌, ◌∙◌, ◌↔◌, ℕ, zero, suc, ◌+◌, ◌/◌, ◌<◌, ◌≤◌, ◌⊎◌, inl, inr, max, Bool, true, false, cond, List, [], ◌∷◌, ◌++◌, length, map, flat_map, filter, take, drop, set, get_or, slice_get, Contains, Some, refl, sym, ap, subst, arith}
 use Rattle.std.proofs.lemmas.List.{get_or-set_same, get_or-set_other, length-set}
 use denote.Enum.Bare.{same_true}
-use Rattle.rb_base.specs.declared.fault.Fault.{Fault}
+use Rattle.plain_lemmas.proofs.Lists.{length-map}
+use Rattle.rdl_base.specs.declared.fault.Fault.{Fault}
 use Rattle.rdl_tree.specs.contracts.item.Kind as of_kind
 use Rattle.rdl_tree.specs.declared.item.Kind.TheVariants as kind
 use Rattle.rdl_tree.specs.declared.node.Elab.{Elab}
@@ -18,14 +19,14 @@ use Rattle.rdl_layers.specs.Fields.{is_a}
 use Rattle.rdl_layers.specs.Phase4.{number_at}
 use Rattle.rdl_layout.specs.declared.part.Mode.{Mode}
 use Rattle.rdl_layout.specs.Parts as parts
-use Rattle.rdl_index.specs.declared.table.Row.{Row}
-use Rattle.rdl_index.specs.Rows.{AreInside, IsRow}
+use Rattle.rdl_nodes.specs.declared.table.Row.{Row}
+use Rattle.rdl_nodes.specs.Rows.{AreInside, IsRow}
 use Rattle.rdl_addr.specs.Layout.{access_of, greatest, greatest_end, groups, has_address, mode_in, offsets, size_of}
 use Rattle.rdl_addr.specs.Parts.{ArePartsOf, mode_of}
 use Rattle.rdl_addr.proofs.Covers.{offsets_of}
 use Rattle.rdl_addr.proofs.Grouped.{greatest-ends}
-use Rattle.rdl_lineages.proofs.Members.{In, get-made, get-within, in-either, in-from, in-left, in-place, in-right, in-to, place-in}
-use Rattle.rdl_lineages.proofs.Order.{behind, few, once}
+use Rattle.rdl_nodes.proofs.Members.{In, get-made, get-within, in-either, in-from, in-left, in-place, in-right, in-to, place-in}
+use Rattle.rdl_nodes.proofs.Order.{behind, few, once}
 use Rattle.rdl_sizes.specs.declared.known.Measure.{Measure}
 use Rattle.rdl_sizes.specs.declared.known.Sizes.{Sizes}
 use Rattle.rdl_sizes.specs.declared.lot.Lot.{Lot}
@@ -56,10 +57,6 @@ no-later k i s from = omega (arith, s, from)
 levels-down : (n : Instance) (up : List Instance) → length up < 32 → levels up ≡ suc (levels (n ∷ up))
 unfolding levels
 levels-down n up l = omega (arith, l)
-
-length-map : {X Y : Type 0} (f : X → Y) (xs : List X) → length (map f xs) ≡ length xs
-length-map f [] = refl
-length-map f (x ∷ xs) = ap suc (length-map f xs)
 
 whole-take : (xs : List Node) → take (length xs) xs ≡ xs
 whole-take [] = refl

@@ -8,11 +8,11 @@ use Rattle.rdl_values.specs.Elaborated.{Says, around_body, top_name}
 use Rattle.rdl_values.specs.Instances.{Instance, children, seen_in}
 use Rattle.rdl_values.specs.Lineages.{Lineage, child_of, lineages_of}
 use Rattle.rdl_values.specs.Seen.{around_of}
-use Rattle.rdl_index.specs.Rows.{AreInside, IsInside}
+use Rattle.rdl_nodes.specs.Rows.{AreInside, IsInside}
 use Rattle.rdl_addr.specs.Layout.{grouped, has_address, instances}
 use Rattle.rdl_addr.proofs.Using.{children-texts}
-use Rattle.rdl_lineages.proofs.Members.{each-in, get-made, get-read, place-in}
-use Rattle.rdl_lineages.proofs.Order.{shallow-at, stands-under}
+use Rattle.rdl_nodes.proofs.Members.{each-in, get-made, get-read, place-in}
+use Rattle.rdl_nodes.proofs.Order.{shallow-at, stands-under}
 use Rattle.rdl_sizes.specs.declared.known.Measure.{Measure}
 use Rattle.rdl_sizes.specs.declared.lot.Lot.{Lot}
 use Rattle.rdl_sizes.specs.declared.lot.Run.{Run}

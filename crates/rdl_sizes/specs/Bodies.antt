@@ -10,7 +10,7 @@ use Rattle.rdl_values.specs.Instances.{Instance, children}
 use Rattle.rdl_values.specs.Lineages.{Lineage, lineages_of}
 use Rattle.rdl_values.specs.Seen.{around_of}
 use Rattle.rdl_values.specs.Values.{Around}
-use Rattle.rdl_index.specs.Rows.{AreInside}
+use Rattle.rdl_nodes.specs.Rows.{AreInside}
 use Rattle.rdl_addr.specs.Layout.{greatest, grouped, has_address}
 use Rattle.rdl_addr.specs.Texts.{IsText}
 use Rattle.rdl_sizes.specs.declared.lot.Lot.{Lot}

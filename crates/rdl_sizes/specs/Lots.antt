@@ -1,8 +1,8 @@
 -- What the parts of a body and their places are of.
 use Rattle.std.specs.Prelude.{◌≡◌, ℕ, max, List, [], ◌∷◌, ◌++◌, map, nat_lt, ◌&&◌, ◌==◌, option_to_list}
 use Rattle.std.specs.List.{list_any}
-use Rattle.rb_base.specs.declared.fault.Fault.{Fault}
-use Rattle.rb_base.specs.declared.rule.Rule.TheVariants as rules
+use Rattle.rdl_base.specs.declared.fault.Fault.{Fault}
+use Rattle.rdl_base.specs.declared.rule.Rule.TheVariants as rules
 use Rattle.rdl_values.specs.Faults.{at_, when}
 use Rattle.rdl_layout.specs.declared.part.Mode.{Mode}
 use Rattle.rdl_layout.specs.declared.part.Part.{Part}

@@ -1,7 +1,7 @@
 -- Sizes and offsets, node by node.
 use Rattle.std.specs.Prelude.{◌≡◌, ◌↔◌, ℕ, ◌≤◌, ◌<◌, true, List, ◌∷◌, ◌++◌, length, flat_map, drop, Some, Contains, slice_get, slice_index_or}
 use Rattle.std.specs.List.{All}
-use Rattle.rb_base.specs.declared.fault.Fault.{Fault}
+use Rattle.rdl_base.specs.declared.fault.Fault.{Fault}
 use Rattle.rdl_tree.specs.declared.node.Elab.{Elab}
 use Rattle.rdl_values.specs.Instances.{Instance}
 use Rattle.rdl_values.specs.Lineages.{Lineage, child_of, lineages_of}

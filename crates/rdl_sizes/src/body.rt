@@ -8,7 +8,8 @@ ghost use Rattle.rdl_sizes.specs.Lots.{greatest_access as greatest_in};
 ghost use Rattle.rdl_sizes.specs.Lots.{lot_faults, no_alignment, parts_in, small_stride};
 
 use crate::lot::Lot;
-use rb_base::{Fault, NoMemory, Rule};
+use rb_base::NoMemory;
+use rdl_base::{Fault, Rule};
 use rdl_layout::{Mode, Part, lay};
 use std::alloc::Global;
 

@@ -1,6 +1,6 @@
 //! What is known of the nodes of a tree before any address is.
 
-use rb_base::Fault;
+use rdl_base::Fault;
 
 /// The size of a register or container, and its access width or the greatest inside it, in bytes.
 #[derive(Clone, Copy, Debug, PartialEq, Eq)]

@@ -5,12 +5,12 @@ ghost use Rattle.std.specs.Option.{option_copied};
 ghost use Rattle.rdl_tree.specs.declared.item.Inst.{Inst as AnyInst};
 ghost use Rattle.rdl_tree.specs.declared.node.Node.{out-Node};
 ghost use Rattle.rdl_values.specs.Seen.{around_of};
-ghost use Rattle.rdl_reading.specs.Texts.{IsGiven};
+ghost use Rattle.rdl_addr.specs.TextReadings.{IsGiven};
 
 use crate::known::Measure;
 use rb_base::Place;
+use rdl_addr::part;
 use rdl_layout::Part;
-use rdl_reading::part;
 use rdl_tree::{Env, Inst, Node};
 use rdl_values::Visible;
 

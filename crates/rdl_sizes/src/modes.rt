@@ -2,14 +2,14 @@
 
 ghost use Rattle.std.specs.Prelude.{◌≡◌, IfOk, length};
 ghost use Rattle.rdl_values.specs.Elaboration.{IsClean};
-ghost use Rattle.rdl_index.specs.Rows.{AreRows};
+ghost use Rattle.rdl_nodes.specs.Rows.{AreRows};
 ghost use Rattle.rdl_sizes.specs.Modes.{AreModes, IsBelow, outer_at};
 
 use rb_base::NoMemory;
-use rdl_index::Row;
+use rdl_addr::mode_inside;
 use rdl_layers::Props;
 use rdl_layout::Mode;
-use rdl_reading::mode_inside;
+use rdl_nodes::Row;
 use std::alloc::Global;
 
 /// The mode round a node that stands in the one of this number: that of the nearest address map.

@@ -5,7 +5,7 @@ ghost use Rattle.std.specs.List.{All};
 ghost use Rattle.rdl_tree.specs.declared.node.Node.{Node as AnyNode, out-Node};
 ghost use Rattle.rdl_values.specs.Instances.{Instance};
 ghost use Rattle.rdl_values.specs.Lineages.{Lineage};
-ghost use Rattle.rdl_index.specs.Rows.{AreInside};
+ghost use Rattle.rdl_nodes.specs.Rows.{AreInside};
 ghost use Rattle.rdl_addr.specs.Layout.{has_address as is_placed};
 ghost use Rattle.rdl_sizes.specs.Bodies.{addressed};
 ghost use Rattle.rdl_sizes.specs.Sized.{offset_at};

@@ -1,33 +1,24 @@
 -- The nodes that are put into bodies, under their keys.
 use Rattle.std.proofs.Common.{◌≡◌, ◌∙◌, ℕ, zero, suc, ◌+◌, ◌<◌, ◌≤◌, ◌==◌, Bool, true, false, ◌&&◌, cond, bytes_eq, List, [], ◌∷◌, ◌++◌, length, get_or, take, map, filter, flat_map, append-nil, append_assoc, Option, None, Some, option_map, slice_get, refl, sym, ap, subst, arith}
-use Rattle.std.specs.Cmp.Lexicographic.{bytes_decides}
 use Rattle.std.proofs.lemmas.Bool.Decides.{nat_tests}
 use Rattle.std.proofs.lemmas.Grind.{flat_map-append}
 use Rattle.std.proofs.lemmas.List.{map-append, take_all, take_more}
 use Rattle.std.proofs.lemmas.List.Elements.{filter-append}
+use Rattle.plain_lemmas.proofs.Bools.{and-true}
+use Rattle.plain_lemmas.proofs.Lists.{bytes_eq-swap as bytes-turn}
+use Rattle.plain_lemmas.proofs.Numbers.{eq-itself as itself}
 use Rattle.rdl_tree.specs.declared.node.Elab.{Elab}
 use Rattle.rdl_tree.specs.declared.node.Node.{Node, out-Node}
 use Rattle.rdl_values.specs.Elaborated.{Says}
 use Rattle.rdl_values.specs.Instances.{Instance, children}
 use Rattle.rdl_values.specs.Lineages.{Lineage, lineages_of}
-use Rattle.rdl_index.specs.Rows.{AreInside, AreRows, AreRowsFrom}
-use Rattle.rdl_index.specs.declared.table.Row.{Row}
-use Rattle.rdl_keys.specs.Keyed.{Key, nodes_of, same_key}
+use Rattle.rdl_nodes.specs.Rows.{AreInside, AreRows, AreRowsFrom}
+use Rattle.rdl_nodes.specs.declared.table.Row.{Row}
+use Rattle.rdl_targets.specs.Keyed.{Key, nodes_of, same_key}
 use Rattle.rdl_targets.specs.At.{AreAt, IsAt, id_of}
 use Rattle.rdl_targets.specs.Contents.{AddsNodes, AreContents, element_key, is_element, is_named, name_key, under}
 use Rattle.rdl_targets.specs.declared.contents.Contents.{Contents}
 use Rattle.rdl_targets.proofs.Numbered.{no_row, row_at}
-
-pub bytes-turn : (xs ys : List ℕ) → bytes_eq xs ys ≡ bytes_eq ys xs
-bytes-turn xs ys = go (bytes_eq xs ys) (bytes_eq ys xs) refl refl
-  where
-    back : (as' bs : List ℕ) → bytes_eq as' bs ≡ true → bytes_eq bs as' ≡ true
-    back as' bs e = (bytes_decides bs as').1 (sym ((bytes_decides as' bs).0 e))
-
-    go : (a b : Bool) → bytes_eq xs ys ≡ a → bytes_eq ys xs ≡ b → bytes_eq xs ys ≡ bytes_eq ys xs
-    go true b e f = e ∙ sym (back xs ys e)
-    go false true e f = let h = back ys xs f in h ∙ sym f
-    go false false e f = e ∙ sym f
 
 -- One by one.
 
@@ -141,13 +132,6 @@ inside-passing all above beside (r ∷ rs) (n ∷ ns) p q same h = go (p r) (q n
     go false true e at rest = cc e
 inside-passing all above beside [] (n ∷ ns) p q same h = absurd h
 inside-passing all above beside (r ∷ rs) [] p q same h = absurd h
-
-itself : (a : ℕ) → (a == a) ≡ true
-itself a = grind (arith, nat_tests)
-
-and-true : (a : Bool) → (a && true) ≡ a
-and-true true = refl
-and-true false = refl
 
 named-same : (k : ℕ) (name : List ℕ) (beside : List Node) (r : Node) (n : Instance) → Says beside r n → same_key (name_key k r) (record { body = k; name = name; index = [] }) ≡ is_named name n
 named-same k name beside r n says =

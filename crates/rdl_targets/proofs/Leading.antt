@@ -1,11 +1,12 @@
 -- What a step leads to in a body.
-use Rattle.std.proofs.Common.{◌≡◌, ◌∙◌, ℕ, Bool, true, false, ◌&&◌, cond, List, [], ◌∷◌, ◌++◌, append-nil, filter, Vec, refl, sym, ap, subst}
+use Rattle.std.proofs.Common.{◌≡◌, ◌∙◌, ℕ, Bool, false, ◌&&◌, cond, List, [], ◌∷◌, ◌++◌, append-nil, filter, Vec, refl, sym, ap, subst}
 use Rattle.std.specs.Global.{Global}
+use Rattle.plain_lemmas.proofs.Bools.{and-false, and_true-is as and-true}
 use Rattle.rdl_tree.specs.declared.expr.Step.{Step}
 use Rattle.rdl_values.specs.Elaborated.{index_of}
 use Rattle.rdl_values.specs.Instances.{Instance, children}
 use Rattle.rdl_values.specs.Lineages.{lineages_of}
-use Rattle.rdl_keys.specs.Keyed.{nodes_of}
+use Rattle.rdl_targets.specs.Keyed.{nodes_of}
 use Rattle.rdl_layers.specs.Assignments.{is_index_or_none, is_step}
 use Rattle.rdl_targets.specs.At.{AreAt}
 use Rattle.rdl_targets.specs.Contents.{AddsFound, is_element, is_named}
@@ -20,14 +21,6 @@ filter-same p q same (n ∷ ns) = (λ i. cond (same n i) (n ∷ filter-same p q 
 filter-none : (p : Instance → Bool) → ((n : Instance) → p n ≡ false) → (ns : List Instance) → [] ≡ filter p ns
 filter-none p none [] = refl
 filter-none p none (n ∷ ns) = filter-none p none ns ∙ sym (ap (λ b. cond b (n ∷ filter p ns) (filter p ns)) (none n))
-
-and-true : (a : Bool) → a ≡ (a && true)
-and-true true = refl
-and-true false = refl
-
-and-false : (a : Bool) → (a && false) ≡ false
-and-false true = refl
-and-false false = refl
 
 module _ (c : Contents) (k : ℕ) (t : Step) (old new : List ℕ) where
   pub any_found : new ≡ old ++ nodes_of c.names (record { body = k; name = t.name.text.now; index = [] }) → AddsFound c k t wants.Any old new

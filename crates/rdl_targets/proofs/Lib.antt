@@ -1,4 +1,5 @@
 pub mod Contained
+mod Keyed
 mod Leading
 pub mod Numbered
 mod Stepping

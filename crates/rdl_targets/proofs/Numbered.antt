@@ -1,5 +1,5 @@
 -- Nodes by their numbers, and the rows that say what they are.
-use Rattle.std.proofs.Common.{◌≡◌, ◌∙◌, ℕ, zero, suc, ◌+◌, ◌<◌, ◌≤◌, Bool, List, [], ◌∷◌, ◌++◌, length, get_or, take, map, filter, flat_map, add-one, append-nil, None, Some, option_map, Result, Ok, Err, OnOk, slice_get, refl, sym, ap, subst, arith}
+use Rattle.std.proofs.Common.{◌≡◌, ◌∙◌, ℕ, zero, suc, ◌+◌, ◌<◌, ◌≤◌, Bool, List, [], ◌∷◌, ◌++◌, length, get_or, take, map, filter, flat_map, add-one, append-nil, None, Some, option_map, slice_get, refl, sym, ap, subst, arith}
 use Rattle.std.proofs.lemmas.Grind.{flat_map-append}
 use Rattle.std.proofs.lemmas.List.{take_all}
 use Rattle.std.proofs.lemmas.List.Elements.{filter-append}
@@ -8,13 +8,9 @@ use Rattle.rdl_tree.specs.declared.node.Node.{Node, out-Node}
 use Rattle.rdl_values.specs.Elaborated.{Says}
 use Rattle.rdl_values.specs.Instances.{Instance, children}
 use Rattle.rdl_values.specs.Lineages.{Lineage, lineages_of}
-use Rattle.rdl_index.specs.Rows.{AreInside, AreRows, AreRowsFrom, IsRow}
-use Rattle.rdl_index.specs.declared.table.Row.{Row}
+use Rattle.rdl_nodes.specs.Rows.{AreInside, AreRows, AreRowsFrom, IsRow}
+use Rattle.rdl_nodes.specs.declared.table.Row.{Row}
 use Rattle.rdl_targets.specs.At.{AreAt, IsAt, id_of}
-
-pub on_ok : {T E : Type 0} (r : Result T E) (P Q : Type 0) → (P → Q) → OnOk r P → OnOk r Q
-on_ok (Ok x) P Q f h = f h
-on_ok (Err e) P Q f h = tt
 
 -- the row of a number, and what it is of
 pub record IsRowOf (e : Elab) (all : List Lineage) (k : ℕ) (x : Row) (n : Instance) : Type 0 where

@@ -1,5 +1,5 @@
 -- A target, step by step.
-use Rattle.std.proofs.Common.{◌≡◌, ◌∙◌, ℕ, suc, ◌+◌, ◌<◌, ◌==◌, Bool, true, false, List, [], ◌∷◌, length, get_or, drop, filter, flat_map, append-nil, drop-cons, add-one, Result, Ok, Err, IfOk, refl, sym, ap, arith}
+use Rattle.std.proofs.Common.{◌≡◌, ◌∙◌, ℕ, suc, ◌+◌, ◌<◌, ◌==◌, Bool, true, false, List, [], ◌∷◌, length, get_or, drop, filter, flat_map, append-nil, drop-cons, add-one, refl, sym, ap, arith}
 use Rattle.std.proofs.lemmas.Bool.Decides.{nat_tests}
 use Rattle.rdl_tree.specs.declared.expr.Step.{Step}
 use Rattle.rdl_values.specs.Instances.{Instance, children}
@@ -23,7 +23,3 @@ none_led is ns (t ∷ ts) l = absurd (some (length ts) l)
 pub all_led : (is : Step → Instance → Bool) (n : Instance) (ts : List Step) → (length ts == 0) ≡ false → further is (n ∷ []) ts ≡ led_down children is (children n) ts
 all_led is n [] some = (let two : true ≡ false = some in cc two)
 all_led is n (t ∷ ts) some = ap (λ ns. further is (filter (is t) ns) ts) (append-nil (children n)) ∙ led_first is (children n) t ts
-
-pub if_ok : {T E : Type 0} (r : Result T E) (P Q : T → Type 0) → ((x : T) → P x → Q x) → IfOk r P → IfOk r Q
-if_ok (Ok x) P Q f h = f x h
-if_ok (Err e) P Q f h = tt

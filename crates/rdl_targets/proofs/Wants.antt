@@ -2,7 +2,7 @@
 use Rattle.std.proofs.Common.{◌≡◌, ◌∙◌, ◌≢◌, ℕ, ◌+◌, ◌<◌, ◌≤◌, false, bytes_eq, List, [], ◌∷◌, ◌++◌, length, get_or, take, drop, append_assoc, None, Some, Ok, Err, refl, sym, ap}
 use Rattle.std.specs.Result.{result_ok}
 use Rattle.std.proofs.lemmas.List.{take-append-drop, take_all, take_more}
-use Rattle.rb_base.specs.declared.fault.Fault.{Fault}
+use Rattle.rdl_base.specs.declared.fault.Fault.{Fault}
 use Rattle.rdl_tree.specs.declared.expr.Expr.{Expr}
 use Rattle.rdl_values.specs.Uses.{values}
 use Rattle.rdl_values.specs.Values.{Around, Outcome, number_of, then}

@@ -7,7 +7,7 @@ use Rattle.rdl_values.specs.Elaborated.{index_of}
 use Rattle.rdl_values.specs.Instances.{Instance, children}
 use Rattle.rdl_values.specs.Lineages.{lineages_of}
 use Rattle.rdl_values.specs.Values.{Around}
-use Rattle.rdl_keys.specs.Keyed.{Key, nodes_of, same_key}
+use Rattle.rdl_targets.specs.Keyed.{Key, nodes_of, same_key}
 use Rattle.rdl_layers.specs.Assignments.{is_step}
 use Rattle.rdl_targets.specs.At.{AreAt, IsAt, id_of}
 use Rattle.rdl_targets.specs.Steps.{Wants}

@@ -2,12 +2,12 @@
 
 ghost use Rattle.std.specs.Prelude.{◌≡◌, IfOk, OnOk, slice_get};
 ghost use Rattle.rdl_tree.specs.declared.node.Elab.{Elab};
-ghost use Rattle.rdl_index.specs.Rows.{AreRows};
+ghost use Rattle.rdl_nodes.specs.Rows.{AreRows};
 ghost use Rattle.rdl_targets.specs.Contents.{AreContents};
 
+use crate::keys::Keys;
 use rb_base::NoMemory;
-use rdl_index::Row;
-use rdl_keys::Keys;
+use rdl_nodes::Row;
 use rdl_tree::Node;
 use std::alloc::Global;
 
@@ -21,7 +21,7 @@ pub struct Contents<'a> {
 impl<'a> Contents<'a> {
     ghost use Rattle.std.specs.Prelude.{◌≡◌, ◌∷◌, [], OnOk};
     ghost use Rattle.rdl_tree.specs.declared.node.Node.{out-Node};
-    ghost use Rattle.rdl_keys.specs.Keyed.{nodes_of};
+    ghost use Rattle.rdl_targets.specs.Keyed.{nodes_of};
     ghost use Rattle.rdl_targets.specs.Contents.{AddsNodes};
 
     // Puts a node into a body.

@@ -4,11 +4,11 @@ ghost use Rattle.std.specs.Prelude.{◌≡◌, IfOk, option_map, Some};
 ghost use Rattle.std.specs.Result.{result_ok};
 ghost use Rattle.rdl_values.specs.Uses.{values};
 ghost use Rattle.rdl_values.specs.Values.{Around};
-ghost use Rattle.rdl_judging.specs.Shown.{IsShown};
+ghost use Rattle.rdl_failures.specs.Shown.{IsShown};
 ghost use Rattle.rdl_targets.specs.Steps.{AreNumbers, Wants};
 
 use rb_base::NoMemory;
-use rdl_judging::number_seen;
+use rdl_failures::number_seen;
 use rdl_tree::Expr;
 use rdl_values::Chain;
 use std::alloc::Global;

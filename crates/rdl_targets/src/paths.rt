@@ -6,7 +6,7 @@ ghost use Rattle.rdl_values.specs.Instances.{Instance, children};
 ghost use Rattle.rdl_values.specs.Lineages.{lineages_of};
 ghost use Rattle.rdl_values.specs.Values.{Around};
 ghost use Rattle.rdl_values.specs.Views.{steps_of};
-ghost use Rattle.rdl_judging.specs.Shown.{IsShown};
+ghost use Rattle.rdl_failures.specs.Shown.{IsShown};
 ghost use Rattle.rdl_layers.specs.Assignments.{is_step, led_down};
 ghost use Rattle.rdl_targets.specs.At.{AreAt, IsAt};
 ghost use Rattle.rdl_targets.specs.Contents.{AddsFound, AreContents};

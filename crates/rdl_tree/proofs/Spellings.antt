@@ -6,9 +6,9 @@ use Rattle.std.proofs.Common.{◌≡◌, ℕ, Bool, true, false, ◌||◌, cond,
 use Rattle.std.proofs.lemmas.Bool.Decides.{same_from_decides}
 use denote.Enum.Declared.{Declared}
 use denote.Enum.Bare.{Bare, sameb, same_true, true_same}
-use Rattle.rb_base.specs.declared.keyword.Keyword.{Keyword}
-use Rattle.rb_base.specs.declared.keyword.Keyword.TheVariants as keyword
-use Rattle.rb_base.specs.Keywords.{word, keywords, reserved, is_reserved}
+use Rattle.rdl_base.specs.declared.keyword.Keyword.{Keyword}
+use Rattle.rdl_base.specs.declared.keyword.Keyword.TheVariants as keyword
+use Rattle.rdl_base.specs.Keywords.{word, keywords, reserved, is_reserved}
 use Rattle.rdl_tree.specs.declared.token.Mark.{Mark}
 use Rattle.rdl_tree.specs.declared.token.Mark.TheVariants as mark
 use Rattle.rdl_tree.specs.declared.token.Terminal.{Terminal}

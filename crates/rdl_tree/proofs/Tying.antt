@@ -1,7 +1,7 @@
 -- What derives a tree is of the grammar.
 use Rattle.std.proofs.Common.{◌≡◌, ℕ, true, Option, Some, List, [], ◌∷◌, sym, subst}
-use Rattle.rb_base.specs.declared.keyword.Keyword.{Keyword}
-use Rattle.rb_base.specs.declared.keyword.Keyword.TheVariants as words
+use Rattle.rdl_base.specs.declared.keyword.Keyword.{Keyword}
+use Rattle.rdl_base.specs.declared.keyword.Keyword.TheVariants as words
 use Rattle.rb_grammar.specs.Forms.{Form, Tok, Non, ◌or◌, Opt, Many, ◌then◌, Fits}
 use Rattle.rb_grammar.specs.Readings.{Goal, Whole, Reads, whole, token, rule, first, second, none, some, no_turn, turn, both, Takes}
 use Rattle.rb_grammar.proofs.Bridge.{fits_one}

@@ -1,8 +1,8 @@
 -- How marks are spelled, and which tokens the grammar's terminals are.
 use Rattle.std.specs.Str.{bytes_eq}
 use Rattle.std.specs.Prelude.{ℕ, Bool, true, false, Option, List, [], ◌∷◌, codes}
-use Rattle.rb_base.specs.declared.keyword.Keyword.{Keyword}
-use Rattle.rb_base.specs.Keywords.{word, keywords}
+use Rattle.rdl_base.specs.declared.keyword.Keyword.{Keyword}
+use Rattle.rdl_base.specs.Keywords.{word, keywords}
 use Rattle.rb_grammar.specs.Lexemes.{spelled}
 use Rattle.rdl_tree.specs.declared.token.Mark.{Mark}
 use Rattle.rdl_tree.specs.declared.token.Mark.TheVariants.{OpenBrace, CloseBrace, OpenBracket, CloseBracket, OpenParen, CloseParen, Semicolon, Colon, Comma, Dot, At, Hash, Equals, PlusEquals, PercentEquals, Arrow, Question, ColonColon, Not, Tilde, Quote, Plus, Minus, Star, Slash, Percent, StarStar, ShiftLeft, ShiftRight, Less, Greater, LessEqual, GreaterEqual, EqualEqual, NotEqual, AndAnd, OrOr, And, Or, Caret}

@@ -3,8 +3,8 @@ use Rattle.std.specs.Borrow.{Bor}
 use Rattle.std.specs.Prelude.{◌≡◌, ℕ, ◌+◌, ◌≤◌, true, false, Option, Some, None, Bool, IsTrue, List, [], ◌∷◌, option_copied}
 use Rattle.rb_base.specs.declared.edge.Edge.{Edge}
 use Rattle.rb_base.specs.declared.edge.Edge.TheVariants as edges
-use Rattle.rb_base.specs.declared.keyword.Keyword.{Keyword}
-use Rattle.rb_base.specs.declared.keyword.Keyword.TheVariants as words
+use Rattle.rdl_base.specs.declared.keyword.Keyword.{Keyword}
+use Rattle.rdl_base.specs.declared.keyword.Keyword.TheVariants as words
 use Rattle.rb_base.specs.declared.place.Place.{Place}
 use Rattle.rb_grammar.specs.Readings.{Takes}
 use Rattle.rdl_tree.specs.declared.expr.Expr.{Expr}

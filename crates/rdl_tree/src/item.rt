@@ -1,7 +1,8 @@
 //! The items of a source: definitions, instances and property assignments (SystemRDL 2.0, clause 5 and annex B).
 
-use crate::{Expr, Name, Path};
-use rb_base::{Edge, Keyword, Place};
+use crate::expr::{Expr, Name, Path};
+use rb_base::{Edge, Place};
+use rdl_base::Keyword;
 
 /// What a component is (SystemRDL 2.0, 5.1.1).
 #[derive(Clone, Copy, Debug, PartialEq, Eq)]
@@ -11,6 +12,40 @@ pub enum Kind {
     Reg,
     Field,
     Signal,
+}
+
+impl Kind {
+    ghost use Rattle.std.specs.Prelude.{◌≡◌, ◌||◌};
+    ghost use Rattle.rdl_tree.specs.Kinds.{same_kind};
+    ghost use Rattle.rdl_tree.specs.declared.item.Kind.TheVariants as kinds;
+
+    /// Whether it is a field.
+    pub fn is_field(self) -> bool
+        ensures { result ≡ same_kind kinds.Field self }
+    {
+        self == Kind::Field
+    }
+
+    /// Whether it is a register.
+    pub fn is_register(self) -> bool
+        ensures { result ≡ same_kind kinds.Reg self }
+    {
+        self == Kind::Reg
+    }
+
+    /// Whether it is a signal.
+    pub fn is_signal(self) -> bool
+        ensures { result ≡ same_kind kinds.Signal self }
+    {
+        self == Kind::Signal
+    }
+
+    /// Whether it is an address map or a register file.
+    pub fn is_container(self) -> bool
+        ensures { result ≡ (same_kind kinds.Addrmap self || same_kind kinds.Regfile self) }
+    {
+        matches!(self, Kind::Addrmap | Kind::Regfile)
+    }
 }
 
 /// The type of a parameter (SystemRDL 2.0, 5.1.1 and clause 6). All number types are one.

@@ -1,6 +1,7 @@
 //! The tree of instances.
 
-use crate::{Def, Env, Inst, Kind, Source};
+use crate::item::{Def, Inst, Kind, Source};
+use crate::value::Env;
 use rb_base::Place;
 
 /// An instance, each element of an array being one of its own.

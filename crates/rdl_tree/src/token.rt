@@ -3,7 +3,8 @@
 ghost use Rattle.std.specs.Prelude.{◌≡◌};
 ghost use Rattle.rdl_tree.specs.Tokens.{is};
 
-use rb_base::{Keyword, Place};
+use rb_base::Place;
+use rdl_base::Keyword;
 
 /// A mark of the grammar (SystemRDL 2.0, annex B).
 #[derive(Clone, Copy, Debug, PartialEq, Eq)]

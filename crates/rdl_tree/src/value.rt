@@ -1,6 +1,6 @@
 //! Values of expressions, and what names stand for.
 
-use crate::Name;
+use crate::expr::Name;
 
 /// A number from 0 to 2^64 - 1, a boolean, or a string.
 #[derive(Clone, Copy, Debug)]

@@ -1,8 +1,8 @@
 -- Definitions that are applied.
 use Rattle.std.proofs.Common.{◌≡◌, ◌∙◌, ℕ, Bool, false, not, ◌&&◌, nat_lt, ◌==◌, List, [], ◌∷◌, ◌++◌, length, flat_map, option_to_list, sym, ap, subst}
-use Rattle.rb_base.specs.declared.fault.Fault.{Fault}
+use Rattle.rdl_base.specs.declared.fault.Fault.{Fault}
 use Rattle.rb_base.specs.declared.place.Place.{Place}
-use Rattle.rb_base.specs.declared.rule.Rule.TheVariants as rules
+use Rattle.rdl_base.specs.declared.rule.Rule.TheVariants as rules
 use Rattle.rdl_tree.specs.declared.item.Arg.{Arg}
 use Rattle.rdl_tree.specs.declared.item.Def.{Def}
 use Rattle.rdl_tree.specs.declared.item.Inst.{Inst}
@@ -15,13 +15,13 @@ use Rattle.rdl_values.specs.Paths.{depth_in}
 use Rattle.rdl_values.specs.Phase3.{bad_form, many_parameters, of_use}
 use Rattle.rdl_values.specs.Uses.{Seen, Use}
 use Rattle.rdl_values.specs.declared.chain.Chain.{Chain}
-use Rattle.rdl_judging.specs.Noted.{Holds, IsNoted, with_all}
-use Rattle.rdl_judging.proofs.Noting.{both_noted, noted_as}
-use Rattle.rdl_judging.proofs.Sets.{held, holds-both, holds-left, holds-right, put_before}
-use Rattle.rdl_params.specs.Arguments.{AreArguments}
-use Rattle.rdl_params.specs.Binding.{IsSite}
-use Rattle.rdl_params.specs.Bound.{bad_args}
-use Rattle.rdl_params.specs.declared.arguments.Arguments.{Arguments}
+use Rattle.rdl_failures.specs.Noted.{Holds, IsNoted, with_all}
+use Rattle.rdl_failures.proofs.Noting.{both_noted, noted_as}
+use Rattle.rdl_failures.proofs.Sets.{held, holds-both, holds-left, holds-right, put_before}
+use Rattle.rdl_uses.specs.Arguments.{AreArguments}
+use Rattle.rdl_uses.specs.Binding.{IsSite}
+use Rattle.rdl_uses.specs.Bound.{bad_args}
+use Rattle.rdl_uses.specs.declared.arguments.Arguments.{Arguments}
 use Rattle.rdl_uses.specs.Applied.{IsApplied, IsTypeOf}
 use Rattle.rdl_uses.specs.Given.{IsType, TypeUsed, seen_behind, seens, use_by}
 use Rattle.rdl_uses.specs.Judged.{of_values}

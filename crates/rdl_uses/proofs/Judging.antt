@@ -1,8 +1,9 @@
 -- The failures of a use, step by step.
 use Rattle.std.proofs.Common.{◌≡◌, ◌∙◌, Bool, true, false, not, ◌&&◌, ◌||◌, nat_lt, List, ◌++◌, length, flat_map, Option, is_none, option_to_list, refl, sym, ap, subst, append_assoc, append-nil}
 use Rattle.std.specs.List.{list_any}
-use Rattle.rb_base.specs.declared.fault.Fault.{Fault}
-use Rattle.rb_base.specs.declared.rule.Rule.TheVariants as rules
+use Rattle.plain_lemmas.proofs.Bools.{and-left, and-right}
+use Rattle.rdl_base.specs.declared.fault.Fault.{Fault}
+use Rattle.rdl_base.specs.declared.rule.Rule.TheVariants as rules
 use Rattle.rdl_tree.specs.declared.expr.Name.{Name}
 use Rattle.rdl_tree.specs.declared.item.Def.{Def}
 use Rattle.rdl_tree.specs.declared.item.Inst.{Inst}
@@ -16,24 +17,16 @@ use Rattle.rdl_values.specs.Phase3.{bad_form, is_bad_form, many_parameters, of_u
 use Rattle.rdl_values.specs.Uses.{Seen, Use}
 use Rattle.rdl_values.specs.declared.chain.Chain.{Chain}
 use Rattle.rdl_values.proofs.Copied.{none_copied}
-use Rattle.rdl_judging.specs.Noted.{Holds, IsNoted, with_all}
-use Rattle.rdl_judging.proofs.Noting.{both_noted, held_noted, noted_as}
-use Rattle.rdl_judging.proofs.Sets.{kept}
-use Rattle.rdl_parts.specs.Judged.{of_parts}
+use Rattle.rdl_failures.specs.Noted.{Holds, IsNoted, with_all}
+use Rattle.rdl_failures.proofs.Noting.{both_noted, held_noted, noted_as}
+use Rattle.rdl_failures.proofs.Sets.{kept}
+use Rattle.rdl_uses.specs.Parts.{of_parts}
 use Rattle.rdl_uses.specs.Judged.{IsSeen, of_values}
 use Rattle.rdl_uses.specs.declared.earlier.Earlier.{Earlier}
 use Rattle.rdl_uses.specs.declared.holder.Parent.{Parent}
 
 regrouped : (n p a b q d r l x : List Fault) → n ++ (p ++ (a ++ b) ++ (q ++ d ++ r ++ l) ++ x) ≡ n ++ (p ++ a ++ b ++ q ++ d ++ r ++ l ++ x)
 regrouped n p a b q d r l x = simp append_assoc
-
-and-right : (a b : Bool) → (a && b) ≡ true → b ≡ true
-and-right true b e = e
-and-right false b e = cc
-
-and-left : (a b : Bool) → (a && b) ≡ true → a ≡ true
-and-left true b e = refl
-and-left false b e = cc
 
 pub dims-clean : (fresh held given dims aliased : Bool) → (fresh && (held && given && dims && aliased)) ≡ true → dims ≡ true
 dims-clean fresh held given dims aliased e = and-right (held && given) dims (and-left (held && given && dims) aliased (and-right fresh _ e))

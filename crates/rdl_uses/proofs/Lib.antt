@@ -1,5 +1,10 @@
-mod Primaries
-mod Judging
-mod Seens
 mod Applying
+mod BoundValues
+mod Bytes
+mod Formed
+mod Judging
+mod Numbers
+mod Parted
+mod Primaries
+mod Seens
 mod Unseen

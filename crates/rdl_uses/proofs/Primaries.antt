@@ -1,12 +1,13 @@
 -- Primaries by their places.
-use Rattle.std.proofs.Common.{◌≡◌, ◌∙◌, ℕ, suc, ◌+◌, ◌-◌, Bool, true, false, ◌||◌, cond, bytes_eq, List, [], ◌∷◌, ◌++◌, length, map, find, slice_get, unwrap_or, Option, None, Some, option_to_list, refl, sym, ap, subst, arith}
+use Rattle.std.proofs.Common.{◌≡◌, ◌∙◌, ℕ, suc, ◌+◌, ◌-◌, Bool, true, false, cond, bytes_eq, List, [], ◌∷◌, ◌++◌, length, map, find, slice_get, unwrap_or, Option, None, Some, option_to_list, refl, sym, ap, subst, arith}
 use Rattle.std.specs.List.{list_any, position_from}
 use Rattle.std.proofs.lemmas.List.{length-map, map-append}
+use Rattle.plain_lemmas.proofs.Bools.{or-false}
 use Rattle.rdl_tree.specs.declared.expr.Name.{Name}
 use Rattle.rdl_values.specs.NoNode.{has_primary, is_primary}
 use Rattle.rdl_values.specs.Uses.{Use, same_name}
-use Rattle.rdl_judging.specs.Firsts.{AreFirsts, place_of}
-use Rattle.rdl_judging.proofs.Named.{IsPut, firsts_more, place-from}
+use Rattle.rdl_failures.specs.Firsts.{AreFirsts, place_of}
+use Rattle.rdl_failures.proofs.Named.{IsPut, firsts_more, place-from}
 use Rattle.rdl_uses.specs.Before.{AreEarlier, names_of_uses}
 use Rattle.rdl_uses.specs.declared.earlier.Earlier.{Earlier}
 
@@ -14,10 +15,6 @@ use Rattle.rdl_uses.specs.declared.earlier.Earlier.{Earlier}
 abbrev primary_from : ℕ → List Use → Option ℕ → Bool
 primary_from i us None = false
 primary_from i us (Some k) = unwrap_or (slice_get (map is_primary us) (k - i)) false
-
-or-false : (b : Bool) → (b || false) ≡ b
-or-false true = refl
-or-false false = refl
 
 primary-at : (n : Name) (i : ℕ) (us : List Use) → has_primary us n ≡ primary_from i us (position_from (λ m. bytes_eq m n.text.now) i (names_of_uses us))
 primary-at n i [] = refl

@@ -4,7 +4,7 @@ use Rattle.std.specs.Global.{Global}
 use Rattle.std.specs.Result.{result_ok}
 use Rattle.std.proofs.lemmas.Grind.{flat_map-append}
 use Rattle.std.proofs.lemmas.List.{map-append, take_more}
-use Rattle.rb_base.specs.declared.fault.Fault.{Fault}
+use Rattle.rdl_base.specs.declared.fault.Fault.{Fault}
 use Rattle.rdl_tree.specs.declared.item.Inst.{Inst}
 use Rattle.rdl_values.specs.Bodies.{Closure, standing_from}
 use Rattle.rdl_values.specs.NoNode.{is_primary, is_reg, no_node}
@@ -13,9 +13,9 @@ use Rattle.rdl_values.specs.Phase3.{of_use}
 use Rattle.rdl_values.specs.Uses.{Seen, Use}
 use Rattle.rdl_values.specs.declared.chain.Chain.{Chain}
 use Rattle.rdl_values.proofs.Copied.{none_copied}
-use Rattle.rdl_judging.specs.Noted.{Holds, with_all}
-use Rattle.rdl_judging.proofs.Noting.{standing_from-push}
-use Rattle.rdl_judging.proofs.Sets.{kept, with_all-append}
+use Rattle.rdl_failures.specs.Noted.{Holds, with_all}
+use Rattle.rdl_failures.proofs.Noting.{standing_from-push}
+use Rattle.rdl_failures.proofs.Sets.{kept, with_all-append}
 use Rattle.rdl_uses.specs.Before.{AreEarlier}
 use Rattle.rdl_uses.specs.Given.{IsType, TypeUsed, given_in, pair_of, seen_behind, seens, use_by}
 use Rattle.rdl_uses.specs.Judged.{IsSeen, of_values}

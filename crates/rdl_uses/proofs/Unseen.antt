@@ -3,9 +3,9 @@ use Rattle.std.proofs.Common.{◌≡◌, ◌∙◌, ℕ, ◌+◌, ◌<◌, Bool,
 use Rattle.std.specs.List.{list_any}
 use Rattle.std.proofs.lemmas.Grind.{flat_map-append}
 use Rattle.std.proofs.lemmas.List.{map-append, take_more}
-use Rattle.rb_base.specs.declared.fault.Fault.{Fault}
+use Rattle.rdl_base.specs.declared.fault.Fault.{Fault}
 use Rattle.rb_base.specs.declared.place.Place.{Place}
-use Rattle.rb_base.specs.declared.rule.Rule.TheVariants as rules
+use Rattle.rdl_base.specs.declared.rule.Rule.TheVariants as rules
 use Rattle.rdl_tree.specs.declared.item.Inst.{Inst}
 use Rattle.rdl_values.specs.Bodies.{same_name, standing_from}
 use Rattle.rdl_values.specs.Faults.{at_, when}
@@ -13,9 +13,9 @@ use Rattle.rdl_values.specs.NoNode.{is_primary, name_twice}
 use Rattle.rdl_values.specs.Parts.{is_empty}
 use Rattle.rdl_values.specs.Phase3.{of_use}
 use Rattle.rdl_values.specs.Uses.{Seen, Use}
-use Rattle.rdl_judging.specs.Noted.{IsNoted, with_all}
-use Rattle.rdl_judging.proofs.Noting.{both_noted, noted_as, standing_from-push}
-use Rattle.rdl_judging.proofs.Sets.{with_all-append}
+use Rattle.rdl_failures.specs.Noted.{IsNoted, with_all}
+use Rattle.rdl_failures.proofs.Noting.{both_noted, noted_as, standing_from-push}
+use Rattle.rdl_failures.proofs.Sets.{with_all-append}
 use Rattle.rdl_uses.specs.Before.{AreEarlier}
 use Rattle.rdl_uses.specs.Unknown.{UnknownType, unknown_by, unknown_seen, unknown_seens}
 use Rattle.rdl_uses.specs.declared.earlier.Earlier.{Earlier}

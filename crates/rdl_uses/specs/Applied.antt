@@ -8,7 +8,7 @@ use Rattle.rdl_values.specs.Bodies.{Closure, around}
 use Rattle.rdl_values.specs.Chained.{chained}
 use Rattle.rdl_values.specs.Uses.{Use}
 use Rattle.rdl_values.specs.declared.chain.Chain.{Chain}
-use Rattle.rdl_judging.specs.Shown.{IsAlike, IsShown}
+use Rattle.rdl_failures.specs.Shown.{IsAlike, IsShown}
 use Rattle.rdl_uses.specs.Given.{TypeUsed}
 use Rattle.rdl_uses.specs.Placed.{IsParent}
 use Rattle.rdl_uses.specs.declared.holder.Parent.{Parent}

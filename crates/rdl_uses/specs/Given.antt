@@ -2,7 +2,7 @@
 use Rattle.std.specs.Prelude.{◌≡◌, ℕ, List, [], map, flat_map, cond, Option, Some, option_to_list}
 use Rattle.std.specs.Result.{result_ok}
 use Rattle.rb_base.specs.declared.place.Place.{Place}
-use Rattle.rb_base.specs.declared.fault.Fault.{Fault}
+use Rattle.rdl_base.specs.declared.fault.Fault.{Fault}
 use Rattle.rdl_tree.specs.declared.expr.Name.{Name}
 use Rattle.rdl_tree.specs.declared.item.Arg.{Arg}
 use Rattle.rdl_tree.specs.declared.item.Inst.{Inst}
@@ -12,8 +12,8 @@ use Rattle.rdl_values.specs.Parts.{dims_of, is_empty}
 use Rattle.rdl_values.specs.Paths as paths
 use Rattle.rdl_values.specs.Uses.{Seen, Use, form_of}
 use Rattle.rdl_values.specs.declared.chain.Chain.{Chain}
-use Rattle.rdl_judging.specs.Noted.{Holds}
-use Rattle.rdl_judging.specs.Shown.{IsShown}
+use Rattle.rdl_failures.specs.Noted.{Holds}
+use Rattle.rdl_failures.specs.Shown.{IsShown}
 use Rattle.rdl_uses.specs.Judged.{of_values}
 use Rattle.rdl_uses.specs.Placed.{IsParent}
 use Rattle.rdl_uses.specs.declared.holder.Parent.{Parent}

@@ -1,6 +1,6 @@
 -- An instance as a use that is seen in its body.
 use Rattle.std.specs.Prelude.{◌≡◌, List, ◌++◌, Option, Some}
-use Rattle.rb_base.specs.declared.fault.Fault.{Fault}
+use Rattle.rdl_base.specs.declared.fault.Fault.{Fault}
 use Rattle.rdl_tree.specs.declared.expr.Name.{Name}
 use Rattle.rdl_tree.specs.declared.item.Def.{Def}
 use Rattle.rdl_tree.specs.declared.item.Inst.{Inst}
@@ -9,7 +9,7 @@ use Rattle.rdl_values.specs.Faults.{failures}
 use Rattle.rdl_values.specs.Parameters.{bad_arguments, bound_of}
 use Rattle.rdl_values.specs.Uses.{Seen, Use}
 use Rattle.rdl_values.specs.declared.chain.Chain.{Chain}
-use Rattle.rdl_parts.specs.Judged.{IsUseOf}
+use Rattle.rdl_uses.specs.Parts.{IsUseOf}
 use Rattle.rdl_uses.specs.Before.{AreEarlier}
 use Rattle.rdl_uses.specs.Placed.{IsParent}
 use Rattle.rdl_uses.specs.declared.earlier.Earlier.{Earlier}

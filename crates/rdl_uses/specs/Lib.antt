@@ -1,6 +1,10 @@
-pub mod Placed
-pub mod Before
-pub mod Judged
-pub mod Given
 pub mod Applied
+pub mod Arguments
+pub mod Before
+pub mod Binding
+pub mod Bound
+pub mod Given
+pub mod Judged
+pub mod Parts
+pub mod Placed
 pub mod Unknown

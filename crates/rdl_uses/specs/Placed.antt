@@ -2,7 +2,7 @@
 use Rattle.std.specs.Prelude.{◌≡◌}
 use Rattle.rdl_values.specs.Paths as paths
 use Rattle.rdl_values.specs.Paths.{nowhere, at_root, in_node}
-use Rattle.rdl_parts.specs.Judged.{StandsAt}
+use Rattle.rdl_uses.specs.Parts.{StandsAt}
 use Rattle.rdl_uses.specs.declared.holder.Holder.{Holder}
 use Rattle.rdl_uses.specs.declared.holder.Holder.TheVariants as holder
 use Rattle.rdl_uses.specs.declared.holder.Parent.{Parent}

@@ -3,7 +3,7 @@
 ghost use Rattle.std.specs.Prelude.{◌≡◌, unwrap_or, slice_get, false};
 
 use rb_base::NoMemory;
-use rdl_judging::Firsts;
+use rdl_failures::Firsts;
 use rdl_tree::Name;
 use std::alloc::Global;
 

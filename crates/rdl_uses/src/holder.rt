@@ -3,7 +3,7 @@
 ghost use Rattle.std.specs.Prelude.{◌≡◌};
 ghost use Rattle.rdl_values.specs.NoNode as spec;
 
-use rdl_parts::Standing;
+use crate::standing::Standing;
 use rdl_tree::Kind;
 
 /// What holds the uses of a body: the root, or a node of a kind.

@@ -1,22 +1,23 @@
 //! The failures of one instance of a definition.
 
 ghost use Rattle.std.specs.Prelude.{◌≡◌, ◌&&◌, List, true, not, is_none, flat_map, IfOk, IfSome, IsSome, Some, is_some, option_to_list, Ok};
-ghost use Rattle.rb_base.specs.declared.rule.Rule.TheVariants as rules;
+ghost use Rattle.rdl_base.specs.declared.rule.Rule.TheVariants as rules;
 ghost use Rattle.rdl_values.specs.Bodies.{Closure};
 ghost use Rattle.rdl_values.specs.Faults.{at_, when};
 ghost use Rattle.rdl_values.specs.NoNode as spec;
 ghost use Rattle.rdl_values.specs.Parts.{dims_of, is_empty};
 ghost use Rattle.rdl_values.specs.Phase3 as phase;
 ghost use Rattle.rdl_values.specs.Uses.{Seen, Use};
-ghost use Rattle.rdl_judging.specs.Noted.{Holds, IsNoted, with_all};
+ghost use Rattle.rdl_failures.specs.Noted.{Holds, IsNoted, with_all};
 ghost use Rattle.rdl_uses.specs.Before.{AreEarlier};
 ghost use Rattle.rdl_uses.specs.Judged.{IsSeen, of_values};
 
 use crate::earlier::Earlier;
 use crate::holder::Parent;
-use rb_base::{NoMemory, Rule};
-use rdl_judging::Failures;
-use rdl_parts::{is_bad_form, judge_parts};
+use crate::parts::{is_bad_form, judge_parts};
+use rb_base::NoMemory;
+use rdl_base::Rule;
+use rdl_failures::Failures;
 use rdl_tree::{Def, Inst, Kind, Name};
 use rdl_values::Chain;
 use std::alloc::Global;

@@ -3,7 +3,7 @@
 ghost use Rattle.std.specs.Prelude.{◌≡◌, List, ◌++◌, map, flat_map, is_none, option_to_list, IfOk, OnOk};
 ghost use Rattle.rdl_values.specs.Phase3.{of_use};
 ghost use Rattle.rdl_values.specs.Uses.{Use};
-ghost use Rattle.rdl_judging.specs.Noted.{with_all};
+ghost use Rattle.rdl_failures.specs.Noted.{with_all};
 ghost use Rattle.rdl_uses.specs.Before.{AreEarlier};
 ghost use Rattle.rdl_uses.specs.Given.{IsType, TypeUsed, given_in, pair_of, seens, use_by};
 
@@ -11,7 +11,7 @@ use crate::earlier::Earlier;
 use crate::holder::Parent;
 use crate::instance::{is_single_reg, judge_instance};
 use rb_base::NoMemory;
-use rdl_judging::Failures;
+use rdl_failures::Failures;
 use rdl_tree::{Def, Inst, Name};
 use rdl_values::Chain;
 use std::alloc::Global;

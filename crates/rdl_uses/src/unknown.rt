@@ -3,13 +3,14 @@
 ghost use Rattle.std.specs.Prelude.{◌≡◌, List, ◌++◌, map, flat_map, OnOk};
 ghost use Rattle.rdl_values.specs.Phase3.{of_use};
 ghost use Rattle.rdl_values.specs.Uses.{Use};
-ghost use Rattle.rdl_judging.specs.Noted.{with_all};
+ghost use Rattle.rdl_failures.specs.Noted.{with_all};
 ghost use Rattle.rdl_uses.specs.Before.{AreEarlier};
 ghost use Rattle.rdl_uses.specs.Unknown.{UnknownType, unknown_by, unknown_seens};
 
 use crate::earlier::Earlier;
-use rb_base::{NoMemory, Place, Rule};
-use rdl_judging::Failures;
+use rb_base::{NoMemory, Place};
+use rdl_base::Rule;
+use rdl_failures::Failures;
 use rdl_tree::Inst;
 
 /// Puts in all failures of the instances of a type that isn't visible, whose name stands at the place: E3 there, and E4.

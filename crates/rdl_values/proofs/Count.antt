@@ -1,6 +1,6 @@
 -- Rule E9 fails exactly where the count of nodes goes past those that are judged.
 use Rattle.std.proofs.Common.{◌≡◌, ◌≢◌, ℕ, zero, suc, ◌≤◌, ◌<◌, List, [], ◌∷◌, length, drop, Option, refl, subst, arith}
-use Rattle.rb_base.specs.declared.fault.Fault.{Fault}
+use Rattle.rdl_base.specs.declared.fault.Fault.{Fault}
 use Rattle.rdl_tree.specs.declared.item.Source.{Source}
 use Rattle.rdl_values.specs.Elaborated.{measured}
 use Rattle.rdl_values.specs.Instances.{Instance, nodes, most_nodes}

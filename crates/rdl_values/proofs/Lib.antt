@@ -1,14 +1,14 @@
-mod Count
-mod Paths
-mod Powers
-pub mod Given
-pub mod Numbered
-pub mod Sorted
+mod Around
 pub mod Clean
 pub mod Copied
-mod Around
-mod Rows
-mod Primary
-mod Tables
-mod Nearest
+mod Count
+pub mod Given
 mod LookUps
+mod Nearest
+pub mod Numbered
+mod Paths
+mod Powers
+mod Primary
+mod Rows
+pub mod Sorted
+mod Tables

@@ -1,6 +1,6 @@
 -- Values by what names stand for.
 use Rattle.std.proofs.Common.{◌≡◌, refl, ap, ℕ, List, Option, None, Some}
-use Rattle.rb_base.specs.declared.rule.Rule.TheVariants as rules
+use Rattle.rdl_base.specs.declared.rule.Rule.TheVariants as rules
 use Rattle.rdl_tree.specs.declared.expr.Expr.{Expr, Number, Flag, Str, Ref, EntryOf, Not', Binary', Pick'}
 use Rattle.rdl_tree.specs.declared.expr.Name.{Name}
 use Rattle.rdl_values.specs.Views.{steps_of}

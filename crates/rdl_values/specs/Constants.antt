@@ -1,8 +1,8 @@
 -- The values of constants (SystemRDL 2.0, clause 6), what one is where another type is wanted, and how a step may fail.
 use Rattle.std.specs.Prelude.{ℕ, Bool, not, cond, List, ◌==◌, Option, None, Some, option_map, Result, Ok, Err}
 use Rattle.rb_base.specs.declared.place.Place.{Place}
-use Rattle.rb_base.specs.declared.fault.Fault.{Fault}
-use Rattle.rb_base.specs.declared.rule.Rule.{Rule}
+use Rattle.rdl_base.specs.declared.fault.Fault.{Fault}
+use Rattle.rdl_base.specs.declared.rule.Rule.{Rule}
 use Rattle.rdl_tree.specs.declared.item.PType.{PType}
 use Rattle.rdl_tree.specs.declared.item.PType.TheVariants as ptype
 

@@ -1,6 +1,6 @@
 -- What `elaborate` answers: the instances of a source where no rule of the phase fails, else the phase's failures.
 use Rattle.std.specs.Prelude.{ℕ, List, [], Option, Some}
-use Rattle.rb_base.specs.declared.fault.Fault.{Fault}
+use Rattle.rdl_base.specs.declared.fault.Fault.{Fault}
 use Rattle.rdl_tree.specs.declared.item.Source.{Source}
 use Rattle.rdl_tree.specs.declared.node.Elab.{Elab}
 use Rattle.rdl_tree.specs.InOrder.{IsInOrder}

@@ -1,8 +1,8 @@
 -- Failures as lists: a rule's failures are those of each body, use or node, one after the other.
 use Rattle.std.specs.Prelude.{Bool, cond, List, [], ◌∷◌, Ok, Err}
 use Rattle.rb_base.specs.declared.place.Place.{Place}
-use Rattle.rb_base.specs.declared.fault.Fault.{Fault}
-use Rattle.rb_base.specs.declared.rule.Rule.{Rule}
+use Rattle.rdl_base.specs.declared.fault.Fault.{Fault}
+use Rattle.rdl_base.specs.declared.rule.Rule.{Rule}
 use Rattle.rdl_values.specs.Values.{Outcome}
 
 abbrev pub at_ : Rule → Place → Fault

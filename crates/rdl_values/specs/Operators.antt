@@ -3,7 +3,7 @@
 -- the types are judged first (V2), then a divisor of 0 (V4), then the range of the result (V3).
 use Rattle.std.specs.Prelude.{ℕ, ◌+◌, ◌-◌, ◌*◌, ◌/◌, ◌%◌, ◌^◌, Bool, true, false, not, ◌&&◌, ◌||◌, cond, nat_lt, nat_le, ◌==◌, bytes_eq, bit_and, bit_or, bit_xor, Option, None, Some, Ok}
 use Rattle.rb_base.specs.declared.place.Place.{Place}
-use Rattle.rb_base.specs.declared.rule.Rule.TheVariants as rules
+use Rattle.rdl_base.specs.declared.rule.Rule.TheVariants as rules
 use Rattle.rdl_tree.specs.declared.expr.Op.{Op}
 use Rattle.rdl_tree.specs.declared.expr.Op.TheVariants as op
 use Rattle.rdl_values.specs.Constants.{Val, number, flag, text, as_number, as_flag, Outcome, fails, then, or_fails}

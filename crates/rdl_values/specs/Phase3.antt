@@ -2,8 +2,8 @@
 -- instances. Each rule is a list of failures, over the bodies and the uses that are judged. The uses are those that give nodes.
 use Rattle.std.specs.Prelude.{ℕ, Bool, true, false, not, ◌&&◌, ◌||◌, List, [], ◌∷◌, ◌++◌, length, nat_lt, ◌==◌, map, flat_map, drop, Option, None, Some, is_some, option_to_list, Contains}
 use Rattle.std.specs.List.{list_any}
-use Rattle.rb_base.specs.declared.fault.Fault.{Fault}
-use Rattle.rb_base.specs.declared.rule.Rule.TheVariants as rules
+use Rattle.rdl_base.specs.declared.fault.Fault.{Fault}
+use Rattle.rdl_base.specs.declared.rule.Rule.TheVariants as rules
 use Rattle.rdl_tree.specs.declared.expr.Name.{Name}
 use Rattle.rdl_tree.specs.declared.item.Item.{Item}
 use Rattle.rdl_tree.specs.declared.item.Kind.{Kind}

@@ -6,7 +6,7 @@ use Rattle.rdl_tree.specs.declared.value.Bound.{Bound}
 use Rattle.rdl_tree.specs.declared.value.EntryValue.{EntryValue}
 use Rattle.rdl_tree.specs.declared.expr.Name.{Name}
 use Rattle.rdl_tree.specs.declared.value.Env.{Env, Env', Held-Env-outer, None', Some'}
-use Rattle.rb_base.specs.declared.fault.Fault.{Fault}
+use Rattle.rdl_base.specs.declared.fault.Fault.{Fault}
 use Rattle.rdl_values.specs.Values.{Val, number, flag, text, Outcome, EnumOf, Names, Around}
 
 -- a value of the code

@@ -1,7 +1,7 @@
 -- What a constant expression means: its value, or its first failure.
 use Rattle.std.specs.Prelude.{ℕ, not, cond, List, [], ◌∷◌, Option, None, Some, Ok}
 use Rattle.rb_base.specs.declared.place.Place.{Place}
-use Rattle.rb_base.specs.declared.rule.Rule.TheVariants as rules
+use Rattle.rdl_base.specs.declared.rule.Rule.TheVariants as rules
 use Rattle.rdl_tree.specs.declared.expr.Expr.{Expr, Number, Flag, Str, Ref, EntryOf, Not', Binary', Pick'}
 use Rattle.rdl_tree.specs.declared.expr.Path.{Path}
 use Rattle.rdl_tree.specs.declared.expr.Step.{Step}

@@ -3,10 +3,10 @@ use Rattle.std.specs.Prelude.{◌≡◌, ◌≢◌, ◌⊎◌, ◌↔◌, List, 
 use Rattle.std.specs.List.Sorted.{IsStrictlySortedBy}
 use Rattle.std.specs.declared.cmp.Ordering.{Ordering}
 use Rattle.std.specs.declared.cmp.Ordering.TheVariants.{Less, Equal, Greater}
-use Rattle.rb_base.specs.Faults.{fault_cmp}
+use Rattle.rdl_base.specs.Faults.{fault_cmp}
 use Rattle.rb_base.specs.declared.place.Place.{Place}
-use Rattle.rb_base.specs.declared.fault.Fault.{Fault}
-use Rattle.rb_base.specs.declared.rule.Rule.{Rule}
+use Rattle.rdl_base.specs.declared.fault.Fault.{Fault}
+use Rattle.rdl_base.specs.declared.rule.Rule.{Rule}
 
 -- Which rule fails at which place.
 abbrev pub Fails : Type 1

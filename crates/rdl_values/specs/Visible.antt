@@ -1,7 +1,7 @@
 -- What an expression may name: the parameters and the enums of the bodies round it (SystemRDL 2.0, 5.1.4).
 use Rattle.std.specs.Option.{option_or}
 use Rattle.std.specs.Prelude.{ℕ, ◌&&◌, List, [], ◌∷◌, nat_lt, bytes_eq, find, Option, None, Some, option_map, Ok}
-use Rattle.rb_base.specs.declared.rule.Rule.TheVariants as rules
+use Rattle.rdl_base.specs.declared.rule.Rule.TheVariants as rules
 use Rattle.rdl_tree.specs.declared.expr.Name.{Name}
 use Rattle.rdl_values.specs.Constants.{Val, number, Outcome, then, or_fails}
 

@@ -1,7 +1,7 @@
 //! What a constant expression sees of bodies that stand in one list: look-ups and values without a list of references.
 
 ghost use Rattle.std.specs.Prelude.{◌≡◌, MatchOption, Some, None, Ok, Err};
-ghost use Rattle.rb_base.specs.declared.rule.Rule.TheVariants as rules;
+ghost use Rattle.rdl_base.specs.declared.rule.Rule.TheVariants as rules;
 ghost use Rattle.rdl_tree.specs.declared.expr.Expr.TheVariants as expr;
 ghost use Rattle.rdl_values.specs.Chained.{body_at, chained, chained_in};
 ghost use Rattle.rdl_values.specs.Seen.{val_of, outcome_of};
@@ -13,7 +13,7 @@ use crate::operators::{apply, condition, number_in};
 use crate::table::{EnumTable, Table};
 use crate::visible::unknown;
 use crate::wanted::start_of;
-use rb_base::{Fault, Rule};
+use rdl_base::{Fault, Rule};
 use rdl_tree::{Expr, Name, Path, Value};
 
 /// Bodies by their numbers in a list of tables, the nearest first. A number past the end stands for none. A body that isn't in the

@@ -10,7 +10,8 @@ ghost use Rattle.rdl_values.specs.Tabled.{around_in};
 
 use crate::operators::{apply, condition};
 use crate::visible::{Visible, entry_in, parameter_in};
-use rb_base::{Fault, Place, Rule};
+use rb_base::Place;
+use rdl_base::{Fault, Rule};
 use rdl_tree::{Env, Expr, Name, Path, Value};
 
 /// The name that a path of one bare name is.

@@ -4,8 +4,8 @@ ghost use Rattle.std.specs.Prelude.{◌≡◌, ◌≢◌, ℕ, ◌≤◌, ◌<�
 ghost use Rattle.std.specs.Cmp.{IsEquivalence};
 ghost use Rattle.std.specs.List.{AllByRecursion, dedup};
 ghost use Rattle.std.specs.Ordering.{eq_by_cmp};
-ghost use Rattle.rb_base.specs.Faults.{fault_cmp};
-ghost use Rattle.rb_base.specs.declared.fault.Fault.{Fault};
+ghost use Rattle.rdl_base.specs.Faults.{fault_cmp};
+ghost use Rattle.rdl_base.specs.declared.fault.Fault.{Fault};
 ghost use Rattle.rdl_tree.specs.declared.item.Source.{Source};
 ghost use Rattle.rdl_tree.specs.declared.node.Elab.{Elab};
 ghost use Rattle.rdl_tree.specs.declared.node.Node.{Node, out-Node};

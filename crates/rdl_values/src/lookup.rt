@@ -8,7 +8,7 @@ ghost use Rattle.rdl_values.specs.Values as values;
 ghost use Rattle.rdl_values.specs.Visible as visible;
 ghost use Rattle.rdl_values.specs.Seen.{around_of, bound_of, enum_in, names_in, val_of, outcome_of};
 
-use rb_base::{Fault, Rule};
+use rdl_base::{Fault, Rule};
 use rdl_tree::{Bound, EntryValue, Env, Name, Value};
 
 // The value of the first parameter of a body that has the name.

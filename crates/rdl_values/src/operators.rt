@@ -3,12 +3,13 @@
 ghost use Rattle.std.specs.Prelude.{◌≡◌, Some, option_map};
 ghost use Rattle.rdl_values.specs.Values.{applied, as_flag, as_number, or_fails};
 ghost use Rattle.rdl_values.specs.Values as values;
-ghost use Rattle.rb_base.specs.declared.rule.Rule.TheVariants as rules;
+ghost use Rattle.rdl_base.specs.declared.rule.Rule.TheVariants as rules;
 ghost use Rattle.rdl_values.specs.Operators as operators;
 ghost use Rattle.rdl_values.specs.Seen.{outcome_of, val_of};
 
 use crate::numbers::{power, shifted_left, shifted_right};
-use rb_base::{Fault, Place, Rule};
+use rb_base::Place;
+use rdl_base::{Fault, Rule};
 use rdl_tree::{Op, Value};
 
 /// What a value is where a number is wanted: a boolean is 0 or 1, and a string is none.

@@ -1,7 +1,7 @@
 //! What a constant expression sees: tables of bodies, and an environment that is gone through name by name.
 
 ghost use Rattle.std.specs.Prelude.{◌≡◌, MatchOption, Some, None, Err};
-ghost use Rattle.rb_base.specs.declared.rule.Rule.TheVariants as rules;
+ghost use Rattle.rdl_base.specs.declared.rule.Rule.TheVariants as rules;
 ghost use Rattle.rdl_values.specs.Values.{entry_value};
 ghost use Rattle.rdl_values.specs.Values as values;
 ghost use Rattle.rdl_values.specs.Seen.{val_of, outcome_of};
@@ -9,7 +9,7 @@ ghost use Rattle.rdl_values.specs.Tabled.{tabled, around_in};
 
 use crate::lookup::{entry, parameter};
 use crate::table::{EnumTable, Table};
-use rb_base::{Fault, Rule};
+use rdl_base::{Fault, Rule};
 use rdl_tree::{Env, Name, Value};
 
 /// The bodies round a constant expression, the nearest first. A look-up goes through the tables one by one, but not through the

@@ -8,7 +8,8 @@ ghost use Rattle.rdl_values.specs.Tabled.{around_in};
 use crate::constants::{eval_in, path_place};
 use crate::operators::{flag_in, number_in};
 use crate::visible::Visible;
-use rb_base::{Fault, Place, Rule};
+use rb_base::Place;
+use rdl_base::{Fault, Rule};
 use rdl_tree::{Env, Expr, PType, Value};
 
 /// Where an expression begins, opening round brackets passed over: the place of a value of the wrong type.

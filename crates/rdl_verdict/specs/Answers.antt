@@ -1,6 +1,6 @@
 -- What the calls of this crate answer.
 use Rattle.std.specs.Prelude.{◌≢◌, ℕ, List, [], Option, Result, Ok, Err}
-use Rattle.rb_base.specs.declared.fault.Fault.{Fault}
+use Rattle.rdl_base.specs.declared.fault.Fault.{Fault}
 use Rattle.rdl_values.specs.Elaboration.{Elaborates, IsClean}
 use Rattle.rdl_verdict.specs.Verdict.{IsDescribed, IsVerdict}
 use Rattle.rdl_verdict.specs.declared.error.JudgeError.{JudgeError}

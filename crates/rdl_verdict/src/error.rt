@@ -1,6 +1,6 @@
 //! Why a source has no block.
 
-use rb_base::Fault;
+use rdl_base::Fault;
 use thiserror::Error;
 
 /// Why a source has no block.

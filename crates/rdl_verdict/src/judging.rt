@@ -4,22 +4,21 @@ ghost use Rattle.std.specs.Prelude.{◌≡◌, ◌<◌, ◌^◌, ◌-◌, IfErr,
 ghost use Rattle.rdl_values.specs.Elaborated.{HasWords, top_name};
 ghost use Rattle.rdl_values.specs.Elaboration.{IsClean};
 ghost use Rattle.rdl_layers.specs.Answers.{IsSettled};
-ghost use Rattle.rdl_facts.specs.Facts.{AreFacts};
+ghost use Rattle.rdl_rules.specs.Facts.{AreFacts};
 ghost use Rattle.rdl_rules.specs.Answers.{IsBlockFor, meaning_fails};
 ghost use Rattle.rdl_check.specs.Trees.{HaveOneForm};
 ghost use Rattle.rdl_verdict.specs.Answers.{Judges};
 ghost use Rattle.rdl_verdict.specs.Steps.{FailsLate, HasAll, IsClear, IsStood};
 
-use crate::JudgeError;
+use crate::error::JudgeError;
 use crate::phases::{Stood, grow, read, set, stand};
 use bumpalo::Bump;
 use rb_model::Block;
 use rdl_check::check;
+use rdl_failures::PhaseError;
 use rdl_lexer::spelled_in_order;
-use rdl_nodes::names_are_words;
-use rdl_rules::CheckError;
+use rdl_nodes::{derived_forms_are_single, forms_are_single, names_are_words};
 use rdl_settle::Settled;
-use rdl_single_forms::{derived_forms_are_single, forms_are_single};
 use rdl_tree::{Elab, derived_in_order};
 use rdl_values::name_decides_the_top;
 use std::alloc::Global;
@@ -50,8 +49,8 @@ fn mean<'a>(
 {
     match check(alloc, elab, settled, &stood.map, &stood.refs) {
         Ok(block) => Ok(block),
-        Err(CheckError::Faults(list)) => Err(JudgeError::Faults(list)),
-        Err(CheckError::NoMemory) => Err(JudgeError::NoMemory),
+        Err(PhaseError::Faults(list)) => Err(JudgeError::Faults(list)),
+        Err(PhaseError::NoMemory) => Err(JudgeError::NoMemory),
     }
 }
 

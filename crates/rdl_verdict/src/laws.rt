@@ -1,7 +1,7 @@
 //! What the definition of a verdict determines.
 
 ghost use Rattle.std.specs.Prelude.{◌≡◌, ℕ, List, Option};
-ghost use Rattle.rb_base.specs.declared.fault.Fault.{Fault};
+ghost use Rattle.rdl_base.specs.declared.fault.Fault.{Fault};
 ghost use Rattle.rdl_tree.specs.declared.item.Source.{Source};
 ghost use Rattle.rdl_values.specs.Verdict.{FirstOf};
 ghost use Rattle.rdl_verdict.specs.Verdict.{tree_phases};

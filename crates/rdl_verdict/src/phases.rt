@@ -8,22 +8,23 @@ ghost use Rattle.rdl_values.specs.Phase3.{fails3};
 ghost use Rattle.rdl_values.specs.Verdict.{IsListOf, IsRefusal};
 ghost use Rattle.rdl_parser.specs.Verdicts.{HasError, Reads};
 ghost use Rattle.rdl_layers.specs.Answers.{IsSettled, settings_fail};
-ghost use Rattle.rdl_facts.specs.Facts.{AreFacts};
+ghost use Rattle.rdl_rules.specs.Facts.{AreFacts};
 ghost use Rattle.rdl_addr.specs.Answers.{IsPlaced, places_fail};
 ghost use Rattle.rdl_verdict.specs.Answers.{Refuses};
 ghost use Rattle.rdl_verdict.specs.Steps.{HasAll, HasOne, IsStood, stands_fail};
 
-use crate::JudgeError;
+use crate::error::JudgeError;
 use bumpalo::Bump;
-use rb_base::{Fault, NoMemory, Rule};
-use rdl_addr::{AddrError, Map};
+use rb_base::NoMemory;
+use rdl_addr::Map;
+use rdl_base::{Fault, Rule};
 use rdl_bind::bind;
-use rdl_elab::{ElabError, elaborate};
-use rdl_faults::listed;
-use rdl_layers::{LayerError, Props};
+use rdl_elab::elaborate;
+use rdl_failures::{PhaseError, listed};
+use rdl_layers::Props;
 use rdl_parser::{ParseError, parse};
 use rdl_place::place;
-use rdl_refs::{RefError, Refs};
+use rdl_refs::Refs;
 use rdl_settle::{Settled, settle};
 use rdl_tree::{Elab, Source};
 use std::alloc::Global;
@@ -93,8 +94,8 @@ pub(crate) fn grow<'a>(
 {
     match elaborate(alloc, arena, source, top) {
         Ok(elab) => Ok(elab),
-        Err(ElabError::Faults(list)) => Err(JudgeError::Faults(list)),
-        Err(ElabError::NoMemory) => Err(JudgeError::NoMemory),
+        Err(PhaseError::Faults(list)) => Err(JudgeError::Faults(list)),
+        Err(PhaseError::NoMemory) => Err(JudgeError::NoMemory),
     }
 }
 
@@ -112,8 +113,8 @@ pub(crate) fn set<'a>(
 {
     match settle(alloc, arena, elab) {
         Ok(settled) => Ok(settled),
-        Err(LayerError::Faults(list)) => Err(JudgeError::Faults(list)),
-        Err(LayerError::NoMemory) => Err(JudgeError::NoMemory),
+        Err(PhaseError::Faults(list)) => Err(JudgeError::Faults(list)),
+        Err(PhaseError::NoMemory) => Err(JudgeError::NoMemory),
     }
 }
 
@@ -141,11 +142,11 @@ fn with_targets<'a>(
 {
     match bind(alloc, elab, props) {
         Ok(_refs) => JudgeError::Faults(list),
-        Err(RefError::Faults(more)) => match merged(list, &more) {
+        Err(PhaseError::Faults(more)) => match merged(list, &more) {
             Ok(all) => JudgeError::Faults(all),
             Err(NoMemory) => JudgeError::NoMemory,
         },
-        Err(RefError::NoMemory) => JudgeError::NoMemory,
+        Err(PhaseError::NoMemory) => JudgeError::NoMemory,
     }
 }
 
@@ -166,8 +167,8 @@ fn lead<'a>(
 {
     match bind(alloc, elab, props) {
         Ok(refs) => Ok(Stood { map, refs }),
-        Err(RefError::Faults(list)) => Err(JudgeError::Faults(list)),
-        Err(RefError::NoMemory) => Err(JudgeError::NoMemory),
+        Err(PhaseError::Faults(list)) => Err(JudgeError::Faults(list)),
+        Err(PhaseError::NoMemory) => Err(JudgeError::NoMemory),
     }
 }
 
@@ -185,7 +186,7 @@ pub(crate) fn stand<'a>(
 {
     match place(alloc, elab, props) {
         Ok(map) => lead(alloc, elab, props, map),
-        Err(AddrError::Faults(list)) => Err(with_targets(alloc, elab, props, list)),
-        Err(AddrError::NoMemory) => Err(JudgeError::NoMemory),
+        Err(PhaseError::Faults(list)) => Err(with_targets(alloc, elab, props, list)),
+        Err(PhaseError::NoMemory) => Err(JudgeError::NoMemory),
     }
 }

@@ -1,21 +1,14 @@
 -- The first example nests nowhere too deep.
 use Rattle.std.specs.List.{fold}
 use Rattle.std.specs.Prelude.{leb}
-use Rattle.std.proofs.Common.{◌≡◌, ℕ, zero, suc, ◌≤◌, ◌&&◌, Bool, true, false, List, [], ◌∷◌, length, take, refl, arith, leb-true}
+use Rattle.std.proofs.Common.{◌≡◌, ℕ, zero, suc, ◌≤◌, ◌&&◌, Bool, true, List, [], ◌∷◌, length, take, refl, arith, leb-true}
+use Rattle.plain_lemmas.proofs.Bools.{and-left as first_holds, and-right as second_holds}
 use Rattle.rdl_tree.specs.declared.token.Token.{Token}
-use Rattle.rdl_depth.specs.Depth.{Depth, IsWithin, StaysWithin, deeper, effect, start}
+use Rattle.rdl_lexer.specs.Depth.{Depth, IsWithin, StaysWithin, deeper, effect, start}
 use Rattle.rdl_verdict_laws.proofs.ExampleTokens.{tokens}
 
 abbrev is_within : Depth → Bool
 is_within d = leb (length d.outer) 64 && leb d.inner.operators 64
-
-first_holds : (a b : Bool) → (a && b) ≡ true → a ≡ true
-first_holds true b h = refl
-first_holds false b h = h
-
-second_holds : (a b : Bool) → (a && b) ≡ true → b ≡ true
-second_holds true b h = h
-second_holds false b h = absurd (let q : false ≡ true = h in cc)
 
 within : (d : Depth) → is_within d ≡ true → IsWithin d
 within d h = record { brackets = leb-true (length d.outer) 64 (first_holds (leb (length d.outer) 64) (leb d.inner.operators 64) h); operators = leb-true d.inner.operators 64 (second_holds (leb (length d.outer) 64) (leb d.inner.operators 64) h) }

@@ -3,9 +3,9 @@ use Rattle.std.proofs.Common.{◌≡◌, ◌⊎◌, ⊎_elim, inl, inr, ℕ, nat
 use Rattle.std.specs.Char.{is_ascii_digit}
 use Rattle.std.specs.List.{take_while, starts_with}
 use Rattle.std.proofs.lemmas.List.{take_at}
-use Rattle.rb_base.specs.declared.keyword.Keyword.{Keyword}
-use Rattle.rb_base.specs.declared.keyword.Keyword.TheVariants as words
-use Rattle.rb_base.specs.Keywords.{keywords}
+use Rattle.rdl_base.specs.declared.keyword.Keyword.{Keyword}
+use Rattle.rdl_base.specs.declared.keyword.Keyword.TheVariants as words
+use Rattle.rdl_base.specs.Keywords.{keywords}
 use Rattle.rb_grammar.specs.Separators.{Skips, stay, skip, blank, begins_separator}
 use Rattle.rb_grammar.specs.Spelling.{At, Spells, SpellsFrom, StartsWith}
 use Rattle.rdl_tree.specs.declared.token.Mark.{Mark}

@@ -1,8 +1,8 @@
 -- The tokens of the first example, and its tree.
 use Rattle.std.proofs.Common.{ℕ, List, [], ◌∷◌, ◌++◌, None, Some, codes}
-use Rattle.rb_base.specs.declared.keyword.Keyword.{Keyword}
-use Rattle.rb_base.specs.declared.keyword.Keyword.TheVariants as words
-use Rattle.rb_base.specs.Keywords.{word}
+use Rattle.rdl_base.specs.declared.keyword.Keyword.{Keyword}
+use Rattle.rdl_base.specs.declared.keyword.Keyword.TheVariants as words
+use Rattle.rdl_base.specs.Keywords.{word}
 use Rattle.rdl_tree.specs.declared.token.Mark.{Mark}
 use Rattle.rdl_tree.specs.declared.token.Mark.TheVariants as marks
 use Rattle.rdl_tree.specs.declared.token.Token.{Token}

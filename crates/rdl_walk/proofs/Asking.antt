@@ -2,7 +2,7 @@
 use Rattle.std.proofs.Common.{◌≡◌, ◌≢◌, ◌∙◌, ℕ, zero, suc, ◌+◌, ◌-◌, ◌<◌, ◌≤◌, Bool, true, false, cond, nat_lt, List, [], ◌∷◌, ◌++◌, length, flat_map, map, slice_get, Option, None, Some, refl, sym, ap, subst, arith, append-nil, ◌⊎◌, inl, inr}
 use Rattle.std.specs.List.{AllByRecursion}
 use Rattle.std.proofs.lemmas.Bool.{ltb-true}
-use Rattle.rb_base.specs.declared.fault.Fault.{Fault}
+use Rattle.rdl_base.specs.declared.fault.Fault.{Fault}
 use Rattle.rb_base.specs.declared.place.Place.{Place}
 use Rattle.rdl_tree.specs.declared.item.Kind.{Kind}
 use Rattle.rdl_values.specs.Bodies as values
@@ -11,10 +11,10 @@ use Rattle.rdl_values.specs.Instances.{Instance, body, given_by, kind_of, most_n
 use Rattle.rdl_values.specs.Paths.{Parent, in_node}
 use Rattle.rdl_values.specs.Phase3.{of_use}
 use Rattle.rdl_values.specs.Uses.{Seen, Use, parent_of, seen, uses}
-use Rattle.rdl_judging.specs.Noted.{Holds, with_all}
-use Rattle.rdl_judging.proofs.Sets.{again, held, kept}
-use Rattle.rdl_parts.specs.Judged.{StandsAt}
-use Rattle.rdl_parts.specs.declared.standing.Standing.{Standing}
+use Rattle.rdl_failures.specs.Noted.{Holds, with_all}
+use Rattle.rdl_failures.proofs.Sets.{again, held, kept}
+use Rattle.rdl_uses.specs.Parts.{StandsAt}
+use Rattle.rdl_uses.specs.declared.standing.Standing.{Standing}
 use Rattle.rdl_uses.specs.Placed.{IsParent}
 use Rattle.rdl_uses.specs.declared.holder.Holder.{Holder}
 use Rattle.rdl_uses.specs.declared.holder.Holder.TheVariants as holder

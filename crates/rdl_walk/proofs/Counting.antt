@@ -3,9 +3,10 @@ use Rattle.std.proofs.Common.{◌≡◌, ◌∙◌, ℕ, zero, suc, ◌+◌, ◌
 use Rattle.std.proofs.Math.Nat.{min-eq_left}
 use Rattle.std.proofs.lemmas.Bool.{le-ltb, lt-ltb, ltb-false, ltb-true}
 use Rattle.std.proofs.lemmas.List.{length-append}
-use Rattle.rb_base.specs.declared.fault.Fault.{Fault}
+use Rattle.plain_lemmas.proofs.Numbers.{eq-itself as own, min-right as above}
+use Rattle.rdl_base.specs.declared.fault.Fault.{Fault}
 use Rattle.rb_base.specs.declared.place.Place.{Place}
-use Rattle.rb_base.specs.declared.rule.Rule.TheVariants as rules
+use Rattle.rdl_base.specs.declared.rule.Rule.TheVariants as rules
 use Rattle.rdl_values.specs.Faults.{at_}
 use Rattle.rdl_values.specs.Instances.{Instance, children, most_nodes, with_below}
 use Rattle.rdl_values.specs.Phase3.{first_over, of_node}
@@ -14,14 +15,8 @@ use Rattle.rdl_walk.specs.Walked.{capped, fails_at, fails_from, over}
 other : (c m : ℕ) → m + 1 ≤ c → (c == m) ≡ false
 other c m l = grind (arith, l)
 
-own : (m : ℕ) → (m == m) ≡ true
-own m = grind arith
-
 below : (m n : ℕ) → m ≤ n → min m n ≡ m
 below m n l = min-eq_left l
-
-above : (m n : ℕ) → n ≤ m → min m n ≡ n
-above m n l = grind (arith, l)
 
 pub over_none : (c : ℕ) (p : Place) → most_nodes + 1 ≤ c → over c p ≡ []
 over_none c p l = ap (λ b. cond b (at_ rules.E9 p ∷ []) []) (other c most_nodes l)

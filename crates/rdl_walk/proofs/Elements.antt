@@ -4,10 +4,10 @@ use Rattle.std.specs.List.{join_with_byte, list_any}
 use Rattle.std.proofs.lemmas.Grind.{flat_map-append}
 use Rattle.std.proofs.lemmas.List.{length-append, map-append}
 use Rattle.std.proofs.lemmas.Bool.{ltb-false}
-use Rattle.rb_base.specs.declared.fault.Fault.{Fault}
+use Rattle.rdl_base.specs.declared.fault.Fault.{Fault}
 use Rattle.rdl_tree.specs.declared.item.Kind.{Kind}
 use Rattle.rdl_values.specs.Bodies.{Closure, Path, Step, of_signal, below_top}
-use Rattle.rb_base.specs.declared.rule.Rule.TheVariants as rules
+use Rattle.rdl_base.specs.declared.rule.Rule.TheVariants as rules
 use Rattle.rdl_values.specs.Faults.{at_, failures, when}
 use Rattle.rdl_values.specs.Instances.{Instance, elements, given_by, kind_of, rows, upto, with_below}
 use Rattle.rdl_values.specs.NoNode.{no_node, name_twice, of_type, of_closure, bad_alias, may_hold, most_names}
@@ -18,8 +18,8 @@ use Rattle.rdl_values.specs.Rows.{product, row}
 use Rattle.rdl_values.specs.Uses.{Seen}
 use Rattle.rdl_values.specs.Values.{Outcome}
 use Rattle.rdl_values.proofs.Given.{of_visible}
-use Rattle.rdl_parts.specs.Judged.{HasPrefix, StandsAt}
-use Rattle.rdl_parts.specs.declared.standing.Standing.{Standing}
+use Rattle.rdl_uses.specs.Parts.{HasPrefix, StandsAt}
+use Rattle.rdl_uses.specs.declared.standing.Standing.{Standing}
 use Rattle.rdl_walk.specs.Walked.{Fits, FitsNode, element_of}
 
 -- The elements of a use that gives nodes, by their numbers.

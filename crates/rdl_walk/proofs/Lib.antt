@@ -1,5 +1,7 @@
-pub mod Counting
-pub mod Steps
-pub mod Elements
-pub mod Loops
 pub mod Asking
+pub mod Counting
+pub mod Elements
+mod Lengths
+pub mod Loops
+mod Sizes
+pub mod Steps

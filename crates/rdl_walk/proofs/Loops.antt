@@ -5,11 +5,12 @@ use Rattle.std.proofs.Math.Nat.{min-eq_left}
 use Rattle.std.proofs.lemmas.Bool.{ltb-false, ltb-true}
 use Rattle.std.proofs.lemmas.Grind.{flat_map-append}
 use Rattle.std.proofs.lemmas.List.{at_drop_all, at_drop_more}
+use Rattle.plain_lemmas.proofs.Lists.{cons-head as same-head, cons-tail as same-tail, nil-cons as not-empty}
 use Rattle.rb_base.specs.declared.place.Place.{Place}
 use Rattle.rdl_values.specs.Instances.{Instance, given_by, kind_of, most_nodes, rows, upto, with_below}
 use Rattle.rdl_values.specs.Paths.{Parent, Step, in_node, joined}
-use Rattle.rdl_parts.specs.Judged.{StandsAt}
-use Rattle.rdl_parts.specs.declared.standing.Standing.{Standing}
+use Rattle.rdl_uses.specs.Parts.{StandsAt}
+use Rattle.rdl_uses.specs.declared.standing.Standing.{Standing}
 use Rattle.rdl_values.specs.Rows.{product, row}
 use Rattle.rdl_values.specs.Uses.{Seen}
 use Rattle.rdl_bodies.specs.Kept.{Grows}
@@ -23,15 +24,6 @@ use Rattle.rdl_walk.specs.declared.walk.Walk.{Walk}
 use Rattle.rdl_walk.proofs.Counting.{capped_many}
 use Rattle.rdl_walk.proofs.Elements.{fits_in, given_elements, stands_in, text_fits, visited, visited_length, visited_more, visited_rest}
 use Rattle.rdl_walk.proofs.Steps.{walked_as, walked_none, walked_on, walked_over}
-
-same-head : {X : Type 0} (x y : X) (xs ys : List X) → x ∷ xs ≡ y ∷ ys → x ≡ y
-same-head x y xs ys e = cc
-
-same-tail : {X : Type 0} (x y : X) (xs ys : List X) → x ∷ xs ≡ y ∷ ys → xs ≡ ys
-same-tail x y xs ys e = cc
-
-not-empty : {X : Type 0} (y : X) (ys : List X) → [] ≡ y ∷ ys → ⊥
-not-empty y ys e = cc
 
 -- The next of some uses that give nodes, and those before it that give none.
 pub record IsNextUse (t : Bodies) (x : Child) (xs : List Child) (ss : List Seen) : Type 0 where

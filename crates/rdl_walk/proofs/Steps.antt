@@ -2,16 +2,16 @@
 use Rattle.std.proofs.Common.{◌≡◌, ◌∙◌, ℕ, zero, suc, ◌+◌, ◌<◌, ◌≤◌, Bool, true, false, cond, nat_lt, List, [], ◌∷◌, ◌++◌, length, flat_map, slice_get, Some, refl, sym, ap, subst, arith, append_assoc, append-nil, ◌⊎◌, inl, inr}
 use Rattle.std.proofs.lemmas.Bool.{ltb-false, ltb-true}
 use Rattle.std.proofs.lemmas.List.{length-append}
-use Rattle.rb_base.specs.declared.fault.Fault.{Fault}
+use Rattle.rdl_base.specs.declared.fault.Fault.{Fault}
 use Rattle.rb_base.specs.declared.place.Place.{Place}
 use Rattle.rdl_values.specs.Bodies as values
 use Rattle.rdl_values.specs.Instances.{Instance, body, kind_of, most_nodes, seen_in, with_below}
 use Rattle.rdl_values.specs.Paths.{in_node}
 use Rattle.rdl_values.specs.Phase3.{of_enums, of_node, of_use, twice_defined}
 use Rattle.rdl_values.specs.Uses.{Seen, parent_of, seen}
-use Rattle.rdl_judging.specs.Noted.{Holds, with_all}
-use Rattle.rdl_judging.proofs.Sets.{again, held, kept, with_all-append}
-use Rattle.rdl_parts.specs.declared.standing.Standing.{Standing}
+use Rattle.rdl_failures.specs.Noted.{Holds, with_all}
+use Rattle.rdl_failures.proofs.Sets.{again, held, kept, with_all-append}
+use Rattle.rdl_uses.specs.declared.standing.Standing.{Standing}
 use Rattle.rdl_uses.specs.Placed.{IsParent}
 use Rattle.rdl_bodies.specs.Kept.{AreKept, Begins, Grows, of_names}
 use Rattle.rdl_bodies.specs.Opened.{IsOpened}

@@ -1,9 +1,9 @@
 -- What a walk over some nodes does.
 use Rattle.std.specs.Prelude.{◌≡◌, ◌+◌, ℕ, zero, suc, Bool, true, false, cond, List, [], ◌∷◌, ◌++◌, ◌==◌, length, min, nat_lt, Some, slice_get}
 use Rattle.std.specs.List.{AllByRecursion}
-use Rattle.rb_base.specs.declared.fault.Fault.{Fault}
+use Rattle.rdl_base.specs.declared.fault.Fault.{Fault}
 use Rattle.rb_base.specs.declared.place.Place.{Place}
-use Rattle.rb_base.specs.declared.rule.Rule.TheVariants as rules
+use Rattle.rdl_base.specs.declared.rule.Rule.TheVariants as rules
 use Rattle.rdl_values.specs.Bodies.{Closure, Path, of_signal, below_top}
 use Rattle.rdl_values.specs.Faults.{at_, when}
 use Rattle.rdl_values.specs.Instances.{Instance, kind_of, most_nodes}
@@ -11,9 +11,9 @@ use Rattle.rdl_values.specs.Parameters.{Bound}
 use Rattle.rdl_values.specs.Paths.{Parent, nowhere, at_root, in_node, path_in}
 use Rattle.rdl_values.specs.Phase3.{of_node}
 use Rattle.rdl_values.specs.Uses.{Seen}
-use Rattle.rdl_judging.specs.Noted.{with_all}
-use Rattle.rdl_parts.specs.Judged.{StandsAt}
-use Rattle.rdl_parts.specs.declared.standing.Standing.{Standing}
+use Rattle.rdl_failures.specs.Noted.{with_all}
+use Rattle.rdl_uses.specs.Parts.{StandsAt}
+use Rattle.rdl_uses.specs.declared.standing.Standing.{Standing}
 use Rattle.rdl_bodies.specs.Kept.{Grows}
 use Rattle.rdl_bodies.specs.Sited.{IsAt}
 use Rattle.rdl_bodies.specs.declared.bodies.Bodies.{Bodies}

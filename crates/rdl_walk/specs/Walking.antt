@@ -1,13 +1,13 @@
 -- What a walk knows at any time.
 use Rattle.std.specs.Prelude.{◌≡◌, ◌≤◌, ◌+◌, ℕ, List, Option, None, Some, flat_map, slice_get}
-use Rattle.rb_base.specs.declared.fault.Fault.{Fault}
+use Rattle.rdl_base.specs.declared.fault.Fault.{Fault}
 use Rattle.rdl_tree.specs.declared.item.Kind.{Kind}
 use Rattle.rdl_values.specs.Bodies as values
 use Rattle.rdl_values.specs.Instances.{most_nodes}
 use Rattle.rdl_values.specs.Phase3.{of_use}
 use Rattle.rdl_values.specs.Uses.{Seen, parent_of, seen}
-use Rattle.rdl_judging.specs.Noted.{Holds, with_all}
-use Rattle.rdl_parts.specs.declared.standing.Standing.{Standing}
+use Rattle.rdl_failures.specs.Noted.{Holds, with_all}
+use Rattle.rdl_uses.specs.declared.standing.Standing.{Standing}
 use Rattle.rdl_uses.specs.Placed.{IsParent}
 use Rattle.rdl_uses.specs.declared.holder.Holder.{Holder}
 use Rattle.rdl_uses.specs.declared.holder.Holder.TheVariants as holder

@@ -7,9 +7,8 @@ use crate::walk::{Judgement, Spot, Walk};
 use bumpalo::Bump;
 use rb_base::NoMemory;
 use rdl_children::{Child, judge_children};
-use rdl_parts::Standing;
 use rdl_tree::Kind;
-use rdl_uses::{Holder, Parent};
+use rdl_uses::{Holder, Parent, Standing};
 use std::alloc::Global;
 
 // What holds the uses of a body.

@@ -1,11 +1,12 @@
 //! The walk from a node to those below it.
 
+use crate::row::{count_of, row_of};
 use crate::walk::{MOST_NODES, Walk};
 use bumpalo::Bump;
-use rb_base::{Fault, NoMemory, Place, Rule};
+use rb_base::{NoMemory, Place};
+use rdl_base::{Fault, Rule};
 use rdl_children::Child;
-use rdl_elements::{count_of, row_of};
-use rdl_parts::{Standing, text_len};
+use rdl_uses::{Standing, text_len};
 use rdl_values::rows_by_number;
 use std::alloc::Global;
 
@@ -14,13 +15,13 @@ const MOST_VISITED: u64 = 65_537;
 
 impl<'a> Walk<'a> {
     ghost use Rattle.std.specs.Prelude.{◌≡◌, ◌+◌, ◌<◌, ◌≤◌, ◌∷◌, [], ℕ, List, Some, IfOk, OnOk, flat_map, slice_get};
-    ghost use Rattle.rb_base.specs.declared.fault.Fault.{Fault as AnyFault};
+    ghost use Rattle.rdl_base.specs.declared.fault.Fault.{Fault as AnyFault};
     ghost use Rattle.rdl_values.specs.Instances.{Instance, given_by, kind_of, most_nodes, with_below};
     ghost use Rattle.rdl_values.specs.Paths.{in_node};
     ghost use Rattle.rdl_values.specs.Paths as paths;
     ghost use Rattle.rdl_values.specs.Rows.{product, row};
     ghost use Rattle.rdl_values.specs.Uses.{Seen};
-    ghost use Rattle.rdl_parts.specs.Judged.{StandsAt};
+    ghost use Rattle.rdl_uses.specs.Parts.{StandsAt};
     ghost use Rattle.rdl_bodies.specs.Sited.{IsAt};
     ghost use Rattle.rdl_bodies.specs.declared.bodies.Site.{Site as SiteOf};
     ghost use Rattle.rdl_children.specs.Children.{AreChildren, IsChild};

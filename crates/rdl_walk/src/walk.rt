@@ -3,8 +3,8 @@
 use indexmap::IndexMap;
 use rdl_bodies::Bodies;
 use rdl_children::Child;
-use rdl_judging::Failures;
-use rdl_parts::Standing;
+use rdl_failures::Failures;
+use rdl_uses::Standing;
 use std::alloc::Global;
 
 /// The most nodes that are judged (rule E9).

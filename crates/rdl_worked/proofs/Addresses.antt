@@ -1,7 +1,7 @@
 -- What the definitions give for addresses and bits.
 use Rattle.std.proofs.Common.{drop, take, flat_map, ◌≡◌, ℕ, List, [], ◌∷◌, ◌++◌, refl, map, None}
 use Rattle.std.specs.Fmt.{digits}
-use Rattle.rb_base.specs.declared.rule.Rule.TheVariants as rules
+use Rattle.rdl_base.specs.declared.rule.Rule.TheVariants as rules
 use Rattle.rdl_tree.specs.declared.expr.Path.{roll-Path}
 use Rattle.rdl_tree.specs.declared.item.Source.{Source}
 use Rattle.rdl_props.specs.Table.{reference_props, props}

@@ -5,7 +5,7 @@ use Rattle.rdl_tree.specs.declared.item.Source.{Source}
 use Rattle.rdl_tree.specs.declared.expr.Expr.TheVariants as expr
 use Rattle.rdl_tree.specs.declared.expr.Op.TheVariants as op
 use Rattle.rdl_tree.specs.declared.item.Kind.TheVariants as kind
-use Rattle.rb_base.specs.declared.keyword.Keyword.TheVariants as keyword
+use Rattle.rdl_base.specs.declared.keyword.Keyword.TheVariants as keyword
 use Rattle.rdl_worked.proofs.Trees.{lend, at, name, step_to, path_of, word, value, assign, inst, insts_of, component, source}
 
 -- addrmap m { addressing = compact; reg W { field {} f[32]; }; reg B { regwidth=8; field {} f[8]; }; regfile G { W p[3]; }; W ra[3] @0x10 += 0xC; W s %= 0x20; B t; G u[2]; };

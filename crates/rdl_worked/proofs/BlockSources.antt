@@ -6,7 +6,7 @@ use Rattle.rdl_tree.specs.declared.expr.Expr.TheVariants as expr
 use Rattle.rdl_tree.specs.declared.item.Kind.TheVariants as kind
 use Rattle.rdl_tree.specs.declared.item.PType.TheVariants as ptype
 use Rattle.rb_base.specs.declared.edge.Edge.TheVariants as edge
-use Rattle.rb_base.specs.declared.keyword.Keyword.TheVariants as keyword
+use Rattle.rdl_base.specs.declared.keyword.Keyword.TheVariants as keyword
 use Rattle.rdl_worked.proofs.Trees.{lend, at, name, step_to, path_of, word, value, assign, inst, insts_of, component, source}
 
 -- addrmap one { reg { field { sw=rw; hw=r; } f[32] = 32'h5; } a @0x0; };

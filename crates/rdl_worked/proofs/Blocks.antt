@@ -37,7 +37,7 @@ use Rattle.rdl_layers.specs.Phase4.{failures4}
 use Rattle.rdl_addr.specs.Rules.{failures_ab, all_groups, registers}
 use Rattle.rdl_rules.specs.Phase5.{failures5}
 use Rattle.rdl_rules.specs.Phase6.{failures6}
-use Rattle.rb_base.specs.declared.fault.Fault.{Fault}
+use Rattle.rdl_base.specs.declared.fault.Fault.{Fault}
 use Rattle.rdl_rules.specs.Block.{IsBlockOf, signal_of, fields, views, reg_of}
 use Rattle.rdl_rules.specs.Numbers as numbers
 use Rattle.rdl_rules.specs.Words.{read_words, write_words}

@@ -9,7 +9,7 @@ use Rattle.rdl_tree.specs.declared.item.Kind.TheVariants as kind
 use Rattle.rdl_tree.specs.declared.item.PType.TheVariants as ptype
 use Rattle.rdl_tree.specs.declared.item.Param.{Param}
 use Rattle.rdl_tree.specs.declared.item.Source.{Source}
-use Rattle.rb_base.specs.declared.keyword.Keyword.TheVariants as keyword
+use Rattle.rdl_base.specs.declared.keyword.Keyword.TheVariants as keyword
 use Rattle.rdl_values.specs.Instances.{upto}
 use Rattle.rdl_worked.proofs.Trees.{lend, at, name, step_to, path_of, word, assign, inst, insts_of, component, source}
 

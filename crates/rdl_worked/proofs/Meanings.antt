@@ -1,7 +1,7 @@
 -- What the definitions give for the rules on meaning.
 use Rattle.std.proofs.Common.{◌≡◌, [], ◌∷◌, refl, None}
 use Rattle.std.specs.Fmt.{digits}
-use Rattle.rb_base.specs.declared.rule.Rule.TheVariants as rules
+use Rattle.rdl_base.specs.declared.rule.Rule.TheVariants as rules
 use Rattle.rdl_tree.specs.declared.expr.Path.{roll-Path}
 use Rattle.rdl_props.specs.Table.{reference_props, props}
 use Rattle.rdl_values.specs.Uses.{at_}

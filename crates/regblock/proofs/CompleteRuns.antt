@@ -14,16 +14,16 @@ use Rattle.replies.specs.Ends.{Passage, IsCutShort, Ends}
 use Rattle.regblock.specs.Complete.{AreAtHand, AreFit, CanBeDone, FitsBlock, IsComplete, IsFit}
 use Rattle.replies.specs.Verdict.{BreaksNone, FailsFirst, IsVerdict, tree}
 use Rattle.rdl_verdict_laws.proofs.OneVerdict.{one, one_block}
-use Rattle.rb_base.specs.declared.fault.Fault.{Fault}
+use Rattle.rdl_base.specs.declared.fault.Fault.{Fault}
 use Rattle.rb_base.specs.declared.place.Place.{Place}
-use Rattle.rb_base.specs.declared.rule.Rule.{Rule}
+use Rattle.rdl_base.specs.declared.rule.Rule.{Rule}
 use Rattle.rb_model.specs.declared.block.Block.{Block}
 use Rattle.rdl_tree.specs.declared.item.Source.{Source}
 use Rattle.replies.specs.Verdict.{IsDescribedWith}
 use Rattle.machine_run.specs.Runs.{IsFitFor}
 use Rattle.sim_run.specs.Simulated.{IsModule, IsProblem, IsFitTable}
 use Rattle.machine_run.proofs.Fitting as machine
-use Rattle.sized_source.specs.Source.{source_of}
+use Rattle.command_line.specs.Source.{source_of}
 use Rattle.stim_csv.specs.PinTable.{table_of, records_of}
 use Rattle.v_design.specs.Design.{Module, module_of, inputs, outputs}
 use Rattle.v_design.specs.Tree.{Tree, IsTree}

@@ -1,6 +1,6 @@
 mod Asked
-mod CompleteRuns
 mod Causes
+mod CompleteRuns
 mod Headlines
-mod Simulations
 mod MachineRuns
+mod Simulations

@@ -6,7 +6,7 @@ use Rattle.sim_run.specs.Simulated.{IsFitTable}
 use Rattle.rb_model.specs.declared.block.Block.{Block}
 use Rattle.rdl_tree.specs.declared.item.Source.{Source}
 use Rattle.machine_run.specs.Runs.{IsFitFor}
-use Rattle.sized_source.specs.Source.{source_of}
+use Rattle.command_line.specs.Source.{source_of}
 use Rattle.replies.specs.Verdict.{BreaksNone, IsDescribedWith}
 use Rattle.replies.specs.declared.status.Status.{Status}
 use Rattle.replies.specs.declared.status.Status.TheVariants.{Done, NoMemory}

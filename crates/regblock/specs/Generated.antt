@@ -3,7 +3,7 @@ use Rattle.std.specs.Prelude.{ℕ, None}
 use Rattle.rb_model.specs.declared.block.Block.{Block}
 use Rattle.rdl_tree.specs.declared.item.Source.{Source}
 use Rattle.replies.specs.Verdict.{IsDescribedWith}
-use Rattle.sized_source.specs.Source.{source_of, summary_of}
+use Rattle.command_line.specs.Source.{source_of, summary_of}
 use Rattle.replies.specs.Ends.{Passage, TookAll}
 use Rattle.replies.specs.Outcome.{IsModuleLength}
 

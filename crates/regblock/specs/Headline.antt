@@ -1,13 +1,13 @@
 -- What the answers to `compile`, `map` and `check` promise.
 use Rattle.std.specs.Prelude.{ℕ, List, [], ◌∷◌, Option, ⊤}
 use Rattle.rb_base.specs.declared.place.Place.{Place}
-use Rattle.rb_base.specs.declared.rule.Rule.{Rule}
+use Rattle.rdl_base.specs.declared.rule.Rule.{Rule}
 use Rattle.rb_edge.specs.Shelf.{Files, Holds}
 use Rattle.rb_model.specs.declared.block.Block.{Block}
 use Rattle.rb_model.specs.Agreement.{Agrees}
-use Rattle.rb_base.specs.declared.fault.Fault.{Fault}
+use Rattle.rdl_base.specs.declared.fault.Fault.{Fault}
 use Rattle.rdl_tree.specs.declared.item.Source.{Source}
-use Rattle.address_text.specs.Lines.{address_lines}
+use Rattle.report_text.specs.Lines.{address_lines}
 use Rattle.verdict_text.specs.Lines.{rule_line}
 use Rattle.replies.specs.Outcome.{AreVerdicts, all_failures, all_fine}
 use Rattle.replies.specs.Verdict.{FailsFirst, IsDescribedWith, IsVerdict}

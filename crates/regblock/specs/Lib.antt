@@ -1,5 +1,5 @@
 pub mod Complete
-pub mod Headline
-pub mod Simulations
-pub mod MachineRuns
 pub mod Generated
+pub mod Headline
+pub mod MachineRuns
+pub mod Simulations

@@ -1,7 +1,7 @@
 -- The rows of the outcome, at a status that is known by an equation.
 use Rattle.std.proofs.Common.{◌≡◌, ◌⊎◌, ⊎_elim, ℕ, Bool, true, false, cond, List, [], ◌∷◌, append-nil, codes, take, Option, None, refl, sym, ◌∙◌, ap, subst}
 use Rattle.std.specs.List.{list_all}
-use Rattle.rb_base.specs.declared.fault.Fault.{Fault}
+use Rattle.rdl_base.specs.declared.fault.Fault.{Fault}
 use Rattle.rdl_verdict.specs.Answers as verdict
 use Rattle.verdict_text.specs.Lines.{rule_line, verdict_lines}
 use Rattle.rb_edge.specs.Shelf.{Files, IsLonger}
@@ -17,7 +17,7 @@ use Rattle.rdl_tree.specs.declared.item.Source.{Source}
 use Rattle.replies.specs.Verdict.{IsDescribedWith}
 use Rattle.machine_run.specs.Runs.{IsBreak}
 use Rattle.machine_run.specs.Runs as machine
-use Rattle.sized_source.specs.Source.{source_of}
+use Rattle.command_line.specs.Source.{source_of}
 use Rattle.replies.specs.RunAnswer.{IsRunAnswer}
 use Rattle.replies.specs.Outcome.{IsMapped, IsRefused, IsRunText, AreRead, StopsAt, Texts, IsNotice, Judges, Answers, Outcome, files_of, has_none}
 use Rattle.replies.specs.Ends.{Passage, TookAll, IsCutShort, Ends}

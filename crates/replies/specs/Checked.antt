@@ -1,7 +1,7 @@
 -- Files that are checked, one by one.
 use Rattle.std.specs.Prelude.{◌≡◌, ◌⊎◌, ℕ, ◌++◌, cond, List, [], map, Option, Vec}
 use Rattle.std.specs.Global.{Global}
-use Rattle.rb_base.specs.declared.fault.Fault.{Fault}
+use Rattle.rdl_base.specs.declared.fault.Fault.{Fault}
 use Rattle.rb_edge.specs.Shelf.{Files, IsLonger}
 use Rattle.rdl_verdict.specs.Verdict.{IsVerdict}
 use Rattle.verdict_text.specs.Lines.{ok_line, verdict_lines}

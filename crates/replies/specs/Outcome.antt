@@ -5,10 +5,10 @@ use Rattle.rb_edge.specs.Count.{Rose, raised}
 use Rattle.rb_edge.specs.Shelf.{Files, Holds, IsLonger}
 use Rattle.rb_model.specs.declared.block.Block.{Block}
 use Rattle.rb_model.specs.Agreement.{Agrees}
-use Rattle.rb_base.specs.declared.fault.Fault.{Fault}
+use Rattle.rdl_base.specs.declared.fault.Fault.{Fault}
 use Rattle.rdl_tree.specs.declared.item.Source.{Source}
 use Rattle.rdl_verdict.specs.Verdict.{IsVerdict}
-use Rattle.address_text.specs.Lines.{address_lines}
+use Rattle.report_text.specs.Lines.{address_lines}
 use Rattle.verdict_text.specs.Lines.{ok_line, rule_line, verdict_lines}
 use Rattle.command_line.specs.Words.{Command, check, compile, map_of, sim, run_of, gen_of, waits_of, Asks, AsksNothing}
 use Rattle.replies.specs.declared.status.Status.{Status}
@@ -18,11 +18,11 @@ use Rattle.replies.specs.Verdict.{FailsFirst, IsDescribedWith}
 use Rattle.sim_run.specs.Simulated.{IsSimulated, IsProblem}
 use Rattle.machine_run.specs.Runs.{IsRunOf, IsBreak}
 use Rattle.machine_run.specs.Runs as machine
-use Rattle.sized_source.specs.Source.{source_of, summary_of}
+use Rattle.command_line.specs.Source.{source_of, summary_of}
 use Rattle.v_syntax.specs.Failing.{Fails}
 use Rattle.v_syntax.specs.declared.error.VError.{VError}
 use Rattle.rb_base.specs.declared.place.Place.{Place}
-use Rattle.rb_base.specs.declared.rule.Rule.{Rule}
+use Rattle.rdl_base.specs.declared.rule.Rule.{Rule}
 
 -- what is written: a text on err, and one on out
 pub record Texts : Type 0 where

@@ -1,8 +1,8 @@
 -- Which rules a source breaks, and where.
 use Rattle.std.specs.Prelude.{ℕ, List, [], ◌∷◌, Option}
-use Rattle.rb_base.specs.declared.fault.Fault.{Fault}
+use Rattle.rdl_base.specs.declared.fault.Fault.{Fault}
 use Rattle.rb_base.specs.declared.place.Place.{Place}
-use Rattle.rb_base.specs.declared.rule.Rule.{Rule}
+use Rattle.rdl_base.specs.declared.rule.Rule.{Rule}
 use Rattle.rb_model.specs.declared.block.Block.{Block}
 use Rattle.rb_model.specs.Sound.{IsSound}
 use Rattle.rdl_tree.specs.declared.item.Source.{Source}

@@ -5,7 +5,7 @@ ghost use Rattle.verdict_text.specs.Lines.{file_line};
 ghost use Rattle.replies.specs.Text.{too_long, usage};
 ghost use Rattle.replies.specs.Ends.{TookAll, IsCutShort, passage};
 
-use crate::Status;
+use crate::status::Status;
 use rb_base::NoMemory;
 use rb_edge::{Failed, Sink, write_all};
 use rtl_net::Netlist;

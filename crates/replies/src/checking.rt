@@ -6,9 +6,9 @@ ghost use Rattle.replies.specs.Outcome.{FailedRead, Answers, IsChecked, source_l
 ghost use Rattle.replies.specs.Answer.{texts_of};
 ghost use Rattle.replies.specs.Checked.{AreLoaded, IsOneMore, bytes_of};
 
-use crate::Status;
 use crate::answer::Answer;
 use crate::loading::{Loaded, SOURCE_LIMIT, load_file};
+use crate::status::Status;
 use bumpalo::Bump;
 use rb_base::NoMemory;
 use rb_edge::Shelf;

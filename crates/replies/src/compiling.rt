@@ -10,9 +10,9 @@ use crate::answer::{Answer, Reply, done};
 use crate::describing::{Described, describe_source};
 use crate::loading::{Loaded, SOURCE_LIMIT, load_file};
 use crate::modules::module_net;
-use address_text::address_lines;
 use rb_base::NoMemory;
 use rb_edge::Shelf;
+use report_text::address_lines;
 use std::alloc::Global;
 
 // What a source is compiled to.

@@ -2,18 +2,19 @@
 
 ghost use Rattle.std.specs.Prelude.{◌≡◌, ◌≢◌, ◌≤◌, [], length, take, IfOk, option_copied};
 ghost use Rattle.command_line.specs.Words.{IsWaits, waits_of};
-ghost use Rattle.rdl_waits.specs.Waits.{with_waits};
+ghost use Rattle.rdl_rules.specs.Waits.{with_waits};
 ghost use Rattle.verdict_text.specs.Lines.{verdict_lines};
 ghost use Rattle.replies.specs.Outcome.{source_limit};
 ghost use Rattle.replies.specs.Described.{IsFoundFor};
 
-use crate::Status;
 use crate::answer::Answer;
+use crate::status::Status;
 use bumpalo::Bump;
-use rb_base::{Fault, NoMemory};
+use rb_base::NoMemory;
 use rb_model::Block;
+use rdl_base::Fault;
+use rdl_rules::blocks_with_waits;
 use rdl_verdict::{JudgeError, Judged, judge};
-use rdl_waits::blocks_with_waits;
 use std::alloc::Global;
 use verdict_text::push_verdict;
 

@@ -5,18 +5,18 @@ ghost use Rattle.rb_edge.specs.Count.{raised};
 ghost use Rattle.rb_model.specs.Sound.{IsSound};
 ghost use Rattle.command_line.specs.Words.{gen_of};
 ghost use Rattle.v_printer.specs.Layout.{text_of};
-ghost use Rattle.sized_source.specs.Source.{summary_of};
+ghost use Rattle.command_line.specs.Source.{summary_of};
 ghost use Rattle.replies.specs.Outcome.{IsModuleLength, Judges};
 ghost use Rattle.replies.specs.Answer.{texts_of};
 
-use crate::Status;
 use crate::answer::Answer;
 use crate::describing::{Described, describe_source};
 use crate::modules::module_net;
+use crate::status::Status;
+use command_line::{source, summary};
 use rb_base::NoMemory;
 use rb_edge::{CountSink, Failed};
 use rb_model::Block;
-use sized_source::{source, summary};
 use std::alloc::Global;
 use v_printer::print;
 

@@ -4,8 +4,8 @@ ghost use Rattle.std.specs.Prelude.{◌≡◌, ◌≤◌, ◌<◌, ◌-◌, ◌^
 ghost use Rattle.replies.specs.Outcome.{FailedRead};
 ghost use Rattle.replies.specs.Loaded.{IsLoaded};
 
-use crate::Status;
 use crate::answer::{Answer, notice, too_long_answer};
+use crate::status::Status;
 use rb_base::NoMemory;
 use rb_edge::{LoadError, Shelf, load};
 use std::alloc::Global;

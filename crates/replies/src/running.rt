@@ -8,16 +8,15 @@ ghost use Rattle.replies.specs.Outcome.{FailedRead, Answers};
 ghost use Rattle.replies.specs.Answer.{texts_of};
 ghost use Rattle.replies.specs.RunAnswer.{IsRunAnswer};
 
-use crate::Status;
 use crate::answer::{Answer, done, notice};
 use crate::describing::{Described, describe_source};
 use crate::loading::{Loaded, SOURCE_LIMIT, load_file};
 use crate::simulating::bad_stimulus;
-use machine_run::{RunError, run_machine};
+use crate::status::Status;
+use machine_run::{RunError, run_machine, runs_agree};
 use rb_base::NoMemory;
 use rb_edge::Shelf;
 use rb_model::Block;
-use run_laws::runs_agree;
 use std::alloc::Global;
 
 // The line of the first row that breaks the bus protocol.

@@ -7,10 +7,10 @@ ghost use Rattle.replies.specs.Text.{kind_of as kind, verilog_line, stimulus_lin
 ghost use Rattle.replies.specs.Outcome.{FailedRead, Judges, Answers, verilog_limit};
 ghost use Rattle.replies.specs.Answer.{texts_of};
 
-use crate::Status;
 use crate::answer::{Answer, done, notice};
 use crate::loading::{Loaded, SOURCE_LIMIT, VERILOG_LIMIT, load_file};
 use crate::places::push_place;
+use crate::status::Status;
 use rb_base::{NoMemory, Place};
 use rb_edge::Shelf;
 use sim_run::{SimError, simulate};

@@ -1,21 +1,21 @@
-mod NameLists
-mod PortLists
-mod Exprs
-mod NodeLists
-pub mod Nets
-pub mod Places
 mod Added
-mod Seating
-pub mod Making
-pub mod Widths
-mod Tying
 mod Calls
-mod Named
-mod Numbers
-pub mod Values
 pub mod Distinct
+mod Exprs
+pub mod HasRun
+pub mod Making
+mod NameLists
+mod Named
+pub mod Nets
+mod NodeLists
+mod Numbers
+pub mod OneRun
 pub mod Others
 pub mod Pins
-pub mod OneRun
-pub mod HasRun
+pub mod Places
+mod PortLists
+mod Seating
+mod Tying
+pub mod Values
 pub mod ValuesFit
+pub mod Widths

@@ -9,7 +9,7 @@ use Rattle.v_design.specs.Run.{Edge, Run, values_at}
 use Rattle.v_design.specs.Fits.{FitsPins, AllFit}
 use Rattle.cyc_sim.specs.Simulation.{IsSimOf, StepsTo, held}
 use Rattle.cyc_sim.specs.declared.sim.Sim.{Sim}
-use Rattle.run_text.specs.Printed.{line, cell, printed_run}
+use Rattle.report_text.specs.Printed.{line, cell, printed_run}
 use Rattle.sim_run.specs.Simulated.{zeros, IsRunText}
 
 -- a run to contents

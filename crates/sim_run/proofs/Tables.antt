@@ -23,7 +23,7 @@ use Rattle.stim_csv.specs.PinTable.{table_of, records_of}
 use Rattle.stim_csv.specs.declared.error.StimError.{StimError}
 use Rattle.stim_csv.proofs.Fitting.{vectors_fit}
 use Rattle.v_reader.specs.Reading.{IsDesign}
-use Rattle.run_text.specs.Problems.{problem_text}
+use Rattle.report_text.specs.Problems.{problem_text}
 use Rattle.sim_run.specs.Simulated.{zeros, IsModule, IsSimulated, IsProblem, IsRunText}
 
 output_step : (b : Bool) (p : Port) (ps : List Port) → is_output p ≡ b → length (outputs_among ps) ≤ length ps → length (outputs_among (p ∷ ps)) ≤ suc (length ps)

@@ -9,8 +9,8 @@ use Rattle.stim_csv.specs.PinTable.{table_of, records_of}
 use Rattle.stim_csv.specs.declared.error.StimError.{StimError}
 use Rattle.v_syntax.specs.Failing.{Fails}
 use Rattle.v_reader.specs.Reading.{place_number}
-use Rattle.run_text.specs.Printed.{printed_run}
-use Rattle.run_text.specs.Problems.{problem_text}
+use Rattle.report_text.specs.Printed.{printed_run}
+use Rattle.report_text.specs.Problems.{problem_text}
 use Rattle.sim_run.specs.declared.error.SimError.{SimError}
 use Rattle.sim_run.specs.declared.error.SimError.TheVariants as error
 

@@ -5,12 +5,12 @@ ghost use Rattle.v_design.specs.Design.{inputs, outputs};
 ghost use Rattle.v_design.specs.Seen.{module_seen};
 ghost use Rattle.stim_csv.specs.PinTable.{table_of, records_of};
 ghost use Rattle.v_reader.specs.Reading.{IsDesign};
-ghost use Rattle.run_text.specs.Problems.{problem_text as problem_words};
+ghost use Rattle.report_text.specs.Problems.{problem_text as problem_words};
 ghost use Rattle.sim_run.specs.Simulated.{IsSimulated, IsProblem, Prevents};
 
-use crate::SimError;
+use crate::error::SimError;
 use crate::running::module_run;
-use run_text::problem_text;
+use report_text::problem_text;
 use std::alloc::Global;
 use stim_csv::Stimulus;
 use v_design::Design;

@@ -9,7 +9,7 @@ ghost use Rattle.sim_run.specs.Simulated.{IsRunText};
 
 use cyc_sim::Sim;
 use rb_base::NoMemory;
-use run_text::{push_names, push_numbers};
+use report_text::{push_names, push_numbers};
 use std::alloc::Global;
 use stim_csv::Stimulus;
 use v_design::Design;

@@ -1,14 +1,12 @@
 -- Which vectors keep the bus protocol, a vector at a time.
 use Rattle.std.proofs.Common.{◌≡◌, ◌≢◌, ℕ, ◌+◌, ◌<◌, ◌≤◌, ◌==◌, Bool, true, false, not, ◌&&◌, ◌||◌, if◌then◌else◌, List, [], ◌∷◌, ◌++◌, length, get_or, take, refl, ap, sym, ◌∙◌, subst, arith, inl, inr}
 use Rattle.std.proofs.lemmas.List.{take_more, take_all}
+use Rattle.plain_lemmas.proofs.Numbers.{eq-same as equal_from}
 use Rattle.rb_model.specs.Protocol.{Bus, Phase, IDLE, SETUP, WAIT, ACCESS, AreHeld, IsKeptIdle, IsKeptIn, IsUnderWay, KeepsFrom, KeepsProtocol, idle, is_wait, last_before_access, phase_after}
 use Rattle.stim_csv.specs.Buses.{IsFirstBreak}
 use Rattle.stim_csv.specs.Watch.{are_held, is_kept, is_setup, is_under_way, may_complete}
 
 -- The tests tell what they are to tell.
-
-equal_from : (x y : ℕ) → (x == y) ≡ true → x ≡ y
-equal_from x y h = grind (arith, h)
 
 unequal_from : (x y : ℕ) → (x == y) ≡ false → x ≢ y
 unequal_from x y h e = grind (arith, h, e)

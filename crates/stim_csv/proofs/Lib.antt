@@ -1,10 +1,10 @@
-mod RecordsLeft
-mod FirstProblem
 mod Cutting
-mod Widths
-mod Positions
-mod Headers
-mod Rows
+mod FirstProblem
 pub mod Fitting
-mod Watching
+mod Headers
 mod Keeping
+mod Positions
+mod RecordsLeft
+mod Rows
+mod Watching
+mod Widths

@@ -1,35 +1,13 @@
 -- Where names stand among others.
-use Rattle.std.proofs.Common.{◌≡◌, ◌≢◌, ℕ, zero, suc, ◌+◌, ◌<◌, Bool, true, false, ◌&&◌, nat_eq, add-zero, if◌then◌else◌, Option, Some, None, List, [], ◌∷◌, ◌++◌, length, get_or, take, map, refl, ap, sym, ◌∙◌, arith}
+use Rattle.std.proofs.Common.{◌≡◌, ◌≢◌, ℕ, zero, suc, ◌+◌, ◌<◌, Bool, true, false, add-zero, if◌then◌else◌, Option, Some, None, List, [], ◌∷◌, ◌++◌, length, get_or, take, map, refl, ap, sym, ◌∙◌, arith}
 use Rattle.std.specs.Option.{option_or}
 use Rattle.std.specs.List.{position_from, AllPairs}
 use Rattle.std.specs.Str.{bytes_eq}
 use Rattle.std.proofs.lemmas.List.{length-take, take_more, get_or-take}
-use Rattle.std.proofs.lemmas.Bool.Decides.{nat_tests}
-use Rattle.std.proofs.lemmas.Map.Views.{exact_unsigned_eq}
 use Rattle.std.proofs.Math.ListN.{set}
+use Rattle.plain_lemmas.proofs.Lists.{bytes_eq-same as same_bytes}
 use Rattle.rb_base.specs.declared.ports.Pin.{Pin}
 use Rattle.stim_csv.specs.PinTable.{place_of}
-
-pub same_bytes : (xs ys : List ℕ) → bytes_eq xs ys ≡ true → xs ≡ ys
-same_bytes [] [] h = refl
-same_bytes [] (y ∷ ys) h = cc h
-same_bytes (x ∷ xs) [] h = cc h
-same_bytes (x ∷ xs) (y ∷ ys) h = go (nat_eq x y) (bytes_eq xs ys) (exact_unsigned_eq x y) (same_bytes xs ys) h
-  where
-    go : (a b : Bool) → (a ≡ true → x ≡ y) → (b ≡ true → xs ≡ ys) → (a && b) ≡ true → x ∷ xs ≡ y ∷ ys
-    go true true p q h = let e = p refl in let f = q refl in cc
-    go true false p q h = cc h
-    go false b p q h = cc h
-
-pub bytes_same : (xs : List ℕ) → bytes_eq xs xs ≡ true
-bytes_same [] = refl
-bytes_same (x ∷ xs) = go (nat_eq x x) (bytes_eq xs xs) (itself x) (bytes_same xs)
-  where
-    itself : (n : ℕ) → nat_eq n n ≡ true
-    itself n = grind (arith, nat_tests)
-
-    go : (a b : Bool) → a ≡ true → b ≡ true → (a && b) ≡ true
-    go a b p q = rw (p, q)
 
 pub other_bytes : (xs ys : List ℕ) → (xs ≡ ys → ⊥) → bytes_eq xs ys ≡ false
 other_bytes xs ys h = go (bytes_eq xs ys) refl

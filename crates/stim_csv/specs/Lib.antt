@@ -1,7 +1,7 @@
+pub mod Buses
+pub mod Columns
 pub mod Numeral
 pub mod PinTable
 pub mod Records
 pub mod Vectors
-pub mod Columns
-pub mod Buses
 pub mod Watch

@@ -3,8 +3,8 @@ use Rattle.std.specs.Prelude.{ℕ, ◌^◌, Bool, nat_lt, nat_eq, ◌&&◌, if�
 use Rattle.std.specs.List.{list_all, starts_with}
 use Rattle.std.specs.Char.{is_digit}
 use Rattle.std.specs.Str.Parse.{digits_value}
-use Rattle.stim_csv.specs.declared.cell.Cell.{Cell}
-use Rattle.stim_csv.specs.declared.cell.Cell.TheVariants.{Bad, Number, Above}
+use Rattle.stim_csv.specs.declared.numeral.Cell.{Cell}
+use Rattle.stim_csv.specs.declared.numeral.Cell.TheVariants.{Bad, Number, Above}
 
 -- the number that one or more digits of a radix write
 abbrev pub numeral_value : ℕ → List ℕ → Option ℕ

@@ -7,8 +7,9 @@ ghost use Rattle.stim_csv.specs.Numeral.{cell_value};
 ghost use Rattle.stim_csv.specs.Columns.{IsHeaderOf, unfound_problem};
 ghost use Rattle.stim_csv.specs.PinTable.{header_problem, width_of, cells_problem, value_problem, first_problem, pin_problem, column_problem, place_of, column_of, number_of};
 
-use crate::StimError;
-use crate::cell::{Cell, is_within, read_cell};
+use crate::cells::cell as read_cell;
+use crate::error::StimError;
+use crate::numeral::{Cell, is_within};
 use crate::records::cell_at;
 use csv::ByteRecord;
 use rb_base::Pin;

@@ -1,14 +1,17 @@
 //! Pin tables: the numbers of input pins, one row for each rising edge of the clock, as comma-separated text.
 #![tactic(auto)]
 
-mod cell;
+mod cells;
 mod error;
 mod header;
 mod laws;
+mod numeral;
 mod protocol;
 mod records;
 mod stimulus;
 
+pub use cells::cell;
 pub use error::StimError;
 pub use laws::vectors_fit;
+pub use numeral::{Cell, is_within};
 pub use stimulus::Stimulus;

@@ -8,7 +8,7 @@ ghost use Rattle.stim_csv.specs.Buses.{HasBus, IsFirstBreak, bus_first};
 ghost use Rattle.stim_csv.specs.Watch.{bus_seen, phase_seen};
 ghost use Rattle.stim_csv.specs.Watch as watched;
 
-use crate::Stimulus;
+use crate::stimulus::Stimulus;
 
 /// The numbers at the bus's input pins.
 #[derive(Clone, Copy)]

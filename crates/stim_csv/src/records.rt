@@ -3,7 +3,7 @@ ghost use Rattle.std.specs.Prelude.{◌≡◌, ◌<◌, true, IfOk, IfErr, lengt
 ghost use Rattle.csv.specs.Records.{fields_of};
 ghost use Rattle.stim_csv.specs.Records.{Reads, TakesNext, records_left};
 
-use crate::StimError;
+use crate::error::StimError;
 use csv::{ByteRecord, Reader};
 
 /// Takes the next record, and answers whether there was one. Where there is none, the record is empty.

@@ -6,7 +6,7 @@ ghost use Rattle.stim_csv.specs.Columns.{AreColumns, numbers_in};
 ghost use Rattle.stim_csv.specs.Records.{Reads, records_left};
 ghost use Rattle.stim_csv.specs.PinTable.{is_too_many, table_of, records_of, vector_of, row_problem, first_problem, width_of};
 
-use crate::StimError;
+use crate::error::StimError;
 use crate::header::{Header, read_cells};
 use crate::records::next_record;
 use csv::{ByteRecord, Reader, ReaderBuilder};

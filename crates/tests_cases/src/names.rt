@@ -5,11 +5,12 @@ ghost use Rattle.rdl_values.specs.Elaboration.{IsClean};
 
 use crate::trees::instances;
 use bumpalo::Bump;
-use rb_base::{Fault, NoMemory};
+use rb_base::NoMemory;
+use rdl_base::Fault;
 use rdl_bind::bind;
-use rdl_layers::LayerError;
+use rdl_failures::PhaseError;
 use rdl_props::Prop;
-use rdl_refs::{ItemOf, OrderError, RefError, Refs, circling, order};
+use rdl_refs::{ItemOf, OrderError, Refs, circling, order};
 use rdl_settle::settle;
 use rdl_tree::Elab;
 use std::alloc::Global;
@@ -89,13 +90,13 @@ fn bound_of<'a>(alloc: Global, arena: &'a Bump, elab: &Elab<'a>) -> Result<Optio
 {
     let settled = match settle(alloc, arena, elab) {
         Ok(settled) => settled,
-        Err(LayerError::Faults(_)) => return Ok(None),
-        Err(LayerError::NoMemory) => return Err(NoMemory),
+        Err(PhaseError::Faults(_)) => return Ok(None),
+        Err(PhaseError::NoMemory) => return Err(NoMemory),
     };
     match bind(alloc, elab, &settled.props) {
         Ok(refs) => Ok(Some(found(alloc, &refs, elab.count)?)),
-        Err(RefError::Faults(_)) => Ok(None),
-        Err(RefError::NoMemory) => Err(NoMemory),
+        Err(PhaseError::Faults(_)) => Ok(None),
+        Err(PhaseError::NoMemory) => Err(NoMemory),
     }
 }
 

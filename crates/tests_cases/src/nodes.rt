@@ -5,7 +5,8 @@ ghost use Rattle.rdl_tree.specs.InOrder.{IsInOrder};
 use crate::trees::read;
 use bumpalo::Bump;
 use rb_base::NoMemory;
-use rdl_elab::{ElabError, elaborate, measure};
+use rdl_elab::{elaborate, measure};
+use rdl_failures::PhaseError;
 use rdl_tree::Source;
 use std::alloc::Global;
 use std::io;
@@ -24,8 +25,8 @@ fn count<'a>(
     let counted = measure(alloc, arena, source, top)?;
     match elaborate(alloc, arena, source, top) {
         Ok(tree) => Ok((counted, Some(tree.count))),
-        Err(ElabError::Faults(_)) => Ok((counted, None)),
-        Err(ElabError::NoMemory) => Err(NoMemory),
+        Err(PhaseError::Faults(_)) => Ok((counted, None)),
+        Err(PhaseError::NoMemory) => Err(NoMemory),
     }
 }
 

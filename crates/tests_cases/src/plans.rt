@@ -3,10 +3,9 @@
 ghost use Rattle.rb_model.specs.Sound.{IsSound};
 
 use crate::blocks::block_of;
+use block_plan::{Plan, wanted, wanted_items};
 use rb_base::NoMemory;
 use rb_model::{Block, RefItem};
-use rb_plan::Plan;
-use rb_wanted::{wanted, wanted_items};
 use std::alloc::Global;
 use std::io;
 

@@ -8,7 +8,8 @@ use crate::texts::text_of;
 use crate::trees::instances;
 use bumpalo::Bump;
 use rb_base::NoMemory;
-use rdl_layers::{LayerError, Props};
+use rdl_failures::PhaseError;
+use rdl_layers::Props;
 use rdl_props::{Prop, find};
 use rdl_settle::settle;
 use rdl_tree::Elab;
@@ -44,8 +45,8 @@ fn setting<'a>(
 {
     match settle(alloc, arena, tree) {
         Ok(settled) => text_at(alloc, tree.count, &settled.props, node, prop),
-        Err(LayerError::Faults(_)) => Ok(None),
-        Err(LayerError::NoMemory) => Err(NoMemory),
+        Err(PhaseError::Faults(_)) => Ok(None),
+        Err(PhaseError::NoMemory) => Err(NoMemory),
     }
 }
 

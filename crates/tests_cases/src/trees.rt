@@ -6,7 +6,8 @@ ghost use Rattle.rdl_values.specs.Elaboration.{IsClean};
 
 use bumpalo::Bump;
 use rb_base::NoMemory;
-use rdl_elab::{ElabError, elaborate};
+use rdl_elab::elaborate;
+use rdl_failures::PhaseError;
 use rdl_lexer::spelled_in_order;
 use rdl_parser::parse;
 use rdl_tree::{Elab, Source, derived_in_order};
@@ -40,8 +41,8 @@ fn grown<'a>(
     name_decides_the_top();
     match elaborate(alloc, arena, source, None) {
         Ok(elab) => Ok(Some(elab)),
-        Err(ElabError::Faults(_)) => Ok(None),
-        Err(ElabError::NoMemory) => Err(NoMemory),
+        Err(PhaseError::Faults(_)) => Ok(None),
+        Err(PhaseError::NoMemory) => Err(NoMemory),
     }
 }
 

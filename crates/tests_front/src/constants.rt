@@ -1,5 +1,6 @@
 //! Constant expressions.
-use rb_base::{Fault, Place, Rule};
+use rb_base::Place;
+use rdl_base::{Fault, Rule};
 use rdl_tree::{Bound, EntryValue, Env, Expr, Name, Op, PType, Path, Step, Value};
 use rdl_values::{EnumTable, Table, Visible, as_type, eval, eval_in, number_of, start_of};
 use std::test::Fail;

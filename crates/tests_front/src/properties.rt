@@ -1,38 +1,43 @@
 //! The table of properties.
-use rdl_props::{Form, Letter, find, group, left_out, legal, takes};
+use rdl_props::{Form, Group, find, group, left_out, legal, takes};
 use rdl_tree::Kind;
 
 // Names that share a row, the kinds that they are legal on by their first letters, what they take, and their group.
-const ROWS: [(&str, &str, Form, Option<Letter>); 37] = [
+const ROWS: [(&str, &str, Form, Option<Group>); 37] = [
     ("name desc", "agrfs", Form::Str, None),
     ("donttest dontcompare", "agrf", Form::FlagNumber, None),
     ("addressing", "a", Form::AddressingWord, None),
     ("lsb0 littleendian", "a", Form::TrueOnly, None),
     ("regwidth accesswidth", "r", Form::Number, None),
     ("signalwidth", "s", Form::Number, None),
-    ("sync async", "s", Form::Flag, Some(Letter::A)),
-    ("activehigh activelow", "s", Form::Flag, Some(Letter::B)),
+    ("sync async", "s", Form::Flag, Some(Group::Synchrony)),
+    (
+        "activehigh activelow",
+        "s",
+        Form::Flag,
+        Some(Group::Activity),
+    ),
     ("field_reset", "s", Form::Flag, None),
     ("fieldwidth reset", "f", Form::Number, None),
     ("sw", "f", Form::SwWord, None),
     ("hw", "f", Form::HwWord, None),
     ("resetsignal next incr decr", "f", Form::Refer, None),
-    ("onwrite", "f", Form::WriteWord, Some(Letter::C)),
-    ("woset woclr", "f", Form::Flag, Some(Letter::C)),
-    ("onread", "f", Form::ReadWord, Some(Letter::D)),
-    ("rclr rset", "f", Form::Flag, Some(Letter::D)),
-    ("swwe swwel", "f", Form::FlagRefer, Some(Letter::E)),
-    ("we wel", "f", Form::FlagRefer, Some(Letter::F)),
+    ("onwrite", "f", Form::WriteWord, Some(Group::OnWrite)),
+    ("woset woclr", "f", Form::Flag, Some(Group::OnWrite)),
+    ("onread", "f", Form::ReadWord, Some(Group::OnRead)),
+    ("rclr rset", "f", Form::Flag, Some(Group::OnRead)),
+    ("swwe swwel", "f", Form::FlagRefer, Some(Group::SwEnable)),
+    ("we wel", "f", Form::FlagRefer, Some(Group::HwEnable)),
     ("hwset hwclr", "f", Form::FlagRefer, None),
-    ("hwenable hwmask", "f", Form::Refer, Some(Letter::G)),
+    ("hwenable hwmask", "f", Form::Refer, Some(Group::HwMask)),
     ("anded ored xored", "f", Form::Flag, None),
     ("swmod swacc singlepulse", "f", Form::Flag, None),
     ("counter overflow underflow", "f", Form::Flag, None),
     ("precedence", "f", Form::Side, None),
-    ("incrvalue", "f", Form::NumberRefer, Some(Letter::H)),
-    ("incrwidth", "f", Form::Number, Some(Letter::H)),
-    ("decrvalue", "f", Form::NumberRefer, Some(Letter::I)),
-    ("decrwidth", "f", Form::Number, Some(Letter::I)),
+    ("incrvalue", "f", Form::NumberRefer, Some(Group::Incr)),
+    ("incrwidth", "f", Form::Number, Some(Group::Incr)),
+    ("decrvalue", "f", Form::NumberRefer, Some(Group::Decr)),
+    ("decrwidth", "f", Form::Number, Some(Group::Decr)),
     ("incrsaturate saturate", "f", Form::FlagNumberRefer, None),
     ("incrthreshold threshold", "f", Form::FlagNumberRefer, None),
     (
@@ -42,9 +47,14 @@ const ROWS: [(&str, &str, Form, Option<Letter>); 37] = [
         None,
     ),
     ("intr", "f", Form::Intr, None),
-    ("sticky stickybit", "f", Form::Flag, Some(Letter::J)),
-    ("enable mask", "f", Form::Refer, Some(Letter::K)),
-    ("haltenable haltmask", "f", Form::Refer, Some(Letter::L)),
+    ("sticky stickybit", "f", Form::Flag, Some(Group::Stickiness)),
+    ("enable mask", "f", Form::Refer, Some(Group::Enable)),
+    (
+        "haltenable haltmask",
+        "f",
+        Form::Refer,
+        Some(Group::HaltEnable),
+    ),
     ("encode", "f", Form::EnumName, None),
 ];
 

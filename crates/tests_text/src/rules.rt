@@ -1,5 +1,5 @@
 //! The table of rules and the reserved words.
-use rb_base::{Keyword, Rule};
+use rdl_base::{Keyword, Rule};
 use std::test::Fail;
 
 // A line for each rule, in the order of the table: its code, its phrase and its phase.

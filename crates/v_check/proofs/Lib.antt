@@ -1,11 +1,11 @@
-mod Exprs
-mod Tables
-mod Finding
-mod Sizing
-mod Driving
-mod Looping
-mod Spelled
-mod Faults
 mod Capping
+mod Driving
+mod Exprs
+mod Faults
+mod Finding
 pub mod Forming
+mod Looping
 mod Parts
+mod Sizing
+mod Spelled
+mod Tables

@@ -1,6 +1,6 @@
+pub mod Drivers
 pub mod Found
+pub mod Judged
+pub mod Loops
 pub mod Nets
 pub mod Sizes
-pub mod Drivers
-pub mod Loops
-pub mod Judged

@@ -1,12 +1,12 @@
-pub mod Tests
-pub mod Spelling
-pub mod Printing
-pub mod TreeText
+pub mod Constants
+pub mod HasRun
 pub mod Names
 pub mod Nets
-pub mod Steps
 mod OneRun
-pub mod HasRun
-pub mod Constants
-pub mod ValuesFit
 pub mod OneTree
+pub mod Printing
+pub mod Spelling
+pub mod Steps
+pub mod Tests
+pub mod TreeText
+pub mod ValuesFit

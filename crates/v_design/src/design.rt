@@ -125,6 +125,13 @@ impl Design {
     ghost use Rattle.v_design.specs.Design.{inputs, outputs, registers};
     ghost use Rattle.v_design.specs.Seen.{module_seen};
 
+    /// The name of the module, as its source spells it. Takes no memory.
+    pub fn name(&self) -> &[u8]
+        ensures { result.now ≡ (module_seen self.now).name }
+    {
+        &self.name.bytes
+    }
+
     /// The input ports without PCLK, in order of declaration: the pins that each vector of a run gives, with their
     /// widths in bits. Takes no memory.
     pub fn inputs(&self) -> &[Pin]

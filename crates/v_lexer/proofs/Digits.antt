@@ -4,12 +4,12 @@ use Rattle.std.specs.List.{list_all, take_while}
 use Rattle.std.specs.Str.Parse.{digits_value}
 use Rattle.std.proofs.Common.{◌≡◌, ℕ, suc, ◌+◌, ◌*◌, ◌-◌, ◌^◌, ◌<◌, ◌≤◌, true, false, ◌&&◌, nat_lt, nat_le, cond, Some, None, List, [], ◌∷◌, ◌++◌, length, take, drop, get_or, refl, sym, ap, ◌∙◌, subst, arith, length-take}
 use Rattle.std.proofs.lemmas.Bool.Decides.{nat_tests}
-use Rattle.std.proofs.lemmas.Grind.{common_steps}
 use Rattle.std.proofs.Math.Bool.{and-false}
 use Rattle.std.proofs.Math.Pow.{pow_mono}
 use Rattle.std.proofs.lemmas.Nat.{pow_pos}
 use Rattle.std.proofs.lemmas.Int.Digits.{digits_value_more}
 use Rattle.std.proofs.lemmas.Str.Parse.{digits_value-take-le}
+use Rattle.plain_lemmas.proofs.Lists.{take_drop-one as behind_one, take_drop-two as behind_two}
 use Rattle.rb_grammar.proofs.Scanning.{run_passes, run_cons, run_longest, run_taken}
 use Rattle.v_design.specs.Lexemes.{is_decimal, is_quote, base_of, is_based}
 use Rattle.v_design.proofs.Tests.{and-left, and-right}
@@ -35,9 +35,6 @@ decimal_run n (b ∷ bs) h z e = record {
 }
 
 -- ', the letter of a base, and digits.
-
-behind_two : (x y : ℕ) (bs : List ℕ) → take (length (x ∷ y ∷ bs) - 2) (drop 2 (x ∷ y ∷ bs)) ≡ bs
-behind_two x y bs = grind (arith, common_steps)
 
 based_by : (base letter d : ℕ) (ds : List ℕ) → Some base ≡ base_of letter → list_all (is_digit_of base) (d ∷ ds) ≡ true → is_based (letter ∷ d ∷ ds) ≡ true
 based_by base letter d ds e h = rw (← e) h
@@ -111,9 +108,6 @@ pub decimal_passes : (text : List ℕ) → is_decimal text ≡ true → list_all
 decimal_passes text h = digits_pass text (decimal_digits text h)
 
 -- Constants.
-
-behind_one : (x : ℕ) (bs : List ℕ) → take (length (x ∷ bs) - 1) (drop 1 (x ∷ bs)) ≡ bs
-behind_one x bs = grind (arith, common_steps)
 
 pub constant_fits : (size width base value : ℕ) (based : List ℕ) → width ≡ size → (width ≡ 0 → ⊥) → width ≤ 128 → 1 ≤ length based → Some base ≡ base_of (get_or based 0 0)
     → value ≡ digits_value base (take (length based - 1) (drop 1 based)) → value ≤ 2 ^ width - 1 → Some (as_constant (width, value)) ≡ constant_of size based

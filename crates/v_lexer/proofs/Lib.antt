@@ -1,5 +1,5 @@
-mod Fronts
 mod Digits
+mod Fronts
 mod NumberFronts
-mod Steps
 mod Scans
+mod Steps

@@ -5,7 +5,8 @@ use Rattle.std.specs.Str.Parse.{digits_value}
 use Rattle.std.proofs.Common.{◌≡◌, ℕ, zero, suc, ◌+◌, ◌-◌, ◌<◌, ◌≤◌, Bool, true, false, Some, None, List, [], ◌∷◌, ◌++◌, length, take, drop, refl, sym, ap, ◌∙◌, subst, arith, length-append, length-drop, inl, inr, append_assoc}
 use Rattle.std.proofs.lemmas.Bool.{or_cases, cases_lt}
 use Rattle.std.proofs.lemmas.Bool.Decides.{nat_tests}
-use Rattle.std.proofs.lemmas.List.{take_all, drop_at}
+use Rattle.std.proofs.lemmas.List.{drop_at}
+use Rattle.plain_lemmas.proofs.Numbers.{one-plus as one_more, plus-one as more_one}
 use Rattle.rb_grammar.specs.Separators.{begins_separator}
 use Rattle.rb_grammar.specs.Lexemes.{has_form, meaning_of}
 use Rattle.rb_grammar.specs.Spelling.{IsNext, NoMeaning, no_meaning}
@@ -18,12 +19,6 @@ use Rattle.v_lexer.specs.Reading.{begins, is_suffix, IsDecimalLen, IsSuffixLen, 
 use Rattle.v_lexer.proofs.Fronts.{IsBound, next_by, begins_front}
 
 -- A constant is a size, ' and what stands behind.
-
-one_more : (n : ℕ) → 1 + n ≡ suc n
-one_more n = omega arith
-
-more_one : (n : ℕ) → n + 1 ≡ suc n
-more_one n = omega arith
 
 before_cons : (x : ℕ) (xs : List ℕ) → is_quote x ≡ false → before_first is_quote (x ∷ xs) ≡ x ∷ before_first is_quote xs
 before_cons x xs e = rw (e, one_more (position_or_len is_quote xs)) refl
@@ -188,7 +183,3 @@ constant_fault n k text bare h d s z e =
 
 pub constant_based : (n k : ℕ) (text : List ℕ) → IsDecimalLen text n → IsSuffixLen (drop n text) k → (k ≡ 0 → ⊥) → is_based (take (n + k - (n + 1)) (drop (n + 1) text)) ≡ true
 constant_based n k text d s z = let c = constant_at n k text d s z in rw c.behind c.found
-
--- what the code passes as the text behind so many bytes
-pub rest_is : (n : ℕ) (text : List ℕ) → take (length text - n) (drop n text) ≡ drop n text
-rest_is n text = take_all (length text - n) (drop n text) (omega (arith, length-drop n text))

@@ -7,7 +7,7 @@ ghost use Rattle.v_syntax.specs.Tokens.{placed};
 ghost use Rattle.v_syntax.specs.Scanned.{Scans};
 ghost use Rattle.v_lexer.specs.Reading.{IsIn, IsOfItsKind};
 
-use crate::VLexer;
+use crate::lexer::VLexer;
 use rb_base::NoMemory;
 use std::alloc::Global;
 use v_syntax::{VSpelling, VToken};

@@ -1,13 +1,13 @@
+mod Blocks
+mod Ends
 mod Firsts
-mod Spanning
-mod Taking
-mod Walking
+pub mod Fitting
+mod Loops
 mod Marks
 mod Ranges
+mod Spanning
+mod Taking
 mod Terms
-mod Blocks
-mod Loops
-mod Whole
 mod Trees
-mod Ends
-pub mod Fitting
+mod Walking
+mod Whole

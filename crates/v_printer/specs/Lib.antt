@@ -1,5 +1,5 @@
-pub mod Module
 pub mod Layout
+pub mod Module
 pub mod TextOf
-pub mod Written
 pub mod TextSink
+pub mod Written

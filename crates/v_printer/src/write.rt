@@ -5,8 +5,8 @@ ghost use Rattle.std.specs.Fmt.{digits};
 ghost use Rattle.v_printer.specs.Written.{Writes};
 
 use itoa::{Buffer, Integer};
+use rb_base::hex_digits;
 use rb_edge::{Failed, Sink, write_all};
-use rb_text::hex_digits;
 
 /// Writes the bytes.
 pub(crate) fn put<K: Sink>(out: &mut K, bytes: &[u8]) -> Result<(), Failed>

@@ -1,9 +1,9 @@
-mod Scanning
-mod Placed
-mod Nesting
-mod Uncapped
 mod Answering
+mod Few
+mod Nesting
+mod Placed
+mod Results
+mod Scanning
+mod Uncapped
 pub mod Verdicts
 mod Within
-mod Few
-mod Results

@@ -1,6 +1,6 @@
-pub mod Tokens
+pub mod Failing
+pub mod Faulty
 pub mod Grammar
 pub mod Scanned
 pub mod Syntax
-pub mod Faulty
-pub mod Failing
+pub mod Tokens

@@ -4,7 +4,8 @@ ghost use Rattle.std.specs.Prelude.{◌≡◌, ◌<◌, ◌^◌, ◌-◌, ◌++�
 ghost use Rattle.verdict_text.specs.Lines.{broken_at, numbers, ok_line, rule_text, verdict_lines};
 
 use crate::spot::{START, spot_at};
-use rb_base::{Fault, NoMemory, Rule};
+use rb_base::NoMemory;
+use rdl_base::{Fault, Rule};
 use std::alloc::Global;
 
 // Adds a line and a column.

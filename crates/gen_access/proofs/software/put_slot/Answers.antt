@@ -1,9 +1,10 @@
 use Rattle.std.proofs.Common.{if◌then◌else◌, ap, ◌∙◌, arith}
 use Rattle.std.proofs.lemmas.Option.{slice_get_within}
+use Rattle.plain_lemmas.proofs.Bools.{if-same as same_either}
 use Rattle.gen_access.specs.Words.{is_at}
 use Rattle.gen_access.specs.Effects.{reached_by, slot_effect, width_of}
 use Rattle.gen_access.proofs.Puts.{effect_other}
-use Rattle.gen_access.proofs.Turns.{changes_set, field_there, nodes_set, same_either}
+use Rattle.gen_access.proofs.Turns.{changes_set, field_there, nodes_set}
 use Rattle.gen_access.proofs.software.put_slot.Goals as goal
 
 pub put-requires-clause-v : goal.put-requires-clause-v

@@ -1,5 +1,5 @@
 use Rattle.std.proofs.Common.{◌≡◌, length, if◌then◌else◌, sym, subst, arith}
-use Rattle.rb_wanted.specs.Wanted.{is_wanted}
+use Rattle.block_plan.specs.Wanted.{is_wanted}
 use Rattle.gen_access.specs.Tables.{AreWorth}
 use Rattle.gen_access.specs.Words.{written_word}
 use Rattle.gen_access.specs.Touches.{mark_item, mark_value, one_bit, touch_reached, touch_words}

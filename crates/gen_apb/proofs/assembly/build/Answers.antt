@@ -4,12 +4,12 @@ use Rattle.rtl_net.specs.Ports.{seat_names}
 use Rattle.rtl_net.proofs.Nets.{Extends-trans}
 use Rattle.rb_model.specs.Kept.{Waited, Data, Error}
 use Rattle.rb_model.specs.Ports.{input_pins, outlets, pin}
-use Rattle.rb_plan.specs.Kept.{field_kept}
+use Rattle.block_plan.specs.Kept.{field_kept}
 use Rattle.gen_scene.specs.Bases.{HasPins}
 use Rattle.gen_ports.specs.Laid.{AreInputs}
-use Rattle.gen_ties.specs.Ties.{outlet_pin}
+use Rattle.gen_core.specs.Ties.{outlet_pin}
 use Rattle.gen_scene.proofs.Worths.{HasPins-extends}
-use Rattle.gen_bus.proofs.OfBus.{pin_node-extends}
+use Rattle.gen_apb.proofs.OfBus.{pin_node-extends}
 use Rattle.gen_apb.proofs.Edging.{bus_kept}
 use Rattle.gen_apb.proofs.Parts.{built, bus_first, bus_free, closes_waits, data_apart, data_kept, data_new, field_new, keeps_data, keeps_first, keeps_more, most_kept, outlet_free, taken_lacks}
 use Rattle.gen_apb.proofs.assembly.build.Goals as goal

@@ -2,10 +2,10 @@ use Rattle.std.proofs.Common.{◌∙◌, sym, subst}
 use Rattle.std.specs.Prelude.{length, map}
 use Rattle.rtl_net.specs.Net.{undriven}
 use Rattle.rb_model.specs.Ports.{outlets}
-use Rattle.rb_plan.specs.Kept.{field_kept}
+use Rattle.block_plan.specs.Kept.{field_kept}
 use Rattle.gen_scene.specs.Bases.{HasKept}
 use Rattle.gen_scene.proofs.Worths.{HasInlet-extends, HasPins-extends}
-use Rattle.gen_ties.specs.Ties.{AreAwaiting, SeatsTaken, outlet_pin}
+use Rattle.gen_core.specs.Ties.{AreAwaiting, SeatsTaken, outlet_pin}
 use Rattle.gen_core.proofs.Building.{none_left}
 use Rattle.gen_core.proofs.Naming.{still_free}
 use Rattle.gen_core.proofs.built.core.Goals as goal

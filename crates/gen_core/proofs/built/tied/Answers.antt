@@ -3,12 +3,12 @@ use Rattle.std.specs.Prelude.{Contains}
 use Rattle.rtl_net.specs.Net.{registers_of}
 use Rattle.rtl_net.proofs.Nets.{Extends-grows, Extends-trans}
 use Rattle.rb_model.specs.Ports.{Outlet, outlets}
-use Rattle.rb_plan.specs.Kept.{field_kept}
+use Rattle.block_plan.specs.Kept.{field_kept}
 use Rattle.std.specs.Prelude.{length, map}
 use Rattle.gen_scene.specs.Items.{IsItem}
 use Rattle.gen_scene.proofs.Worths.{IsBase-extends, IsBase-grows}
-use Rattle.gen_edge.specs.Edges.{AreNexts}
-use Rattle.gen_ties.specs.Ties.{SeatsTaken, outlet_pin}
+use Rattle.gen_clock.specs.Edges.{AreNexts}
+use Rattle.gen_core.specs.Ties.{SeatsTaken, outlet_pin}
 use Rattle.gen_core.proofs.Building.{AreAwaiting-grows, core_is, driven_all}
 use Rattle.gen_core.proofs.Joining.{HasShown-extends}
 use Rattle.gen_core.proofs.Naming.{same_free}

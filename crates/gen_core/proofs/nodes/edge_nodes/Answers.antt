@@ -3,7 +3,7 @@ use Rattle.rb_model.specs.Machine.{read_data}
 use Rattle.gen_scene.proofs.Worths.{IsWorth-grows}
 use Rattle.gen_access.specs.Words.{AreHitsOf, read_word, written_word}
 use Rattle.gen_access.proofs.Turns.{AreHitsOf-grows}
-use Rattle.gen_edge.proofs.Edging.{IsScene-grows}
+use Rattle.gen_clock.proofs.Edging.{IsScene-grows}
 use Rattle.rtl_net.proofs.Nets.{Grows-trans}
 use Rattle.gen_core.proofs.Joining.{HasShown-grows}
 use Rattle.gen_core.proofs.nodes.edge_nodes.Goals as goal

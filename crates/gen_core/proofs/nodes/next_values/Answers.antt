@@ -2,9 +2,9 @@ use Rattle.std.proofs.Common.{sym, subst}
 use Rattle.rtl_net.proofs.Nets.{Grows-trans}
 use Rattle.gen_access.specs.Words.{AreHitsOf, written_word}
 use Rattle.gen_access.proofs.Turns.{AreHitsOf-grows}
-use Rattle.gen_edge.specs.Edges.{AreMoved, AreUsed}
-use Rattle.gen_edge.proofs.Edging.{IsScene-grows}
-use Rattle.gen_edge.proofs.Taking.{AreMoved-grows}
+use Rattle.gen_clock.specs.Edges.{AreMoved, AreUsed}
+use Rattle.gen_clock.proofs.Edging.{IsScene-grows}
+use Rattle.gen_clock.proofs.Taking.{AreMoved-grows}
 use Rattle.gen_core.proofs.nodes.next_values.Goals as goal
 
 pub used_nodes-requires-clause-scene : goal.used_nodes-requires-clause-scene

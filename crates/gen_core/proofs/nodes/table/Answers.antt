@@ -1,5 +1,5 @@
 use Rattle.std.proofs.Common.{sym, subst}
-use Rattle.rb_wanted.specs.Wanted.{IsClosed}
+use Rattle.block_plan.specs.Wanted.{IsClosed}
 use Rattle.gen_scene.specs.Items.{AreMarks, HasItems}
 use Rattle.gen_scene.proofs.Worths.{IsBase-grows}
 use Rattle.rtl_net.proofs.Nets.{Grows-trans}

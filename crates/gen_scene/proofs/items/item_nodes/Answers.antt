@@ -1,5 +1,5 @@
 use Rattle.std.proofs.Common.{◌≡◌, ◌<◌, ◌≤◌, ◌∙◌, ap, length, sym, refl, arith}
-use Rattle.rb_wanted.proofs.Ordering.{here_at}
+use Rattle.block_plan.proofs.Ordering.{here_at}
 use Rattle.gen_scene.proofs.Ordering.{all_made, is_marked, is_own, none_made, one_more_at, one_spared, ordered_among, refs_made, room_at}
 use Rattle.gen_scene.proofs.Worths.{AreMarks-grows, IsBase-grows}
 use Rattle.gen_scene.proofs.items.item_nodes.Goals as goal

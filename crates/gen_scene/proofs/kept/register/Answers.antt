@@ -3,7 +3,7 @@ use Rattle.std.proofs.lemmas.Option.{same_Some, slice_get_within}
 use Rattle.rtl_net.specs.Value.{under}
 use Rattle.rtl_net.specs.Ids.{at}
 use Rattle.rtl_net.specs.declared.node.Id.{Id}
-use Rattle.rb_plan.specs.declared.plan.Plan.{Plan}
+use Rattle.block_plan.specs.declared.plan.Plan.{Plan}
 use Rattle.rtl_net.specs.Net.{Net, Awaits, CanReset, IsNode, IsWidth, registers_of}
 use Rattle.rtl_net.specs.Names.{is_net_name}
 use Rattle.rtl_net.specs.declared.node.NetReset.{NetReset}
@@ -11,7 +11,7 @@ use Rattle.std.specs.Prelude.{IsTrue}
 use Rattle.rtl_net.specs.Ports.{IsNew}
 use Rattle.rb_model.specs.declared.block.Field.{Field}
 use Rattle.rb_model.specs.Kept.{Kept, register_name, register_width}
-use Rattle.rb_plan.specs.Kept.{kept_seen}
+use Rattle.block_plan.specs.Kept.{kept_seen}
 use Rattle.gen_scene.specs.Bases.{kept_reset, kept_width, kept_word, reset_for, reset_in, reset_of, signal_place}
 use Rattle.gen_scene.proofs.ResetPins.{can_reset, kept_is_of, name_is, named, pin_within, reset_is, wide, width_is}
 use Rattle.gen_scene.proofs.kept.register.Goals as goal

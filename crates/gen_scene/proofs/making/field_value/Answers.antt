@@ -2,7 +2,7 @@ use Rattle.std.proofs.Common.{refl, arith}
 use Rattle.std.proofs.lemmas.Result.{IfOk-weaker}
 use Rattle.gen_scene.proofs.Counts.{width_fits}
 use Rattle.gen_scene.proofs.Made.{present_worth, reset_fits, storage_value}
-use Rattle.rb_wanted.proofs.Wanting.{field_sound}
+use Rattle.block_plan.proofs.Wanting.{field_sound}
 use Rattle.gen_scene.proofs.Worths.{worth_as}
 use Rattle.gen_scene.proofs.making.field_value.Goals as goal
 

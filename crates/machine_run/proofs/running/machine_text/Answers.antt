@@ -2,7 +2,7 @@ use Rattle.std.proofs.Common.{◌++◌, ap, sym, ◌∙◌, subst, length, map, 
 use Rattle.std.proofs.lemmas.List.{with_items_is}
 use Rattle.v_design.specs.Fits.{FitsPins}
 use Rattle.rb_model.specs.Ports.{input_pins}
-use Rattle.run_text.specs.Printed.{line, cell}
+use Rattle.report_text.specs.Printed.{line, cell}
 use Rattle.machine_run.specs.Runs.{output_pins}
 use Rattle.machine_run.proofs.Runs.{begins, goes_on, ends}
 use Rattle.machine_run.proofs.Watching.{vector_fits}

@@ -1,6 +1,6 @@
 use Rattle.std.proofs.Common.{sym, subst, IfOk}
-use Rattle.rdl_named.specs.Named.{AreNamed}
-use Rattle.rdl_outer.specs.Outers.{AreOuters}
+use Rattle.rdl_resolve.specs.Named.{AreNamed}
+use Rattle.rdl_resolve.specs.Outers.{AreOuters}
 use Rattle.rdl_bind.proofs.tables.named.Goals as goal
 
 pub named_items-requires-clause-known : goal.named_items-requires-clause-known

@@ -1,10 +1,10 @@
 use Rattle.std.proofs.Common.{sym, subst}
 use Rattle.rdl_values.specs.Elaboration.{IsClean}
-use Rattle.rdl_index.specs.Rows.{AreRows}
-use Rattle.rdl_item_numbers.specs.Numbered.{AreNumbers}
-use Rattle.rdl_marks.specs.Marks.{AreMarks}
-use Rattle.rdl_over_views.specs.Covered.{AreOverViews}
-use Rattle.rdl_wires.specs.Touched.{touches}
+use Rattle.rdl_nodes.specs.Rows.{AreRows}
+use Rattle.rdl_bind.specs.Numbered.{AreNumbers}
+use Rattle.rdl_ref_items.specs.Marks.{AreMarks}
+use Rattle.rdl_members.specs.Covered.{AreOverViews}
+use Rattle.rdl_fields.specs.Touched.{touches}
 use Rattle.rdl_bind.proofs.Reading.{as-named}
 use Rattle.rdl_bind.proofs.tables.tables_of.Goals as goal
 

@@ -1,7 +1,7 @@
 use Rattle.std.proofs.Common.{◌∙◌, length, sym, ap, subst}
 use Rattle.std.proofs.lemmas.Result.{IfOk-weaker}
-use Rattle.rdl_over_views.specs.Covered.{AreTests}
-use Rattle.rdl_wires.specs.Touched.{touches}
+use Rattle.rdl_members.specs.Covered.{AreTests}
+use Rattle.rdl_fields.specs.Touched.{touches}
 use Rattle.rdl_bind.proofs.Reading.{as-tests}
 use Rattle.rdl_bind.proofs.tables.touched.Goals as goal
 

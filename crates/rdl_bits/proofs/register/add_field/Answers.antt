@@ -1,10 +1,10 @@
 use Rattle.std.proofs.Common.{◌≡◌, ◌∙◌, [], ◌∷◌, ◌++◌, true, false, cond, sym, ap, subst}
+use Rattle.plain_lemmas.proofs.Lists.{append-none as none-behind}
 use Rattle.rdl_tree.specs.declared.item.Kind.TheVariants as kinds
 use Rattle.rdl_layers.specs.Fields.{is_a}
-use Rattle.rdl_props.specs.Same.{same_kind}
+use Rattle.rdl_tree.specs.Kinds.{same_kind}
 use Rattle.rdl_addr.specs.Fields.{AreFieldsOf}
 use Rattle.rdl_bits.proofs.Fielded.{field-kind, fields-push}
-use Rattle.rdl_bits.proofs.Lists.{none-behind}
 use Rattle.rdl_bits.proofs.register.add_field.Goals as goal
 
 pub returns-clause-field : goal.returns-clause-field

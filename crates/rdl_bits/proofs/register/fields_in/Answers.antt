@@ -7,7 +7,7 @@ use Rattle.rdl_values.specs.Lineages.{lineages_of}
 use Rattle.rdl_layers.specs.Fields.{is_a}
 use Rattle.rdl_addr.specs.Fields.{AreFieldsOf}
 use Rattle.rdl_addr.proofs.Using.{children-texts}
-use Rattle.rdl_lineages.proofs.Members.{each-in, place-in}
+use Rattle.rdl_nodes.proofs.Members.{each-in, place-in}
 use Rattle.rdl_sizes.specs.Bodies.{HasText}
 use Rattle.rdl_sizes.proofs.Facts.{node-at}
 use Rattle.rdl_sizes.proofs.Turns.{as-many, inside-at, read-at}

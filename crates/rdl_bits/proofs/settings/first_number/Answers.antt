@@ -1,7 +1,7 @@
 use Rattle.std.proofs.Common.{◌≡◌, ◌-◌, ◌<◌, suc, length, drop, unwrap_or, ap, subst, refl, arith}
 use Rattle.rdl_values.specs.Tabled.{around_in}
 use Rattle.rdl_layers.specs.Phase4.{first_or}
-use Rattle.rdl_reading.specs.Texts.{numbers_in}
+use Rattle.rdl_addr.specs.TextReadings.{numbers_in}
 use Rattle.rdl_sizes.proofs.Turns.{drop-all}
 use Rattle.rdl_bits.proofs.Lists.{number-here}
 use Rattle.rdl_bits.proofs.settings.first_number.Goals as goal

@@ -1,7 +1,7 @@
 use Rattle.std.proofs.Common.{◌≡◌, ℕ, drop, unwrap_or}
 use Rattle.rdl_values.specs.Tabled.{around_in}
 use Rattle.rdl_layers.specs.Phase4.{first_or}
-use Rattle.rdl_reading.specs.Texts.{numbers_in}
+use Rattle.rdl_addr.specs.TextReadings.{numbers_in}
 use Rattle.rdl_bits.proofs.settings.first_number.Given as goal
 
 abbrev pub invariant-loop-at : goal.invariant-loop-at

@@ -4,17 +4,17 @@ use Rattle.std.specs.Vec.{with_items}
 use Rattle.std.proofs.lemmas.List.{with_items_is}
 use Rattle.rdl_tree.specs.declared.item.Kind.TheVariants as kinds
 use Rattle.rdl_tree.specs.declared.node.Node.{out-Node}
-use Rattle.rdl_props.specs.Same.{same_kind}
+use Rattle.rdl_tree.specs.Kinds.{same_kind}
 use Rattle.rdl_values.specs.Elaborated.{around_body}
 use Rattle.rdl_values.specs.Instances.{children}
 use Rattle.rdl_values.specs.Lineages.{lineages_of}
 use Rattle.rdl_values.specs.Seen.{around_of}
 use Rattle.rdl_layers.specs.Fields.{fields_of, is_a}
 use Rattle.rdl_layout.specs.Fields as fields
-use Rattle.rdl_index.specs.Rows.{AreInside}
+use Rattle.rdl_nodes.specs.Rows.{AreInside}
 use Rattle.rdl_addr.specs.Fields.{AreFieldsOf}
 use Rattle.rdl_addr.specs.Spots.{bits_at}
-use Rattle.rdl_lineages.proofs.Members.{get-within}
+use Rattle.rdl_nodes.proofs.Members.{get-within}
 use Rattle.rdl_sizes.specs.Bodies.{IsBodyOf}
 use Rattle.rdl_sizes.proofs.Facts.{count-is, node-at}
 use Rattle.rdl_bits.specs.declared.table.BitTable.{BitTable}

@@ -1,7 +1,7 @@
 use Rattle.std.proofs.Common.{◌∙◌, sym, ap}
 use Rattle.rdl_tree.specs.declared.item.Kind.TheVariants as kinds
 use Rattle.rdl_tree.specs.declared.node.Node.{out-Node}
-use Rattle.rdl_props.specs.Same.{same_kind}
+use Rattle.rdl_tree.specs.Kinds.{same_kind}
 use Rattle.rdl_bits.proofs.Registers.{passed-by}
 use Rattle.rdl_bits.proofs.table.add_row.Goals as goal
 

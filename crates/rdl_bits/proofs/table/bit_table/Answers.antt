@@ -1,7 +1,7 @@
 use Rattle.std.proofs.Common.{◌≡◌, ◌∙◌, ◌+◌, Some, length, slice_get, sym, subst, arith}
 use Rattle.rdl_values.specs.Lineages.{lineages_of}
-use Rattle.rdl_index.specs.Rows.{IsRow}
-use Rattle.rdl_lineages.proofs.Members.{get-made}
+use Rattle.rdl_nodes.specs.Rows.{IsRow}
+use Rattle.rdl_nodes.proofs.Members.{get-made}
 use Rattle.rdl_sizes.proofs.Begun.{number-is}
 use Rattle.rdl_sizes.proofs.Facts.{row-at, rows-many}
 use Rattle.rdl_bits.specs.declared.table.BitTable.{BitTable}

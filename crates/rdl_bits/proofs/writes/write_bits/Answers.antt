@@ -1,14 +1,14 @@
 use Rattle.std.proofs.Common.{◌≡◌, ◌∙◌, ◌+◌, ◌<◌, length, map, slice_get, Some, sym, subst, ap, refl, arith}
+use Rattle.plain_lemmas.proofs.Lists.{length-map as long-map}
 use Rattle.rdl_tree.specs.declared.item.Kind.TheVariants as kinds
 use Rattle.rdl_tree.specs.declared.node.Node.{out-Node}
 use Rattle.rdl_layers.specs.Fields.{is_a}
-use Rattle.rdl_props.specs.Same.{same_kind}
-use Rattle.rdl_lineages.proofs.Members.{get-made, get-map, get-within}
+use Rattle.rdl_tree.specs.Kinds.{same_kind}
+use Rattle.rdl_nodes.proofs.Members.{get-made, get-map, get-within}
 use Rattle.rdl_sizes.proofs.Offsets.{Written, none-written, passed-over, room, written-one}
 use Rattle.rdl_sizes.proofs.Turns.{read-at}
 use Rattle.rdl_bits.specs.Written.{narrowed}
 use Rattle.rdl_bits.proofs.Fielded.{same_field}
-use Rattle.rdl_bits.proofs.Lists.{long-map}
 use Rattle.rdl_bits.proofs.writes.write_bits.Goals as goal
 use Rattle.rdl_bits.proofs.writes.write_bits.Goals.{then-is_field, else-is_field}
 

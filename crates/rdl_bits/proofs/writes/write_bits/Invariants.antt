@@ -1,7 +1,7 @@
 use Rattle.std.proofs.Common.{map}
 use Rattle.rdl_tree.specs.declared.item.Kind.TheVariants as kinds
 use Rattle.rdl_layers.specs.Fields.{is_a}
-use Rattle.rdl_props.specs.Same.{same_kind}
+use Rattle.rdl_tree.specs.Kinds.{same_kind}
 use Rattle.rdl_sizes.proofs.Offsets.{Written}
 use Rattle.rdl_bits.specs.Written.{narrowed}
 use Rattle.rdl_bits.proofs.Fielded.{same_field}

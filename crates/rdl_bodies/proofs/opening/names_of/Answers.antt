@@ -1,7 +1,7 @@
 use Rattle.std.proofs.Common.{◌∙◌, ap, sym}
 use Rattle.rdl_values.specs.Phase3.{of_enums, twice_defined}
-use Rattle.rdl_judging.specs.Noted.{with_all}
-use Rattle.rdl_judging.proofs.Sets.{with_all-append}
+use Rattle.rdl_failures.specs.Noted.{with_all}
+use Rattle.rdl_failures.proofs.Sets.{with_all-append}
 use Rattle.rdl_bodies.proofs.opening.names_of.Goals as goal
 
 pub returns-clause-noted : goal.returns-clause-noted

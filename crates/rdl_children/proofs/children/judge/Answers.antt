@@ -1,7 +1,7 @@
 use Rattle.std.proofs.Common.{refl, subst, sym}
 use Rattle.rdl_values.specs.Uses.{seen}
 use Rattle.rdl_scopes.specs.Scopes.{AreOpen}
-use Rattle.rdl_items.specs.declared.item.Scene.{Scene}
+use Rattle.rdl_children.specs.declared.item.Scene.{Scene}
 use Rattle.rdl_children.proofs.Itemized.{body_scene, items_of}
 use Rattle.rdl_children.proofs.Reached.{seen_reach}
 use Rattle.rdl_children.proofs.children.judge.Goals as goal

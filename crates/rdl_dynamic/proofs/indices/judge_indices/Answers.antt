@@ -3,9 +3,9 @@ use Rattle.std.proofs.lemmas.List.{take_all}
 use Rattle.rdl_tree.specs.declared.expr.Path.{out-Path}
 use Rattle.rdl_tree.specs.declared.expr.Step.{Step}
 use Rattle.rdl_values.specs.Bodies.{around}
-use Rattle.rdl_judging.specs.Noted.{IsNoted}
-use Rattle.rdl_judging.proofs.Noting.{nothing_noted, step_noted_at}
-use Rattle.rdl_meanings.proofs.Steps.{steps_of_code}
+use Rattle.rdl_failures.specs.Noted.{IsNoted}
+use Rattle.rdl_failures.proofs.Noting.{nothing_noted, step_noted_at}
+use Rattle.rdl_assignments.proofs.Steps.{steps_of_code}
 use Rattle.rdl_dynamic.specs.Indices.{bad_numbers}
 use Rattle.rdl_dynamic.proofs.indices.judge_indices.Goals as goal
 

@@ -2,8 +2,8 @@ use Rattle.std.proofs.Common.{subst}
 use Rattle.std.proofs.lemmas.List.{take_all}
 use Rattle.rdl_values.specs.Faults.{failures}
 use Rattle.rdl_values.specs.Values.{number_of}
-use Rattle.rdl_judging.specs.Noted.{IsNoted}
-use Rattle.rdl_judging.proofs.Noting.{nothing_noted, step_noted}
+use Rattle.rdl_failures.specs.Noted.{IsNoted}
+use Rattle.rdl_failures.proofs.Noting.{nothing_noted, step_noted}
 use Rattle.rdl_dynamic.specs.Indices.{bad_numbers}
 use Rattle.rdl_dynamic.proofs.indices.note_numbers.Goals as goal
 

@@ -1,7 +1,7 @@
 use Rattle.std.proofs.Common.{take}
 use Rattle.rdl_values.specs.Values.{Around}
-use Rattle.rdl_judging.specs.Noted.{IsNoted}
-use Rattle.rdl_judging.specs.Shown.{IsShown}
+use Rattle.rdl_failures.specs.Noted.{IsNoted}
+use Rattle.rdl_failures.specs.Shown.{IsShown}
 use Rattle.rdl_dynamic.specs.Indices.{bad_numbers}
 use Rattle.rdl_dynamic.proofs.indices.note_numbers.Given as goal
 

@@ -1,7 +1,8 @@
 use Rattle.std.proofs.Common.{sym}
+use Rattle.plain_lemmas.proofs.Results.{if_ok-map as if_ok}
 use Rattle.rdl_tree.specs.declared.node.Node.{out-Node}
 use Rattle.rdl_targets.proofs.Numbered.{no_row, row_says}
-use Rattle.rdl_dynamic.proofs.Legal.{if_ok, kind_noted}
+use Rattle.rdl_dynamic.proofs.Legal.{kind_noted}
 use Rattle.rdl_dynamic.proofs.targets.judge_kind.Goals as goal
 
 pub returns-in-Some : goal.returns-in-Some

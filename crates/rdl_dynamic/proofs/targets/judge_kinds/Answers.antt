@@ -1,6 +1,6 @@
 use Rattle.rdl_values.specs.Instances.{Instance}
 use Rattle.rdl_values.specs.Lineages.{lineages_of}
-use Rattle.rdl_judging.proofs.Noting.{nothing_noted}
+use Rattle.rdl_failures.proofs.Noting.{nothing_noted}
 use Rattle.rdl_layers.specs.Judged.{illegal, legal_on}
 use Rattle.rdl_dynamic.proofs.Legal.{kinds_all, kinds_step}
 use Rattle.rdl_dynamic.proofs.targets.judge_kinds.Goals as goal

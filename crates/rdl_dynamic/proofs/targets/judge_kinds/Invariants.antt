@@ -2,8 +2,8 @@ use Rattle.std.proofs.Common.{◌≡◌, List, Some, flat_map, take}
 use Rattle.rdl_tree.specs.declared.node.Elab.{Elab}
 use Rattle.rdl_values.specs.Instances.{Instance}
 use Rattle.rdl_values.specs.Lineages.{lineages_of}
-use Rattle.rdl_index.specs.Rows.{AreRows}
-use Rattle.rdl_judging.specs.Noted.{IsNoted}
+use Rattle.rdl_nodes.specs.Rows.{AreRows}
+use Rattle.rdl_failures.specs.Noted.{IsNoted}
 use Rattle.rdl_layers.specs.Judged.{illegal, legal_on}
 use Rattle.rdl_layers.specs.Meanings.{Assignment, prop_of}
 use Rattle.rdl_targets.specs.At.{AreAt}

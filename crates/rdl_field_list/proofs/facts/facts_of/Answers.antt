@@ -1,8 +1,8 @@
 use Rattle.std.proofs.Common.{◌∙◌, arith}
 use Rattle.rdl_values.specs.Uses.{path_text}
 use Rattle.rdl_layers.specs.Fields.{is_once}
-use Rattle.rdl_lineages.proofs.Members.{get-read}
-use Rattle.rdl_wires.specs.Touched.{touches}
+use Rattle.rdl_nodes.proofs.Members.{get-read}
+use Rattle.rdl_fields.specs.Touched.{touches}
 use Rattle.rdl_field_list.proofs.Telling.{over, plain, unit-field}
 use Rattle.rdl_field_list.proofs.facts.facts_of.Goals as goal
 

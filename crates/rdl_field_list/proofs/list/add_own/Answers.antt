@@ -2,7 +2,7 @@ use Rattle.std.proofs.Common.{◌∙◌, ◌++◌, [], cond, map, sym, ap}
 use Rattle.rdl_tree.specs.declared.node.Node.{out-Node}
 use Rattle.rdl_values.specs.Lineages.{lineages_of}
 use Rattle.rdl_layers.specs.Fields.{fields_of}
-use Rattle.rdl_node_numbers.specs.Listed.{is_primary}
+use Rattle.rdl_block_numbers.specs.Listed.{is_primary}
 use Rattle.rdl_rules.specs.Fields.{field_of}
 use Rattle.rdl_field_list.proofs.Telling.{put-none}
 use Rattle.rdl_field_list.proofs.list.add_own.Goals as goal

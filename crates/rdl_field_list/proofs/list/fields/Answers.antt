@@ -5,17 +5,17 @@ use Rattle.rdl_values.specs.Elaboration.{IsClean}
 use Rattle.rdl_values.specs.Lineages.{lineages_of}
 use Rattle.rdl_values.proofs.Given.{each-imp}
 use Rattle.rdl_layers.specs.Fields.{is_once}
-use Rattle.rdl_index.specs.Rows.{AreRows}
+use Rattle.rdl_nodes.specs.Rows.{AreRows}
 use Rattle.rdl_refs.specs.Answers.{IsBound}
-use Rattle.rdl_counters.specs.Narrow.{AreNarrow}
-use Rattle.rdl_facts.specs.Facts.{AreFacts}
-use Rattle.rdl_node_texts.specs.Texts.{AreTexts}
-use Rattle.rdl_over_views.specs.Covered.{AreOverViews}
-use Rattle.rdl_resets.specs.Nearest.{AreNearest}
+use Rattle.rdl_feeds.specs.Narrow.{AreNarrow}
+use Rattle.rdl_rules.specs.Facts.{AreFacts}
+use Rattle.rdl_block_numbers.specs.Texts.{AreTexts}
+use Rattle.rdl_members.specs.Covered.{AreOverViews}
+use Rattle.rdl_reset_rules.specs.Nearest.{AreNearest}
 use Rattle.rdl_rules.specs.Block as blocks
 use Rattle.rdl_rules.specs.Numbers.{all_fields}
-use Rattle.rdl_sound_fields.specs.Faultless.{IsFaultless}
-use Rattle.rdl_wires.specs.Touched.{touches}
+use Rattle.rdl_sound_laws.specs.Faultless.{IsFaultless}
+use Rattle.rdl_fields.specs.Touched.{touches}
 use Rattle.rdl_field_list.specs.Own.{AreNarrowFields}
 use Rattle.rdl_field_list.proofs.list.fields.Goals as goal
 

@@ -2,9 +2,9 @@ use Rattle.std.proofs.Common.{◌∙◌, ◌<◌, filter, get_or, length, take, 
 use Rattle.std.proofs.lemmas.List.{take_all}
 use Rattle.rdl_tree.specs.declared.item.Kind.TheVariants as kinds
 use Rattle.rdl_tree.specs.declared.node.Node.{out-Node}
-use Rattle.rdl_props.specs.Same.{same_kind}
+use Rattle.rdl_tree.specs.Kinds.{same_kind}
 use Rattle.rdl_values.specs.Lineages.{lineages_of}
-use Rattle.rdl_index.specs.declared.table.Row.{Row}
+use Rattle.rdl_nodes.specs.declared.table.Row.{Row}
 use Rattle.rdl_sizes.proofs.Facts.{count-is, rows-many}
 use Rattle.rdl_sizes.proofs.Turns.{read-at}
 use Rattle.rdl_field_list.specs.Own.{IsRowOf}

@@ -1,6 +1,6 @@
 use Rattle.std.proofs.Common.{◌∙◌, ◌&&◌, not, ap}
 use Rattle.rdl_tree.specs.declared.item.Kind.TheVariants as kinds
-use Rattle.rdl_props.specs.Same.{same_kind}
+use Rattle.rdl_tree.specs.Kinds.{same_kind}
 use Rattle.rdl_field_list.proofs.Listing.{tells-alias}
 use Rattle.rdl_field_list.proofs.list.is_primary.Goals as goal
 

@@ -1,6 +1,6 @@
 use Rattle.std.proofs.Common.{◌∙◌, ◌∷◌, [], sym, ap}
 use Rattle.rdl_tree.specs.declared.item.Kind.TheVariants as kinds
-use Rattle.rdl_props.specs.Same.{same_kind}
+use Rattle.rdl_tree.specs.Kinds.{same_kind}
 use Rattle.rdl_values.specs.Lineages.{lineages_of}
 use Rattle.rdl_layers.specs.Fields.{is_a}
 use Rattle.rdl_rules.specs.Fields.{field_of}

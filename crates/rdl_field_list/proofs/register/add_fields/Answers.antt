@@ -1,15 +1,15 @@
 use Rattle.std.proofs.Common.{◌∙◌, ◌∷◌, ◌++◌, map, sym, ap, arith, append-nil}
 use Rattle.rdl_tree.specs.declared.item.Kind.TheVariants as kinds
 use Rattle.rdl_tree.specs.declared.node.Node.{out-Node}
-use Rattle.rdl_props.specs.Same.{same_kind}
+use Rattle.rdl_tree.specs.Kinds.{same_kind}
 use Rattle.rdl_values.specs.Instances.{children}
 use Rattle.rdl_values.specs.Lineages.{child_of, lineages_of}
 use Rattle.rdl_layers.specs.Fields.{is_a}
-use Rattle.rdl_aliases.proofs.Lists.{filter-all}
-use Rattle.rdl_lineages.proofs.Members.{get-within, place-in}
+use Rattle.rdl_fields.proofs.Lists.{filter-all}
+use Rattle.rdl_nodes.proofs.Members.{get-within, place-in}
 use Rattle.rdl_sizes.proofs.Facts.{count-is}
 use Rattle.rdl_sizes.proofs.Turns.{as-many, inside-at, read-at}
-use Rattle.rdl_counters.specs.Narrow.{AreNarrow}
+use Rattle.rdl_feeds.specs.Narrow.{AreNarrow}
 use Rattle.rdl_rules.specs.Fields.{field_of}
 use Rattle.rdl_field_list.proofs.Telling.{at-most-one, mapped-more, narrow-child, not-alias}
 use Rattle.rdl_field_list.proofs.register.add_fields.Goals as goal

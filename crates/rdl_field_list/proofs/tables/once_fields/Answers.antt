@@ -2,8 +2,8 @@ use Rattle.std.proofs.Common.{◌∙◌, length, sym, ap, subst}
 use Rattle.rdl_tree.specs.declared.node.Elab.{Elab}
 use Rattle.rdl_values.specs.Elaboration.{IsClean}
 use Rattle.rdl_layers.specs.Fields.{is_once}
-use Rattle.rdl_index.specs.Rows.{AreRows}
-use Rattle.rdl_over_views.specs.Covered.{AreTests}
+use Rattle.rdl_nodes.specs.Rows.{AreRows}
+use Rattle.rdl_members.specs.Covered.{AreTests}
 use Rattle.rdl_field_list.specs.Tables.{AreOnceTo}
 use Rattle.rdl_field_list.proofs.Tabled.{all-once}
 use Rattle.rdl_field_list.proofs.tables.once_fields.Goals as goal

@@ -1,9 +1,9 @@
 use Rattle.std.proofs.Common.{◌∙◌, length, sym, ap, subst}
 use Rattle.rdl_tree.specs.declared.node.Elab.{Elab}
 use Rattle.rdl_values.specs.Elaboration.{IsClean}
-use Rattle.rdl_index.specs.Rows.{AreRows}
-use Rattle.rdl_over_views.specs.Covered.{AreTests}
-use Rattle.rdl_wires.specs.Touched.{AreTouches, touches}
+use Rattle.rdl_nodes.specs.Rows.{AreRows}
+use Rattle.rdl_members.specs.Covered.{AreTests}
+use Rattle.rdl_fields.specs.Touched.{AreTouches, touches}
 use Rattle.rdl_field_list.proofs.Tabled.{all-touches}
 use Rattle.rdl_field_list.proofs.tables.touched_fields.Goals as goal
 

@@ -1,6 +1,6 @@
 use Rattle.std.proofs.Common.{◌≡◌, ◌++◌, take, map, flat_map}
-use Rattle.rb_base.specs.declared.rule.Rule.TheVariants as rules
-use Rattle.rdl_extents.specs.Claims.{clashing_claims}
+use Rattle.rdl_base.specs.declared.rule.Rule.TheVariants as rules
+use Rattle.rdl_layout.specs.Claims.{clashing_claims}
 use Rattle.rdl_layout.specs.Fields.{claim_of, outside}
 use Rattle.rdl_layout.proofs.bits.bit_faults.Given as goal
 

@@ -1,5 +1,5 @@
 use Rattle.std.proofs.Common.{ne_eqb, refl}
-use Rattle.rb_base.specs.declared.rule.Rule.TheVariants.{L1, L6}
+use Rattle.rdl_base.specs.declared.rule.Rule.TheVariants.{L1, L6}
 use Rattle.rdl_lexer.proofs.Fronts.{perl_breaks, mark_lexeme, mark_breaks}
 use Rattle.rdl_lexer.proofs.lexeme.mark.Goals as goal
 

@@ -8,7 +8,7 @@ use Rattle.rdl_tree.specs.Tree as tree
 use Rattle.rdl_expressions.proofs.Firsts.{right}
 use Rattle.rb_grammar.proofs.Factoring.{reading, reading_stops}
 use Rattle.rb_grammar.proofs.Returning.{then_reads, then_shorter, in_any_case, no_syntax}
-use Rattle.rb_base.specs.declared.keyword.Keyword.TheVariants as words
+use Rattle.rdl_base.specs.declared.keyword.Keyword.TheVariants as words
 use Rattle.rdl_expressions.specs.Following.{kinds}
 use Rattle.rdl_expressions.proofs.Words.{no_kind}
 use Rattle.rdl_expressions.proofs.Phrases.{adding}

@@ -5,7 +5,7 @@ use Rattle.rb_grammar.proofs.Steps.{entering, staying, opening, taking, seen}
 use Rattle.rdl_tree.specs.declared.token.Terminal.TheVariants as terminals
 use Rattle.rdl_tree.specs.Tree as tree
 use Rattle.rdl_expressions.proofs.Firsts.{right}
-use Rattle.rb_base.specs.declared.keyword.Keyword.TheVariants as words
+use Rattle.rdl_base.specs.declared.keyword.Keyword.TheVariants as words
 use Rattle.rb_grammar.proofs.Factoring.{packing}
 use Rattle.rb_grammar.proofs.Returning.{then_reads, then_shorter}
 use Rattle.rdl_parser.proofs.Items.{moved, moved_item, item_name_step}

@@ -1,11 +1,13 @@
 use Rattle.std.proofs.Common.{◌≡◌, ◌∙◌, ℕ, ◌^◌, ◌<◌, not, true, Option, None, Some, List, [], ◌∷◌, length, get_or, drop, sym, ap, subst, arith, length-append}
 use Rattle.std.specs.List.{All}
 use Rattle.std.specs.Option.{is_some, unwrap_or}
+use Rattle.plain_lemmas.proofs.Options.{is_some-false as none-from}
+use Rattle.plain_lemmas.proofs.Results.{if_ok-map as if-ok}
 use Rattle.topological_order.specs.Levels.{lists, rank_at}
 use Rattle.rdl_refs.specs.Graph.{Edges, IsCircleOf}
 use Rattle.rdl_refs.specs.Walk.{IsWalk}
 use Rattle.rdl_refs.proofs.Ending.{need-unranked, unranked-need-refers}
-use Rattle.rdl_refs.proofs.Gets.{any-default, if-ok, length-lists, none-from, some-from}
+use Rattle.rdl_refs.proofs.Gets.{any-default, length-lists, some-from}
 use Rattle.rdl_refs.proofs.Walks.{circle-found, circle-within, first-within, walk-more, walk-short}
 use Rattle.rdl_refs.proofs.graph.circle_from.Goals as goal
 

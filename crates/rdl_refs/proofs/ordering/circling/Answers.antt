@@ -1,11 +1,11 @@
 use Rattle.std.proofs.Common.{subst, ap, length, arith}
 use Rattle.std.proofs.lemmas.List.{length-map}
+use Rattle.plain_lemmas.proofs.Results.{if_ok-map as if-ok}
 use Rattle.rdl_values.specs.Lineages.{lineages_of}
 use Rattle.topological_order.specs.Levels.{AreLevels, AreWithin}
 use Rattle.rdl_refs.specs.Answers.{AreCircling}
 use Rattle.rdl_refs.specs.Items.{Item, items}
 use Rattle.rdl_refs.specs.Walk.{AreUnordered}
-use Rattle.rdl_refs.proofs.Gets.{if-ok}
 use Rattle.rdl_refs.proofs.Reported.{edges-sized, reported}
 use Rattle.rdl_refs.proofs.ordering.circling.Goals as goal
 

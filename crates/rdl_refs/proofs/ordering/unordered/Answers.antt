@@ -1,7 +1,8 @@
 use Rattle.std.proofs.Common.{◌≡◌, ◌∙◌, ℕ, ◌+◌, true, Option, is_some, None, Some, length, sym, ap, subst, arith, refl}
+use Rattle.plain_lemmas.proofs.Options.{is_some-false as none-from}
 use Rattle.topological_order.specs.Levels.{rank_at}
 use Rattle.rdl_refs.specs.Walk.{AreUnordered}
-use Rattle.rdl_refs.proofs.Gets.{get-at, none-from}
+use Rattle.rdl_refs.proofs.Gets.{get-at}
 use Rattle.rdl_refs.proofs.Reported.{one-ranked, one-unranked}
 use Rattle.rdl_refs.proofs.ordering.unordered.Goals as goal
 use Rattle.rdl_refs.proofs.ordering.unordered.Goals.{then-is_none+in_ok-push, else-is_none}

@@ -1,11 +1,11 @@
 use Rattle.std.proofs.Common.{◌∙◌, ◌<◌, ◌&&◌, ◌||◌, List, sym, ap, subst, arith}
 use Rattle.std.specs.List.{list_any}
 use Rattle.std.proofs.lemmas.List.{take_all}
-use Rattle.rb_base.specs.declared.rule.Rule.TheVariants as rule
+use Rattle.rdl_base.specs.declared.rule.Rule.TheVariants as rule
 use Rattle.rdl_tree.specs.declared.node.Node.{out-Node}
 use Rattle.rdl_values.specs.Faults.{at_, when}
 use Rattle.rdl_values.specs.Instances.{Instance}
-use Rattle.rdl_judging.specs.Noted.{with_all}
+use Rattle.rdl_failures.specs.Noted.{with_all}
 use Rattle.rdl_rules.specs.FieldRules.{at_node}
 use Rattle.rdl_rules.specs.Fields.{is_field_reset}
 use Rattle.rdl_rules.specs.ReferenceRules.{second_reset}

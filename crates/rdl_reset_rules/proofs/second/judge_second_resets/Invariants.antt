@@ -1,7 +1,7 @@
 use Rattle.std.proofs.Common.{◌≡◌, List, take}
 use Rattle.std.specs.List.{list_any}
 use Rattle.rdl_values.specs.Instances.{Instance}
-use Rattle.rdl_judging.specs.Noted.{with_all}
+use Rattle.rdl_failures.specs.Noted.{with_all}
 use Rattle.rdl_rules.specs.Fields.{is_field_reset}
 use Rattle.rdl_rules.specs.ReferenceRules.{second_reset}
 use Rattle.rdl_reset_rules.specs.Said.{AreSaid}

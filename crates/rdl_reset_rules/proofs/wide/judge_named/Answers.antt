@@ -1,20 +1,20 @@
 use Rattle.std.proofs.Common.{◌≡◌, ◌∙◌, ◌<◌, ◌==◌, not, flat_map, append-nil, Some, slice_get, sym, ap, subst, arith}
-use Rattle.rb_base.specs.declared.rule.Rule.TheVariants as rule
+use Rattle.rdl_base.specs.declared.rule.Rule.TheVariants as rule
 use Rattle.rdl_tree.specs.declared.node.Elab.{Elab}
 use Rattle.rdl_props.specs.declared.prop.Prop.TheVariants as prop
 use Rattle.rdl_values.specs.Elaborated.{nodes_of}
 use Rattle.rdl_values.specs.Faults.{at_, when}
 use Rattle.rdl_values.specs.Instances.{Instance}
 use Rattle.rdl_values.specs.Lineages.{lineages_of}
-use Rattle.rdl_judging.specs.Noted.{with_all}
+use Rattle.rdl_failures.specs.Noted.{with_all}
 use Rattle.rdl_layers.specs.Phase4.{width_of}
 use Rattle.rdl_layers.specs.Settings.{setting}
 use Rattle.rdl_refs.specs.Items.{Item, target}
 use Rattle.rdl_rules.specs.FieldRules.{at_node}
 use Rattle.rdl_sizes.proofs.Facts.{rows-many}
-use Rattle.rdl_named_items.specs.Named.{Names}
-use Rattle.rdl_missing.proofs.Items.{item-below, item-counted, item-node, known-row}
-use Rattle.rdl_reference_rules.proofs.Items.{names-none, names-one, number-below}
+use Rattle.rdl_ref_items.specs.Named.{Names}
+use Rattle.rdl_ref_items.proofs.Items.{item-below, item-counted, item-node, known-row}
+use Rattle.rdl_reset_rules.proofs.Items.{names-none, names-one, number-below}
 use Rattle.rdl_reset_rules.proofs.Bound.{names-signal}
 use Rattle.rdl_reset_rules.proofs.Said.{signal-unit}
 use Rattle.rdl_reset_rules.proofs.wide.judge_named.Goals as goal

@@ -1,7 +1,7 @@
 use Rattle.std.proofs.Common.{◌∙◌, arith}
-use Rattle.rb_base.specs.declared.rule.Rule.TheVariants as rule
+use Rattle.rdl_base.specs.declared.rule.Rule.TheVariants as rule
 use Rattle.rdl_values.specs.Faults.{at_, when}
-use Rattle.rdl_judging.specs.Noted.{with_all}
+use Rattle.rdl_failures.specs.Noted.{with_all}
 use Rattle.rdl_reset_rules.proofs.Said.{own-fails}
 use Rattle.rdl_reset_rules.proofs.wide.judge_own.Goals as goal
 

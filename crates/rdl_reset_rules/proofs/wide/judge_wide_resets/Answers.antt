@@ -1,9 +1,9 @@
 use Rattle.std.proofs.Common.{◌∙◌, ap, sym}
 use Rattle.rdl_values.specs.Lineages.{lineages_of}
-use Rattle.rdl_judging.specs.Noted.{with_all}
-use Rattle.rdl_judging.proofs.Sets.{with_all-append}
+use Rattle.rdl_failures.specs.Noted.{with_all}
+use Rattle.rdl_failures.proofs.Sets.{with_all-append}
 use Rattle.rdl_reset_rules.specs.Said.{wide_named, wide_own}
-use Rattle.rdl_reference_rules.proofs.Items.{number-below}
+use Rattle.rdl_reset_rules.proofs.Items.{number-below}
 use Rattle.rdl_reset_rules.proofs.wide.judge_wide_resets.Goals as goal
 
 pub judge_own-requires-clause-number : goal.judge_own-requires-clause-number

@@ -3,9 +3,9 @@ use Rattle.std.specs.Option.{option_copied}
 use Rattle.rdl_values.specs.Chained.{chained}
 use Rattle.rdl_values.specs.Elaborated.{around_body}
 use Rattle.rdl_values.specs.Instances.{body}
-use Rattle.rdl_judging.specs.Shown.{IsAlike}
+use Rattle.rdl_failures.specs.Shown.{IsAlike}
 use Rattle.rdl_dynamic.specs.Written.{AreWritten}
-use Rattle.rdl_opened.proofs.Staying.{open_alike}
+use Rattle.rdl_open_bodies.proofs.Staying.{open_alike}
 use Rattle.rdl_settle.proofs.Assigning.{no_layers, own_is, written_found}
 use Rattle.rdl_settle.proofs.above.assign.Goals as goal
 

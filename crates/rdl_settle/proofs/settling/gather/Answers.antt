@@ -1,6 +1,6 @@
 use Rattle.std.proofs.Common.{◌∙◌, refl, subst, sym}
-use Rattle.rdl_index.specs.Rows.{AreRows}
-use Rattle.rdl_completed.specs.Completed.{IsScene}
+use Rattle.rdl_nodes.specs.Rows.{AreRows}
+use Rattle.rdl_open_settings.specs.Completed.{IsScene}
 use Rattle.rdl_settle.proofs.Assigning.{rows_count}
 use Rattle.rdl_settle.proofs.Finishing.{gathered}
 use Rattle.rdl_settle.proofs.settling.gather.Goals as goal

@@ -1,7 +1,7 @@
 use Rattle.std.proofs.Common.{◌∙◌, [], ap, length, subst, sym}
 use Rattle.rdl_values.specs.Elaborated.{nodes_of}
-use Rattle.rdl_index.specs.Rows.{AreRows}
-use Rattle.rdl_node_facts.specs.Told.{AreTold}
+use Rattle.rdl_nodes.specs.Rows.{AreRows}
+use Rattle.rdl_facts.specs.Told.{AreTold}
 use Rattle.rdl_settle.specs.Gathered.{IsGathered}
 use Rattle.rdl_settle.proofs.Assigning.{rows_count}
 use Rattle.rdl_settle.proofs.Finishing.{empty_is, not_empty, refused, settled, tables, told_all}

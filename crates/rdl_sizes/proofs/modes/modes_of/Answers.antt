@@ -2,7 +2,7 @@ use Rattle.std.proofs.Common.{◌∙◌, length, ap, arith, length-append, [], �
 use Rattle.rdl_tree.specs.declared.node.Node.{out-Node}
 use Rattle.rdl_props.specs.declared.prop.Prop.TheVariants as prop
 use Rattle.rdl_layers.specs.Settings.{setting}
-use Rattle.rdl_reading.specs.Modes.{mode_by}
+use Rattle.rdl_addr.specs.Modes.{mode_by}
 use Rattle.rdl_sizes.specs.Modes.{outer_at}
 use Rattle.rdl_sizes.proofs.Moding.{id-below, modes-more, no-modes, parent-below}
 use Rattle.rdl_sizes.proofs.modes.modes_of.Goals as goal

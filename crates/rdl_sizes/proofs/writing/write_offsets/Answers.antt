@@ -1,6 +1,6 @@
 use Rattle.std.proofs.Common.{◌∙◌, ◌+◌, ◌<◌, length, get_or, sym, subst, refl, arith}
 use Rattle.rdl_tree.specs.declared.node.Node.{out-Node}
-use Rattle.rdl_lineages.proofs.Members.{get-made, get-within}
+use Rattle.rdl_nodes.proofs.Members.{get-made, get-within}
 use Rattle.rdl_addr.specs.Layout.{has_address}
 use Rattle.rdl_sizes.specs.Bodies.{addressed}
 use Rattle.rdl_sizes.proofs.Gathered.{placed-by-kind}

@@ -1,7 +1,7 @@
 use Rattle.std.proofs.Common.{◌≡◌, Ok, take}
 use Rattle.rdl_values.specs.Uses.{values}
 use Rattle.rdl_values.specs.Values.{Around}
-use Rattle.rdl_judging.specs.Shown.{IsShown}
+use Rattle.rdl_failures.specs.Shown.{IsShown}
 use Rattle.rdl_targets.proofs.matching.numbers_of.Given as goal
 
 abbrev pub invariant-loop-expr : goal.invariant-loop-expr

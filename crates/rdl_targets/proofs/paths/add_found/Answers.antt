@@ -1,8 +1,8 @@
 use Rattle.std.proofs.Common.{◌∙◌, ◌++◌, refl, sym, ap, subst}
-use Rattle.rdl_keys.specs.Keyed.{nodes_of}
+use Rattle.plain_lemmas.proofs.Results.{on_ok-map as on_ok}
+use Rattle.rdl_targets.specs.Keyed.{nodes_of}
 use Rattle.rdl_targets.specs.Contents.{AddsFound}
 use Rattle.rdl_targets.proofs.Leading.{any_found, none_found, these_found}
-use Rattle.rdl_targets.proofs.Numbered.{on_ok}
 use Rattle.rdl_targets.proofs.paths.add_found.Goals as goal
 
 pub returns-in-Any : goal.returns-in-Any

@@ -3,7 +3,7 @@ use Rattle.rdl_tree.specs.declared.node.Elab.{Elab}
 use Rattle.rdl_values.specs.Instances.{Instance}
 use Rattle.rdl_values.specs.Lineages.{lineages_of}
 use Rattle.rdl_values.specs.Values.{Around}
-use Rattle.rdl_judging.specs.Shown.{IsShown}
+use Rattle.rdl_failures.specs.Shown.{IsShown}
 use Rattle.rdl_layers.specs.Assignments.{is_step}
 use Rattle.rdl_targets.specs.At.{AreAt, IsAt}
 use Rattle.rdl_targets.specs.Contents.{AreContents}

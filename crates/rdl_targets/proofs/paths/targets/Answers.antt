@@ -1,11 +1,12 @@
 use Rattle.std.proofs.Common.{◌∙◌, [], sym, ap, subst}
+use Rattle.plain_lemmas.proofs.Results.{if_ok-map as if_ok}
 use Rattle.rdl_tree.specs.declared.expr.Path.{out-Path}
 use Rattle.rdl_values.specs.Instances.{children}
 use Rattle.rdl_values.specs.Lineages.{lineages_of}
 use Rattle.rdl_layers.specs.Assignments.{is_step, led_down}
-use Rattle.rdl_meanings.proofs.Steps.{steps_of_code}
+use Rattle.rdl_assignments.proofs.Steps.{steps_of_code}
 use Rattle.rdl_targets.specs.At.{AreAt}
-use Rattle.rdl_targets.proofs.Stepping.{all_led, if_ok, none_led}
+use Rattle.rdl_targets.proofs.Stepping.{all_led, none_led}
 use Rattle.rdl_targets.proofs.paths.targets.Goals as goal
 
 pub returns-then-is_empty : goal.returns-then-is_empty

@@ -1,6 +1,6 @@
 use Rattle.std.proofs.Common.{◌∙◌, sym, ap, subst, is_some}
-use Rattle.rdl_judging.specs.Noted.{IsNoted}
-use Rattle.rdl_parts.specs.Judged.{of_parts}
+use Rattle.rdl_failures.specs.Noted.{IsNoted}
+use Rattle.rdl_uses.specs.Parts.{of_parts}
 use Rattle.rdl_uses.proofs.Judging.{all_noted, alias_noted, form_noted, fresh_noted, held_there, many_noted, use_put}
 use Rattle.rdl_uses.proofs.instance.judge_instance.Goals as goal
 

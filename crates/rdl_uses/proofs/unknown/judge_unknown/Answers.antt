@@ -1,7 +1,7 @@
 use Rattle.std.proofs.Common.{◌∙◌, ◌++◌, append-nil, map, flat_map, ap, sym, subst, refl}
 use Rattle.std.proofs.lemmas.List.{get_or_default, take_all}
 use Rattle.rdl_values.specs.Phase3.{of_use}
-use Rattle.rdl_judging.specs.Noted.{with_all}
+use Rattle.rdl_failures.specs.Noted.{with_all}
 use Rattle.rdl_uses.specs.Before.{AreEarlier}
 use Rattle.rdl_uses.specs.Unknown.{unknown_by, unknown_seens}
 use Rattle.rdl_uses.proofs.Unseen.{unseen_more}

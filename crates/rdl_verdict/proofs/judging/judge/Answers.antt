@@ -1,6 +1,6 @@
 use Rattle.std.proofs.Common.{Some, option_copied, subst}
 use Rattle.rdl_values.specs.Elaborated.{top_name}
-use Rattle.rdl_single_forms.specs.Single.{AreSingle}
+use Rattle.rdl_nodes.specs.Single.{AreSingle}
 use Rattle.rdl_verdict.proofs.Later.{clean, here, judged, passed-on, refused, refused3}
 use Rattle.rdl_verdict.proofs.judging.judge.Goals as goal
 

@@ -3,7 +3,7 @@ use Rattle.rdl_verdict.specs.Answers.{Refuses}
 use Rattle.rdl_verdict.specs.declared.error.JudgeError.{JudgeError}
 use Rattle.command_line.specs.Words.{IsWaits, waits_of}
 use Rattle.replies.specs.Verdict.{IsDescribedWith}
-use Rattle.rdl_waits.specs.Waits.{with_waits}
+use Rattle.rdl_rules.specs.Waits.{with_waits}
 use Rattle.replies.specs.Answer.{texts_of}
 use Rattle.replies.proofs.Rows.{first_told}
 use Rattle.replies.proofs.describing.describe_source.Goals as goal

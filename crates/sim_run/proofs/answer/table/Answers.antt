@@ -3,7 +3,7 @@ use Rattle.std.specs.List.{AllPairs}
 use Rattle.v_design.specs.Design.{inputs, outputs}
 use Rattle.v_design.specs.Seen.{module_seen}
 use Rattle.stim_csv.specs.PinTable.{table_of, records_of}
-use Rattle.run_text.specs.Problems.{problem_text}
+use Rattle.report_text.specs.Problems.{problem_text}
 use Rattle.sim_run.proofs.Tables.{outputs_below, apart, is_problem}
 use Rattle.sim_run.proofs.answer.table.Goals as goal
 

@@ -4,7 +4,7 @@ use Rattle.v_design.specs.Seen.{module_seen}
 use Rattle.v_design.specs.Fits.{FitsPins}
 use Rattle.std.proofs.lemmas.List.{with_items_is}
 use Rattle.cyc_sim.proofs.Facts.{fits_length}
-use Rattle.run_text.specs.Printed.{line, cell}
+use Rattle.report_text.specs.Printed.{line, cell}
 use Rattle.sim_run.proofs.Runs.{begins, goes_on, ends, vector_fits}
 use Rattle.sim_run.proofs.Tables.{zeros_fit, zeros_are}
 use Rattle.sim_run.proofs.running.module_run.Goals as goal

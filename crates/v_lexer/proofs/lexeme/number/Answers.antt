@@ -1,6 +1,7 @@
 use Rattle.std.proofs.Common.{subst, List, ℕ}
+use Rattle.plain_lemmas.proofs.Lists.{take_drop-rest as rest_is}
 use Rattle.v_lexer.specs.Reading.{IsSuffixLen}
-use Rattle.v_lexer.proofs.NumberFronts.{rest_is, decimal_lexeme, constant_lexeme, constant_fault, constant_based}
+use Rattle.v_lexer.proofs.NumberFronts.{decimal_lexeme, constant_lexeme, constant_fault, constant_based}
 use Rattle.v_lexer.proofs.lexeme.number.Goals as goal
 
 pub returns-then-suffix-eq0-clause-some : goal.returns-then-suffix-eq0-clause-some

@@ -1,7 +1,8 @@
 use Rattle.std.proofs.Common.{if◌then◌else◌, sym, ap, ◌∙◌, arith}
 use Rattle.std.proofs.lemmas.Option.{slice_get_within}
+use Rattle.plain_lemmas.proofs.Bools.{if-same as same_either}
 use Rattle.gen_access.specs.Words.{is_at}
-use Rattle.gen_access.proofs.Turns.{changes_set, field_there, nodes_set, same_either}
+use Rattle.gen_access.proofs.Turns.{changes_set, field_there, nodes_set}
 use Rattle.gen_access.specs.Touches.{one_bit, slot_mark, touch_reached}
 use Rattle.gen_access.proofs.Turns.{Changes-none}
 use Rattle.gen_access.proofs.MarkSteps.{mark_other, mark_put, unmarked}

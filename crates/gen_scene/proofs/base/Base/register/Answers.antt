@@ -1,5 +1,5 @@
 use Rattle.std.proofs.Common.{subst}
-use Rattle.rb_plan.specs.Kept.{IsKeptAt, field_kept}
+use Rattle.block_plan.specs.Kept.{IsKeptAt, field_kept}
 use Rattle.gen_scene.proofs.Sources.{kept_worth}
 use Rattle.gen_scene.proofs.base.Base.register.Goals as goal
 

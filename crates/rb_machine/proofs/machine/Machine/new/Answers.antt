@@ -8,7 +8,7 @@ use Rattle.rb_model.specs.declared.block.Field.{Field}
 use Rattle.rb_machine.specs.declared.sight.FieldState.{FieldState}
 use Rattle.rb_machine.specs.Moves.{kept_state}
 use Rattle.rb_machine.specs.Quiet.{AreNextBusy, brief_of}
-use Rattle.rb_wanted.specs.Wanted.{AreInOrder}
+use Rattle.block_plan.specs.Wanted.{AreInOrder}
 use Rattle.rb_machine.specs.Resets.{AreWays}
 use Rattle.rb_machine.proofs.Resting.{none_kept}
 use Rattle.rb_machine.proofs.machine.Machine.new.Goals as goal

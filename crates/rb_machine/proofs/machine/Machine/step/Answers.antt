@@ -9,11 +9,11 @@ use Rattle.rb_model.proofs.InputPins.{outlet_pin, output_pins_are}
 use Rattle.rb_machine.proofs.Stepping.{edge_made}
 use Rattle.rb_machine.proofs.Narrow.{fits_length, narrow_pins}
 use Rattle.rb_model.specs.declared.block.Block.{Block}
-use Rattle.rb_plan.specs.declared.outlets.Outlet.{Outlet}
-use Rattle.rb_plan.specs.Outlets.{outlet_seen}
+use Rattle.block_plan.specs.declared.outlets.Outlet.{Outlet}
+use Rattle.block_plan.specs.Outlets.{outlet_seen}
 use Rattle.rb_model.specs.Run.{pins_of}
 use Rattle.rb_model.specs.Sound.{IsSound}
-use Rattle.rb_plan.specs.Plan.{IsPlanOf}
+use Rattle.block_plan.specs.Plan.{IsPlanOf}
 use Rattle.rb_machine.specs.declared.scene.Scene.{Scene}
 use Rattle.rb_machine.specs.declared.sight.FieldState.{FieldState}
 use Rattle.rb_machine.specs.Moves.{started_state}
@@ -22,7 +22,7 @@ use Rattle.rb_machine.specs.Resets.{NoneReset}
 use Rattle.rb_machine.proofs.Resting.{next_kept}
 use Rattle.rb_machine.specs.Scene.{AreMarks, HoldsKept, IsScene, state_at}
 use Rattle.rb_machine.specs.Slots.{access_state}
-use Rattle.rb_wanted.specs.Wanted.{AreInOrder}
+use Rattle.block_plan.specs.Wanted.{AreInOrder}
 use Rattle.rb_machine.specs.Table.{values_of}
 use Rattle.rb_machine.specs.Transfers.{access_seen}
 use Rattle.rb_machine.proofs.machine.Machine.step.Goals as goal

@@ -3,7 +3,7 @@ use Rattle.rdl_values.specs.Bodies.{around}
 use Rattle.rdl_values.specs.Chained.{chained}
 use Rattle.rdl_values.specs.Enums.{names_of}
 use Rattle.rdl_values.specs.Seen.{bound_of}
-use Rattle.rdl_judging.specs.Shown.{IsAlike}
+use Rattle.rdl_failures.specs.Shown.{IsAlike}
 use Rattle.rdl_bodies.specs.Sited.{HaveEnvs}
 use Rattle.rdl_bodies.proofs.Adding.{env_opened, is_opened, names_bound, round_alike}
 use Rattle.rdl_bodies.proofs.bodies.Bodies.add.Goals as goal

@@ -1,6 +1,6 @@
 use Rattle.std.proofs.Common.{◌∙◌, rules}
-use Rattle.rb_base.specs.contracts.Keyword.{the_type}
-use Rattle.rb_base.specs.Keywords.{word}
+use Rattle.rdl_base.specs.contracts.Keyword.{the_type}
+use Rattle.rdl_base.specs.Keywords.{word}
 use Rattle.rdl_tree.proofs.Spellings.{by_spelling, one_keyword}
 use Rattle.rdl_tree.proofs.token.Token.is.Goals as goal
 

@@ -1,0 +1,10 @@
+pub mod Behind
+pub mod Kept
+pub mod Lines
+pub mod Needs
+pub mod Outlets
+pub mod Pins
+pub mod Places
+pub mod Plan
+pub mod Table
+pub mod Wanted

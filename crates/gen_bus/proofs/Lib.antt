@@ -1,4 +1,0 @@
-pub mod OfBus
-mod Accessing
-mod WaitSteps
-mod Fronting

@@ -1,5 +1,0 @@
-pub mod Accesses
-pub mod Bus
-pub mod Fronts
-pub mod Pins
-pub mod Waits

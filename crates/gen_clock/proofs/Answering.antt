@@ -1,0 +1,196 @@
+-- The read data, slot by slot and word by word.
+use Rattle.std.proofs.Common.{◌≡◌, ℕ, suc, ◌+◌, ◌-◌, ◌*◌, ◌^◌, ◌<◌, ◌≤◌, ◌==◌, nat_lt, lt-ltb, bit_or, Bool, true, false, if◌then◌else◌, Option, Some, None, List, [], ◌∷◌, ◌++◌, length, fold, take, slice_get, get_or, refl, sym, ap, ◌∙◌, subst, arith, inl, inr, ◌⊎◌}
+use Rattle.std.specs.Option.{option_map_or}
+use Rattle.std.proofs.lemmas.List.{length-append, get_or_append_left, get_or_at, take_more, take_all}
+use Rattle.std.specs.Int.Bits.{or_zero_l, or_zero_r}
+use Rattle.plain_lemmas.proofs.Lists.{fold-push}
+use Rattle.plain_lemmas.proofs.Numbers.{below_next-or_same as split}
+use Rattle.rb_base.specs.Bits.{part}
+use Rattle.rtl_net.specs.Value.{At, bit_of}
+use Rattle.rtl_net.specs.Net.{Net, Grows, IsNode, Stands}
+use Rattle.rtl_net.specs.Ids.{at}
+use Rattle.rtl_net.specs.declared.node.Id.{Id}
+use Rattle.rtl_net.proofs.Nets.{Grows-refl, Grows-trans}
+use Rattle.net_gates.specs.Gates.{or_of}
+use Rattle.rb_model.specs.declared.kinds.RefItem.TheVariants as item
+use Rattle.rb_model.specs.declared.block.Block.{Block}
+use Rattle.rb_model.specs.declared.block.Field.{Field}
+use Rattle.rb_model.specs.declared.block.View.{View}
+use Rattle.rb_model.specs.declared.block.Slot.{Slot}
+use Rattle.rb_model.specs.declared.block.Word.{Word}
+use Rattle.rb_model.specs.Items.{Access, NoAccess, Read, Write, ItemValues, slots_of}
+use Rattle.rb_model.specs.Machine.{read_data, slot_value}
+use Rattle.block_plan.specs.Behind.{IsThere}
+use Rattle.gen_scene.specs.declared.base.Inlet.{Inlet}
+use Rattle.gen_scene.specs.Worth.{IsWorth}
+use Rattle.gen_scene.proofs.Worths.{IsWorth-grows}
+use Rattle.gen_access.specs.Words.{is_at, read_word}
+use Rattle.gen_clock.specs.Moves.{IsMade}
+use Rattle.gen_clock.specs.Edges.{IsAnswerOf, shown_by}
+
+-- One slot
+
+or_zero : (x : ℕ) → bit_or x 0 ≡ x
+or_zero x = or_zero_r x
+
+pub unread : (b : Block) (s : Slot) (u : View) (v : ItemValues) → slice_get b.views s.view ≡ Some u → u.reads ≡ false → (x : ℕ) → bit_or x (slot_value b v s) ≡ x
+unread b s u v here off x =
+    ap (λ o. bit_or x (option_map_or (λ w. if w.reads then part (v (item.Field w.field)) (s.from + s.bits - 1) s.from * 2 ^ s.low else 0) o 0)) here
+    ∙ ap (λ c. bit_or x (if c then part (v (item.Field u.field)) (s.from + s.bits - 1) s.from * 2 ^ s.low else 0)) off ∙ or_zero x
+
+pub slot_made : (b : Block) (a : Inlet) (old n1 n2 new : Net) (s : Slot) (u : View) (f : Field) (value bits shown acc id : Id) (w : ℕ) → 0 < s.bits → slice_get b.views s.view ≡ Some u → u.reads ≡ true
+    → Grows old n1 → Grows n1 n2 → Grows n2 new
+    → IsWorth b a old value w (λ n v. v (item.Field u.field))
+    → IsNode n1 bits (s.from + (s.bits - 1) - s.from + 1) (λ x. part (x.node value.0) (s.from + (s.bits - 1)) s.from)
+    → IsNode n2 shown 32 (λ x. x.node bits.0 * 2 ^ s.low)
+    → IsNode new id 32 (λ x. bit_or (x.node acc.0) (x.node shown.0))
+    → IsMade b a old new acc id 32 (λ n v x. bit_or x (slot_value b v s))
+slot_made b a old n1 n2 new s u f value bits shown acc id w some here on h1 h2 h3 at cut raised node = record {
+  stands = node.stands;
+  worth = λ g was. record {
+    stands = node.stands;
+    value = λ x q n found items c.
+        let q2 = h3.settles x q in
+        let q1 = h2.settles x q2 in
+        let q0 = h1.settles x q1 in
+        let e : s.from + (s.bits - 1) ≡ s.from + s.bits - 1 = omega (arith, some) in
+        let cut_is : x.node bits.0 ≡ part (items (item.Field u.field)) (s.from + s.bits - 1) s.from
+        = cut.value x q1 ∙ ap (λ y. part y (s.from + (s.bits - 1)) s.from) (at.value x q0 n found items c) ∙ ap (λ h. part (items (item.Field u.field)) h s.from) e in
+        let is : slot_value b items s ≡ part (items (item.Field u.field)) (s.from + s.bits - 1) s.from * 2 ^ s.low
+        = ap (λ o. option_map_or (λ w. if w.reads then part (items (item.Field w.field)) (s.from + s.bits - 1) s.from * 2 ^ s.low else 0) o 0) here
+        ∙ ap (λ c. if c then part (items (item.Field u.field)) (s.from + s.bits - 1) s.from * 2 ^ s.low else 0) on in
+        node.value x q
+        ∙ ap (λ y. bit_or y (x.node shown.0)) (was.value x q0 n found items c)
+        ∙ ap (λ y. bit_or (g n items) y) (raised.value x q2 ∙ ap (λ y. y * 2 ^ s.low) cut_is ∙ sym is);
+  };
+}
+
+-- The slots of a word
+
+pub record DataTo (b : Block) (a : Inlet) (first net : Net) (all : Id) (slots : List Slot) (end : ℕ) : Type 0 where
+  pub older : Grows first net
+  pub name : net.name ≡ first.name
+  pub worth : IsWorth b a net all 32 (λ n v. shown_by b v (take end slots))
+
+pub data_none : (b : Block) (a : Inlet) (first net : Net) (all : Id) (slots : List Slot) → Grows first net → net.name ≡ first.name → IsNode net all 32 (λ x. 0) → DataTo b a first net all slots 0
+data_none b a first net all slots h e node = record { older = h; name = e; worth = record { stands = node.stands; value = λ x q n found items c. node.value x q } }
+
+pub data_more : (b : Block) (a : Inlet) (first net new : Net) (all id : Id) (slots : List Slot) (end : ℕ) (d : Slot) → end < length slots → DataTo b a first net all slots end → Grows net new → new.name ≡ net.name
+    → IsMade b a net new all id 32 (λ n v x. bit_or x (slot_value b v (get_or slots end d))) → DataTo b a first new id slots (end + 1)
+data_more b a first net new all id slots end d low to h e made = record {
+  older = Grows-trans first net new to.older h;
+  name = e ∙ to.name;
+  worth =
+      let r = made.worth (λ n v. shown_by b v (take end slots)) to.worth in
+      record {
+        stands = r.stands;
+        value = λ x q n found items c. r.value x q n found items c
+            ∙ sym (ap (fold (λ acc s. bit_or acc (slot_value b items s)) 0) (take_more slots end d low) ∙ fold-push (λ acc s. bit_or acc (slot_value b items s)) 0 (take end slots) (get_or slots end d));
+      };
+}
+
+pub data_all : (b : Block) (a : Inlet) (first net : Net) (all : Id) (slots whole : List Slot) (end : ℕ) → slots ≡ whole → length slots ≤ end → DataTo b a first net all slots end → IsWorth b a net all 32 (λ n v. shown_by b v whole)
+data_all b a first net all slots whole end same past to = subst (λ ss. IsWorth b a net all 32 (λ n v. shown_by b v ss)) (take_all end slots past ∙ same) to.worth
+
+pub chosen : (b : Block) (a : Inlet) (old net new : Net) (hit all none id : Id) (slots : List Slot) (w : ℕ) → w ≡ 32 → Grows old net → Grows net new → IsWorth b a net all 32 (λ n v. shown_by b v slots) → IsNode net none 32 (λ x. 0)
+    → IsNode new id w (λ x. if x.node hit.0 == 1 then x.node all.0 else x.node none.0) → IsAnswerOf b a old new hit slots id
+chosen b a old net new hit all none id slots w wide h1 h2 at zeros node = record {
+  stands = subst (Stands new id) wide node.stands;
+  worth = λ j on. record {
+    stands = subst (Stands new id) wide node.stands;
+    value = λ x q n found items c.
+        let q1 = h2.settles x q in
+        node.value x q
+        ∙ ap (λ y. if y == 1 then x.node all.0 else x.node none.0) (on.value x (h1.settles x q1) n found items c)
+        ∙ ap (λ y. if bit_of (is_at j (read_word n.access)) == 1 then y else x.node none.0) (at.value x q1 n found items c)
+        ∙ ap (λ y. if bit_of (is_at j (read_word n.access)) == 1 then shown_by b items slots else y) (zeros.value x q1)
+        ∙ bit (is_at j (read_word n.access)) (shown_by b items slots);
+  };
+}
+  where
+    bit : (c : Bool) (y : ℕ) → (if bit_of c == 1 then y else 0) ≡ (if c then y else 0)
+    bit true y = refl
+    bit false y = refl
+
+-- All words
+
+-- the answers of the first words
+pub record AnswersTo (b : Block) (a : Inlet) (first net : Net) (ids : List Id) (words : List Word) (end : ℕ) : Type 0 where
+  pub older : Grows first net
+  pub name : net.name ≡ first.name
+  pub long : length ids ≡ end
+  pub each : (k : ℕ) → k < end → IsWorth b a net (at ids k) 32 (λ n v. if is_at k (read_word n.access) then shown_by b v (slots_of words k) else 0)
+
+pub answers_none : (b : Block) (a : Inlet) (net : Net) (ids : List Id) (words : List Word) → ids ≡ [] → AnswersTo b a net net ids words 0
+answers_none b a net ids words e = record { older = Grows-refl net; name = refl; long = ap length e; each = λ k l. absurd (omega arith) }
+
+pub answers_more : (b : Block) (a : Inlet) (first net new : Net) (ids more : List Id) (words : List Word) (end : ℕ) (word : Word) (hit id : Id) → slice_get words end ≡ Some word → AnswersTo b a first net ids words end
+    → Grows net new → new.name ≡ net.name → IsAnswerOf b a net new hit word.slots id → IsWorth b a net hit 1 (λ n v. bit_of (is_at end (read_word n.access))) → more ≡ ids ++ id ∷ [] → AnswersTo b a first new more words (end + 1)
+answers_more b a first net new ids more words end word hit id here to h e answer on added = record {
+  older = Grows-trans first net new to.older h;
+  name = e ∙ to.name;
+  long = ap length added ∙ length-append ids (id ∷ []) ∙ (let l = to.long in omega arith);
+  each = λ k l. elim (split k end l) [
+    | inl p ↦ subst (λ i. IsWorth b a new i 32 (λ n v. if is_at k (read_word n.access) then shown_by b v (slots_of words k) else 0))
+        (sym (ap (λ t. at t k) added ∙ get_or_append_left ids (id ∷ []) (record { 0 = 0 }) k (let z = to.long in omega arith)))
+        (IsWorth-grows b a net new (at ids k) 32 (λ n v. if is_at k (read_word n.access) then shown_by b v (slots_of words k) else 0) h (to.each k p))
+    | inr p ↦
+        let slots : slots_of words end ≡ word.slots = ap (λ o. option_map_or (λ w. w.slots) o []) here in
+        let r = subst (λ ss. IsWorth b a new id 32 (λ n v. if is_at end (read_word n.access) then shown_by b v ss else 0)) (sym slots) (answer.worth end on) in
+        let R : ℕ → Type 0 = λ k. IsWorth b a new (at more k) 32 (λ n v. if is_at k (read_word n.access) then shown_by b v (slots_of words k) else 0) in
+        subst R (sym p) (subst (λ i. IsWorth b a new i 32 (λ n v. if is_at end (read_word n.access) then shown_by b v (slots_of words end) else 0))
+        (sym (ap (λ t. at t end) added ∙ get_or_at ids id [] (record { 0 = 0 }) end to.long)) r)
+  ];
+}
+
+or_left : (x : ℕ) → bit_or 0 x ≡ x
+or_left x = or_zero_l x
+
+-- of nodes of which one alone, if any, isn't 0
+or_one : (x : At) (ids : List Id) (o : ℕ) (i : Option ℕ) (D : ℕ → ℕ) → ((k : ℕ) → k < length ids → x.node (at ids k).0 ≡ (if is_at (o + k) i then D (o + k) else 0))
+    → or_of x ids ≡ option_map_or (λ j. if nat_lt j o then 0 else (if nat_lt j (o + length ids) then D j else 0)) i 0
+or_one x [] o None D h = refl
+or_one x [] o (Some j) D h = let e : o + 0 ≡ o = omega arith in rw e (never (nat_lt j o) (D j))
+  where
+    never : (c : Bool) (y : ℕ) → 0 ≡ (if c then 0 else (if c then y else 0))
+    never true y = refl
+    never false y = refl
+or_one x (id ∷ ids) o i D h =
+    let zero_plus : o + 0 ≡ o = omega arith in
+    let first : x.node id.0 ≡ (if is_at o i then D o else 0) = h 0 (omega arith) ∙ ap (λ k. if is_at k i then D k else 0) zero_plus in
+    let rest : or_of x ids ≡ option_map_or (λ j. if nat_lt j (o + 1) then 0 else (if nat_lt j (o + 1 + length ids) then D j else 0)) i 0
+    = or_one x ids (o + 1) i D (λ k l. h (suc k) (omega arith) ∙ ap (λ m. if is_at m i then D m else 0) (let z : o + suc k ≡ o + 1 + k = omega arith in z)) in
+    ap (λ y. bit_or y (or_of x ids)) first ∙ ap (λ y. bit_or (if is_at o i then D o else 0) y) rest ∙ join i (length ids)
+  where
+    where_is : (j o l : ℕ) → ((j ≡ o) × ((j == o) ≡ true) × (nat_lt j o ≡ false) × (nat_lt j (o + 1) ≡ true) × (nat_lt j (o + suc l) ≡ true))
+        ⊎ (((j == o) ≡ false) × (nat_lt j (o + 1) ≡ nat_lt j o) × (nat_lt j (o + 1 + l) ≡ nat_lt j (o + suc l)))
+    where_is j o l = grind arith
+
+    join : (i : Option ℕ) (l : ℕ) → bit_or (if is_at o i then D o else 0) (option_map_or (λ j. if nat_lt j (o + 1) then 0 else (if nat_lt j (o + 1 + l) then D j else 0)) i 0)
+        ≡ option_map_or (λ j. if nat_lt j o then 0 else (if nat_lt j (o + suc l) then D j else 0)) i 0
+    join None l = or_left 0
+    join (Some j) l = elim (where_is j o l) [
+      | inl p ↦ rw (p.1, p.2, p.3, p.4) (or_zero (D o) ∙ ap D (sym p.0))
+      | inr p ↦ rw (p.0, p.1, p.2) (or_left (if nat_lt j o then 0 else (if nat_lt j (o + suc l) then D j else 0)))
+    ]
+
+pub answered : (b : Block) (a : Inlet) (net new : Net) (ids : List Id) (id : Id) (h : Grows net new) → length ids ≡ length b.reads
+    → ((k : ℕ) → k < length b.reads → IsWorth b a net (at ids k) 32 (λ n v. if is_at k (read_word n.access) then shown_by b v (slots_of b.reads k) else 0))
+    → IsNode new id 32 (λ x. or_of x ids) → IsWorth b a new id 32 (λ n v. read_data b v n.access)
+answered b a net new ids id h long each node = record {
+  stands = node.stands;
+  value = λ x q n found items c.
+      node.value x q
+      ∙ or_one x ids 0 (read_word n.access) (λ k. shown_by b items (slots_of b.reads k))
+      (λ k l. (each k (omega arith)).value x (h.settles x q) n found items c ∙ ap (λ m. if is_at m (read_word n.access) then shown_by b items (slots_of b.reads m) else 0) (let z : k ≡ 0 + k = omega arith in z))
+      ∙ by items n.access found.there;
+}
+  where
+    by : (items : ItemValues) (acc : Access) → IsThere b acc → option_map_or (λ j. if nat_lt j 0 then 0 else (if nat_lt j (0 + length ids) then shown_by b items (slots_of b.reads j) else 0)) (read_word acc) 0 ≡ read_data b items acc
+    by items NoAccess t = refl
+    by items (Write i d) t = refl
+    by items (Read i) t =
+        let low : nat_lt i 0 ≡ false = grind arith in
+        let z : 0 + length ids ≡ length b.reads = omega arith in
+        let high : nat_lt i (length b.reads) ≡ true = lt-ltb i (length b.reads) t in
+        rw (low, z, high) refl

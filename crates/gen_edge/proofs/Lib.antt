@@ -1,4 +1,0 @@
-pub mod Edging
-mod Tabling
-mod Answering
-pub mod Taking

@@ -1,5 +1,0 @@
-use Rattle.gen_runs.proofs.Running.{runs}
-use Rattle.gen_runs.proofs.laws.core_runs.Goals as goal
-
-pub returns : goal.returns
-returns c = λ b a net answer sound core stand m contents vs. runs b a net answer sound core stand m contents vs

@@ -1,3 +1,0 @@
-mod Driving
-mod Outlets
-mod Showing

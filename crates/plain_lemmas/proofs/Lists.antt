@@ -1,0 +1,199 @@
+-- Lemmas on lists.
+use Rattle.std.proofs.Common.{ℕ, ◌≡◌, true, List, refl, ◌-◌, ◌∷◌, length, take, drop, arith, length-drop, zero, suc, ◌+◌, [], ◌++◌, Some, slice_get, ◌≤◌, None, ap, ◌<◌, ◌∙◌, Bool, false, cond, filter, if◌then◌else◌, ◌||◌, map, fold, option_map, flat_map}
+use Rattle.std.proofs.lemmas.Grind.{common_steps}
+use Rattle.std.proofs.lemmas.List.{take_all}
+use Rattle.std.proofs.lemmas.Option.{same_Some}
+use Rattle.std.proofs.lemmas.Slice.Eq.{bytes_eq-Decides}
+use Rattle.std.specs.Cmp.Lexicographic.{nat_list_eq_equiv, bytes_decides}
+use Rattle.std.specs.List.{AllByRecursion, list_any}
+use Rattle.std.specs.Prelude.{Contains}
+use Rattle.std.specs.Str.{bytes_eq}
+
+pub bytes_eq-itself : (n : List ℕ) → bytes_eq n n ≡ true
+bytes_eq-itself n = (bytes_eq-Decides n n).1 refl
+
+pub take_drop-one : (x : ℕ) (bs : List ℕ) → take (length (x ∷ bs) - 1) (drop 1 (x ∷ bs)) ≡ bs
+take_drop-one x bs = grind (arith, common_steps)
+
+pub take_drop-rest : (n : ℕ) (text : List ℕ) → take (length text - n) (drop n text) ≡ drop n text
+take_drop-rest n text = take_all (length text - n) (drop n text) (omega (arith, length-drop n text))
+
+pub bytes_eq-swap : (a b : List ℕ) → bytes_eq a b ≡ bytes_eq b a
+bytes_eq-swap a b = nat_list_eq_equiv.symm a b
+
+pub bytes_eq-same : (a b : List ℕ) → bytes_eq a b ≡ true → a ≡ b
+bytes_eq-same a b e = (bytes_decides a b).0 e
+
+pub take_drop-two : (x y : ℕ) (bs : List ℕ) → take (length (x ∷ y ∷ bs) - 2) (drop 2 (x ∷ y ∷ bs)) ≡ bs
+take_drop-two x y bs = grind (arith, common_steps)
+
+pub get-end : {X : Type 0} (xs : List X) (y : X) (k : ℕ) → k ≡ length xs → slice_get (xs ++ (y ∷ [])) k ≡ Some y
+get-end [] y zero e = refl
+get-end [] y (suc k) e = absurd (omega (arith, e))
+get-end (z ∷ xs) y zero e = absurd (omega (arith, e))
+get-end (z ∷ xs) y (suc k) e = get-end xs y k (omega (arith, e))
+
+pub get-last : {X : Type 0} (xs : List X) (x : X) → slice_get (xs ++ (x ∷ [])) (length xs) ≡ Some x
+get-last [] x = refl
+get-last (y ∷ ys) x = get-last ys x
+
+pub get-beyond : {X : Type 0} (xs : List X) (k : ℕ) → length xs ≤ k → slice_get xs k ≡ None
+get-beyond [] k l = refl
+get-beyond (x ∷ xs) zero l = absurd (omega (arith, l))
+get-beyond (x ∷ xs) (suc k) l = get-beyond xs k (omega (arith, l))
+
+pub take-all : {X : Type 0} (xs : List X) (n : ℕ) → length xs ≤ n → take n xs ≡ xs
+take-all [] zero l = refl
+take-all [] (suc n) l = refl
+take-all (x ∷ xs) zero l = absurd (omega (arith, l))
+take-all (x ∷ xs) (suc n) l = ap (λ t. x ∷ t) (take-all xs n (omega (arith, l)))
+
+pub none-beyond : {X : Type 0} (xs : List X) (k : ℕ) → slice_get xs k ≡ None → length xs ≤ k
+none-beyond [] k e = omega arith
+none-beyond (x ∷ xs) zero e = cc e
+none-beyond (x ∷ xs) (suc k) e = let l = none-beyond xs k e in omega (arith, l)
+
+pub get-not_none : {X : Type 0} (xs : List X) (k : ℕ) → k < length xs → slice_get xs k ≡ None → ⊥
+get-not_none [] k l e = omega (arith, l)
+get-not_none (x ∷ xs) zero l e = cc e
+get-not_none (x ∷ xs) (suc k) l e = get-not_none xs k (omega (arith, l)) e
+
+pub append-none : {X : Type 0} (xs : List X) → xs ++ [] ≡ xs
+append-none [] = refl
+append-none (x ∷ xs) = ap (λ ys. x ∷ ys) (append-none xs)
+
+pub filter-none : {X : Type 0} (p : X → Bool) (xs : List X) → ((x : X) → p x ≡ false) → filter p xs ≡ []
+filter-none p [] h = refl
+filter-none p (x ∷ xs) h = ap (λ b. cond b (x ∷ filter p xs) (filter p xs)) (h x) ∙ filter-none p xs h
+
+pub filter-each : {X : Type 0} (f : X → Bool) (xs : List X) → AllByRecursion (λ x. f x ≡ true) (filter f xs)
+filter-each f [] = tt
+filter-each f (x ∷ xs) = go (f x) refl (filter-each f xs)
+  where
+    go : (b : Bool) → f x ≡ b → AllByRecursion (λ y. f y ≡ true) (filter f xs) → AllByRecursion (λ y. f y ≡ true) (cond b (x ∷ filter f xs) (filter f xs))
+    go true e h = (e, h)
+    go false e h = h
+
+pub filter-append : {X : Type 0} (p : X → Bool) (xs ys : List X) → filter p (xs ++ ys) ≡ filter p xs ++ filter p ys
+filter-append p [] ys = refl
+filter-append p (x ∷ xs) ys = elim (p x) as (λ (b : Bool). (if b then x ∷ filter p (xs ++ ys) else filter p (xs ++ ys)) ≡ (if b then x ∷ filter p xs else filter p xs) ++ filter p ys) [
+  | true ↦ ap (λ l. x ∷ l) (filter-append p xs ys)
+  | false ↦ filter-append p xs ys
+]
+
+pub list_any-append : {X : Type 0} (p : X → Bool) (xs ys : List X) → list_any p (xs ++ ys) ≡ list_any p xs || list_any p ys
+list_any-append p [] ys = refl
+list_any-append p (x ∷ xs) ys = ap (λ b. p x || b) (list_any-append p xs ys) ∙ or-assoc (p x) (list_any p xs) (list_any p ys)
+  where
+    or-assoc : (a b c : Bool) → a || (b || c) ≡ (a || b) || c
+    or-assoc true b c = refl
+    or-assoc false b c = refl
+
+pub each-filter : {X : Type 0} (P : X → Type 0) (f : X → Bool) (xs : List X) → AllByRecursion P xs → AllByRecursion P (filter f xs)
+each-filter P f [] h = tt
+each-filter P f (x ∷ xs) h = go (f x) (each-filter P f xs h.1)
+  where
+    go : (b : Bool) → AllByRecursion P (filter f xs) → AllByRecursion P (cond b (x ∷ filter f xs) (filter f xs))
+    go true rest = (h.0, rest)
+    go false rest = rest
+
+pub each-left : {X : Type 0} (P : X → Type 0) (xs ys : List X) → AllByRecursion P (xs ++ ys) → AllByRecursion P xs
+each-left P [] ys h = tt
+each-left P (x ∷ xs) ys h = (h.0, each-left P xs ys h.1)
+
+pub each-right : {X : Type 0} (P : X → Type 0) (xs ys : List X) → AllByRecursion P (xs ++ ys) → AllByRecursion P ys
+each-right P [] ys h = h
+each-right P (x ∷ xs) ys h = each-right P xs ys h.1
+
+pub nil-cons : {X : Type 0} (y : X) (ys : List X) → [] ≡ y ∷ ys → ⊥
+nil-cons y ys e = cc
+
+pub get-front_of : {X : Type 0} (xs ys : List X) (y : X) (k : ℕ) → slice_get xs k ≡ Some y → slice_get (xs ++ ys) k ≡ Some y
+get-front_of [] ys y k e = cc
+get-front_of (z ∷ xs) ys y zero e = e
+get-front_of (z ∷ xs) ys y (suc k) e = get-front_of xs ys y k e
+
+pub get-front : {X : Type 0} (xs ys : List X) (j : ℕ) (x : X) → slice_get xs j ≡ Some x → slice_get (xs ++ ys) j ≡ Some x
+get-front [] ys j x e = cc e
+get-front (z ∷ zs) ys zero x e = e
+get-front (z ∷ zs) ys (suc j) x e = get-front zs ys j x e
+
+pub get-behind : {X : Type 0} (xs ys : List X) (k : ℕ) → slice_get (xs ++ ys) (length xs + k) ≡ slice_get ys k
+get-behind [] ys k = ap (slice_get ys) (omega arith)
+get-behind (x ∷ xs) ys k = let e : length (x ∷ xs) + k ≡ suc (length xs + k) = omega arith in ap (slice_get (x ∷ (xs ++ ys))) e ∙ get-behind xs ys k
+
+pub length-append : {X : Type 0} (xs ys : List X) → length (xs ++ ys) ≡ length xs + length ys
+length-append [] ys = omega arith
+length-append (x ∷ xs) ys = let rest = length-append xs ys in omega (arith, rest)
+
+pub list_any-alike : {X : Type 0} (p q : X → Bool) (xs : List X) → ((x : X) → p x ≡ q x) → list_any p xs ≡ list_any q xs
+list_any-alike p q [] h = refl
+list_any-alike p q (x ∷ xs) h = (λ i. h x i || list_any-alike p q xs h i)
+
+pub cons-head : {X : Type 0} (x y : X) (xs ys : List X) → x ∷ xs ≡ y ∷ ys → x ≡ y
+cons-head x y xs ys e = cc
+
+pub cons-tail : {X : Type 0} (x y : X) (xs ys : List X) → x ∷ xs ≡ y ∷ ys → xs ≡ ys
+cons-tail x y xs ys e = cc
+
+pub each-both : {X : Type 0} (P Q R : X → Type 0) (xs : List X) → ((x : X) → P x → Q x → R x) → AllByRecursion P xs → AllByRecursion Q xs → AllByRecursion R xs
+each-both P Q R [] f p q = tt
+each-both P Q R (x ∷ xs) f p q = (f x p.0 q.0, each-both P Q R xs f p.1 q.1)
+
+pub each-mapped : {X Y : Type 0} (P : X → Type 0) (Q : Y → Type 0) (f : X → Y) (xs : List X) → ((x : X) → P x → Q (f x)) → AllByRecursion P xs → AllByRecursion Q (map f xs)
+each-mapped P Q f [] g h = tt
+each-mapped P Q f (x ∷ xs) g h = (g x h.0, each-mapped P Q f xs g h.1)
+
+pub fold-push : {A X : Type 0} (f : A → X → A) (a : A) (xs : List X) (x : X) → fold f a (xs ++ x ∷ []) ≡ f (fold f a xs) x
+fold-push f a [] x = refl
+fold-push f a (y ∷ xs) x = fold-push f (f a y) xs x
+
+pub get-map_at : {X Y : Type 0} (f : X → Y) (xs : List X) (k : ℕ) (x : X) → slice_get xs k ≡ Some x → slice_get (map f xs) k ≡ Some (f x)
+get-map_at f [] k x e = cc
+get-map_at f (y ∷ xs) zero x e = ap (λ z. Some (f z)) (same_Some y x e)
+get-map_at f (y ∷ xs) (suc k) x e = get-map_at f xs k x e
+
+pub get-map : {X Y : Type 0} (f : X → Y) (xs : List X) (i : ℕ) → slice_get (map f xs) i ≡ option_map f (slice_get xs i)
+get-map f [] i = refl
+get-map f (x ∷ xs) zero = refl
+get-map f (x ∷ xs) (suc i) = get-map f xs i
+
+pub length-map : {X Y : Type 0} (f : X → Y) (xs : List X) → length (map f xs) ≡ length xs
+length-map f [] = refl
+length-map f (x ∷ xs) = ap suc (length-map f xs)
+
+pub map-filter : {X Y : Type 0} (g : X → Y) (p : Y → Bool) (xs : List X) → map g (filter (λ x. p (g x)) xs) ≡ filter p (map g xs)
+map-filter g p [] = refl
+map-filter g p (x ∷ xs) = go (p (g x)) (map-filter g p xs)
+  where
+    go : (b : Bool) → map g (filter (λ y. p (g y)) xs) ≡ filter p (map g xs) → map g (cond b (x ∷ filter (λ y. p (g y)) xs) (filter (λ y. p (g y)) xs)) ≡ cond b (g x ∷ filter p (map g xs)) (filter p (map g xs))
+    go true h = ap (λ ys. g x ∷ ys) h
+    go false h = h
+
+pub map-append : {X Y : Type 0} (f : X → Y) (xs ys : List X) → map f (xs ++ ys) ≡ map f xs ++ map f ys
+map-append f [] ys = refl
+map-append f (x ∷ xs) ys = ap (λ z. f x ∷ z) (map-append f xs ys)
+
+pub each-flat : {X Y : Type 0} (P : Y → Type 0) (f : X → List Y) (xs : List X) → AllByRecursion P (flat_map f xs) → AllByRecursion (λ x. AllByRecursion P (f x)) xs
+each-flat P f [] h = tt
+each-flat {Y = Y} P f (x ∷ xs) h = (left (f x) h, each-flat P f xs (right (f x) h))
+  where
+    left : (ys : List Y) → AllByRecursion P (ys ++ flat_map f xs) → AllByRecursion P ys
+    left [] g = tt
+    left (y ∷ ys) g = (g.0, left ys g.1)
+
+    right : (ys : List Y) → AllByRecursion P (ys ++ flat_map f xs) → AllByRecursion P (flat_map f xs)
+    right [] g = g
+    right (y ∷ ys) g = right ys g.1
+
+pub flat_map-alike : {X Y : Type 0} (f g : X → List Y) (xs : List X) → ((x : X) → f x ≡ g x) → flat_map f xs ≡ flat_map g xs
+flat_map-alike f g [] h = refl
+flat_map-alike f g (x ∷ xs) h = ap (λ ys. ys ++ flat_map f xs) (h x) ∙ ap (λ ys. g x ++ ys) (flat_map-alike f g xs h)
+
+pub map-alike : {X Y : Type 0} (f g : X → Y) (xs : List X) → ((x : X) → Contains xs x → f x ≡ g x) → map f xs ≡ map g xs
+map-alike f g [] h = refl
+map-alike f g (x ∷ xs) h = (λ i. h x (0, omega arith, refl) i ∷ map-alike f g xs (λ y c. h y (suc c.0, omega (arith, c.1), c.2)) i)
+
+pub map-map : {X Y Z : Type 0} (f : Y → Z) (g : X → Y) (xs : List X) → map f (map g xs) ≡ map (λ x. f (g x)) xs
+map-map f g [] = refl
+map-map f g (x ∷ xs) = ap (λ ys. f (g x) ∷ ys) (map-map f g xs)

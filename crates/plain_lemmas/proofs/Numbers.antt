@@ -1,0 +1,57 @@
+-- Lemmas on numbers.
+use Rattle.std.proofs.Common.{◌≡◌, ℕ, ◌==◌, true, arith, ◌+◌, suc, ◌∙◌, ◌/◌, ◌%◌, ◌<◌, ◌≤◌, ◌^◌, [], ◌∷◌, length, decimal, ap, false, nat_lt, ◌⊎◌, ◌&&◌, ◌||◌, eqb, min, zero, ◌*◌}
+use Rattle.std.proofs.lemmas.Bool.Decides.{nat_tests}
+use Rattle.std.proofs.lemmas.Fmt.{decimal_step, decimal_digit}
+use Rattle.std.proofs.lemmas.List.{length-append}
+
+pub eq-itself : (m : ℕ) → (m == m) ≡ true
+eq-itself m = grind arith
+
+pub one-plus : (n : ℕ) → 1 + n ≡ suc n
+one-plus n = omega arith
+
+pub decimal-longer : (n : ℕ) → 10 ≤ n → n < 2 ^ 64 → length (decimal n) ≡ length (decimal (n / 10)) + 1
+decimal-longer n l b = ap length (decimal_step n l b) ∙ length-append (decimal (n / 10)) ((48 + n % 10) ∷ [])
+
+pub nat_lt-word_false : (n : ℕ) → nat_lt (2 ^ 32) n ≡ false → n ≤ 4294967296
+nat_lt-word_false n e = grind (arith, nat_tests)
+
+pub plus-one : (n : ℕ) → n + 1 ≡ suc n
+plus-one n = omega arith
+
+pub decimal-one : (n : ℕ) → n < 10 → length (decimal n) ≡ 1
+decimal-one n l = ap length (decimal_digit n l)
+
+pub below-two : (x : ℕ) → x < 2 → (x ≡ 0) ⊎ (x ≡ 1)
+below-two x h = grind arith
+
+pub before-itself : (l w : ℕ) → (nat_lt l l || (l == l && nat_lt w w)) ≡ false
+before-itself l w = grind arith
+
+pub eq-same : (x y : ℕ) → (x == y) ≡ true → x ≡ y
+eq-same x y h = grind (arith, h)
+
+pub eq-swapped : (k b : ℕ) → (b == k) ≡ true → b ≡ k
+eq-swapped k b e = grind (arith, nat_tests)
+
+pub eqb-swap : (m n : ℕ) → eqb m n ≡ eqb n m
+eqb-swap m n = grind (arith, nat_tests)
+
+pub below_next-or_same : (k end : ℕ) → k < end + 1 → (k < end) ⊎ (k ≡ end)
+below_next-or_same k end l = grind arith
+
+pub below_next-same_or : (i k : ℕ) → i < k + 1 → (i ≡ k) ⊎ (i < k)
+below_next-same_or i k l = grind (arith, l)
+
+pub below-nat_lt : (i j : ℕ) → i < j → nat_lt i j ≡ true
+below-nat_lt i j l = grind arith
+
+pub below_next-swapped : (n k : ℕ) → k < n + 1 → (k < n) ⊎ (k ≡ n)
+below_next-swapped n k l = grind (arith, l)
+
+pub min-right : (m n : ℕ) → n ≤ m → min m n ≡ n
+min-right m n l = grind (arith, l)
+
+pub below_times-positive : (d p k : ℕ) → k < d * p → 0 < p
+below_times-positive d zero k l = let e : d * 0 ≡ 0 = omega arith in absurd (omega (arith, l, e))
+below_times-positive d (suc p) k l = omega arith

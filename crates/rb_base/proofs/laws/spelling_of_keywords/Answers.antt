@@ -1,6 +1,0 @@
-use Rattle.std.proofs.Common.{sym}
-use Rattle.rb_base.proofs.Reserved.{is_reserved-word}
-use Rattle.rb_base.proofs.laws.spelling_of_keywords.Goals as goal
-
-pub returns-clause-reserved : goal.returns-clause-reserved
-returns-clause-reserved c = λ keyword. sym (is_reserved-word keyword)

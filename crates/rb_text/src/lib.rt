@@ -1,6 +1,0 @@
-//! Numbers as text.
-#![tactic(auto)]
-
-mod hex;
-
-pub use hex::hex_digits;

@@ -1,5 +1,0 @@
-use Rattle.rb_wanted.proofs.Needing.{ClosedFrom}
-use Rattle.rb_wanted.proofs.needed.close.Given as goal
-
-abbrev pub invariant-loop-at : goal.invariant-loop-at
-invariant-loop-at l = ClosedFrom l.block l.fn.wanted l.wanted l.at

@@ -1,6 +1,0 @@
-use Rattle.rb_wanted.specs.Needs.{field_needs}
-use Rattle.rb_wanted.proofs.Needing.{NeedsTo}
-use Rattle.rb_wanted.proofs.needed.want_fields.Given as goal
-
-abbrev pub invariant-loop-index : goal.invariant-loop-index
-invariant-loop-index l = NeedsTo field_needs l.block.fields l.fn.wanted l.wanted l.index

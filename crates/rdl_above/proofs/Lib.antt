@@ -1,2 +1,0 @@
-pub mod Spared
-mod Turns

@@ -1,5 +1,0 @@
-pub mod Beside
-pub mod Lists
-mod Named
-pub mod Primaries
-pub mod Steps

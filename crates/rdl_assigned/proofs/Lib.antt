@@ -1,4 +1,0 @@
-mod Related
-mod Judging
-mod Behind
-pub mod Reading

@@ -1,4 +1,0 @@
-pub mod Allowed
-pub mod Taken
-pub mod Layers
-pub mod Defaults

@@ -1,0 +1,98 @@
+//! The defaults of a body.
+
+ghost use Rattle.std.specs.Prelude.{◌≡◌, ◌++◌, ◌∷◌, List, IfOk, OnOk};
+ghost use Rattle.rdl_base.specs.declared.fault.Fault.{Fault};
+ghost use Rattle.rdl_tree.specs.declared.item.Item.{Item as AnyItem};
+ghost use Rattle.rdl_values.specs.Bodies.{Body, Layer as BodyLayer, Scope, around};
+ghost use Rattle.rdl_failures.specs.Noted.{with_all};
+ghost use Rattle.rdl_failures.specs.Shown.{IsShown};
+ghost use Rattle.rdl_layers.specs.Assignments.{default_in, defaults};
+ghost use Rattle.rdl_layers.specs.Judged.{all_failures, anywhere, failures_of};
+ghost use Rattle.rdl_layers.specs.Meanings.{Assignment};
+ghost use Rattle.rdl_assignments.specs.Defaults.{AreDefaults};
+ghost use Rattle.rdl_assignments.specs.Layers.{IsLayer};
+
+use crate::allowed::Allowed;
+use crate::layer::Layer;
+use crate::set::Given;
+use rb_base::NoMemory;
+use rdl_failures::Failures;
+use rdl_tree::Item;
+use rdl_values::Chain;
+use std::alloc::Global;
+
+/// The defaults of a body that fail no rule, in text order, and how many of them stand before each item.
+#[derive(Drop)]
+pub struct Defaults<'a> {
+    given: Vec<Given<'a>>,
+    counts: Vec<usize>,
+}
+
+impl<'a> Defaults<'a> {
+    ghost use Rattle.std.specs.Prelude.{◌≡◌, slice_index_or};
+    ghost use Rattle.rdl_assignments.specs.Defaults.{before_in};
+
+    // How many stand before the item of a position.
+    fn count(&self, position: usize) -> usize
+        ensures { result ≡ slice_index_or self.now.counts.items position 0 }
+    {
+        match self.counts.get(position) {
+            Some(count) => *count,
+            None => 0,
+        }
+    }
+
+    /// Those that stand before the item of a position, and all of them before the position behind the last.
+    pub fn before(&self, position: usize) -> &[Given<'a>]
+        ensures { result.now ≡ before_in self.now position }
+    {
+        let count = self.count(position);
+        if count < self.given.len() {
+            &self.given[..count]
+        } else {
+            &self.given
+        }
+    }
+}
+
+// Reads what an item is by default.
+fn read_default<'a>(
+    layer: &mut Layer<'a>,
+    item: &Item<'a>,
+    body: u32,
+    visible: &Chain<'_, '_, '_, 'a>,
+    failures: &mut Failures,
+) -> Result<(), NoMemory>
+    ensures { OnOk result ((start : List Fault) (read : List Assignment) (l : BodyLayer) (outer : Scope) (before : List AnyItem) → IsShown visible.now (l.names ∷ around outer) → IsLayer anywhere body layer.old start failures.old read
+        → IsLayer anywhere body layer.new start failures.new (read ++ default_in l outer (before, item.now))) }
+{
+    match item {
+        Item::Default(set) => layer.read(set, Allowed::Anywhere, body, visible, failures),
+        _ => Ok(()),
+    }
+}
+
+/// Puts in all failures of the defaults of a body, which are legal on every kind: V rules in values, P1, P2, P4 to P6 and P8. It
+/// gives those that fail none. The body has the number, and its names and those round it are visible (SystemRDL 2.0, 5.1.3).
+pub fn judge_defaults<'a>(
+    alloc: Global,
+    items: &[Item<'a>],
+    body: u32,
+    visible: &Chain<'_, '_, '_, 'a>,
+    failures: &mut Failures,
+) -> Result<Defaults<'a>, NoMemory>
+    ensures noted { OnOk result ((b : Body) → b.items ≡ items.now → IsShown visible.now (b.names ∷ around b.outer) → failures.new ≡ with_all (all_failures (failures_of anywhere) (defaults b)) failures.old) }
+    ensures given { IfOk result (λ r. (b : Body) → b.items ≡ items.now → IsShown visible.now (b.names ∷ around b.outer) → AreDefaults r body b) }
+{
+    let mut layer = Layer::new(alloc);
+    let mut counts = Vec::new(alloc);
+    for item in items {
+        counts.push(layer.given.len())?;
+        read_default(&mut layer, item, body, visible, failures)?;
+    }
+    counts.push(layer.given.len())?;
+    Ok(Defaults {
+        given: layer.given,
+        counts,
+    })
+}

@@ -1,0 +1,3 @@
+mod DerivedOrder
+mod Reserved
+mod RuleOrder

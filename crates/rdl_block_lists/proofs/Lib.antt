@@ -1,0 +1,5 @@
+mod Marking
+mod Meant
+mod Rooted
+mod Turned
+mod Viewing

@@ -1,0 +1,3 @@
+pub mod Halting
+pub mod Listed
+pub mod Standing

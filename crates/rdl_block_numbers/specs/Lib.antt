@@ -1,0 +1,5 @@
+pub mod Listed
+pub mod Named
+pub mod Numbers
+pub mod Ranks
+pub mod Texts

@@ -1,5 +1,0 @@
-mod Aligned
-mod Bitten
-mod Bodily
-pub mod Descending
-mod Grouping

@@ -1,5 +1,0 @@
-use Rattle.rdl_collected.proofs.Bitten.{bits-judged}
-use Rattle.rdl_collected.proofs.laws.bits_are_judged.Goals as goal
-
-pub returns : goal.returns
-returns c = bits-judged

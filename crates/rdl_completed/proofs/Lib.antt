@@ -1,3 +1,0 @@
-mod Numbered
-mod Round
-mod Own

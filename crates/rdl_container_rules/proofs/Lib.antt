@@ -1,3 +1,0 @@
-mod Bodies
-mod Levels
-mod Rows

@@ -1,4 +1,0 @@
-mod Among
-mod Fielded
-mod Items
-mod Listing

@@ -1,7 +1,0 @@
-use Rattle.std.proofs.lemmas.Result.{IfOk-weaker}
-use Rattle.topological_order.specs.Levels.{lists}
-use Rattle.rdl_edges.proofs.Listing.{each-within}
-use Rattle.rdl_edges.proofs.table.edges.Goals as goal
-
-pub returns-clause-within : goal.returns-clause-within
-returns-clause-within c = IfOk-weaker c.edges_from_all.result _ _ (λ v h. each-within c.args.known.props.now (lists v.items) h) c.edges_from_all.ensures

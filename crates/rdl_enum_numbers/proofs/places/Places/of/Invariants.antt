@@ -1,6 +1,0 @@
-use Rattle.std.proofs.Common.{take}
-use Rattle.rdl_enum_numbers.specs.Places.{ArePlaces}
-use Rattle.rdl_enum_numbers.proofs.places.Places.of.Given as goal
-
-abbrev pub invariant-loop-name : goal.invariant-loop-name
-invariant-loop-name l = ArePlaces l.places (take l.name-index l.names)

@@ -1,4 +1,0 @@
-pub mod Greatest
-pub mod Places
-pub mod Body
-pub mod Table

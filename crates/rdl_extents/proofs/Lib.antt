@@ -1,2 +1,0 @@
-mod Clashes
-mod Listing

@@ -1,0 +1,10 @@
+mod Above
+mod Along
+mod Listed
+mod Meant
+mod Narrow
+mod Parts
+mod Placed
+mod Round
+mod Unit
+mod Wide

@@ -1,0 +1,17 @@
+use Rattle.std.proofs.Common.{◌∙◌, ap, subst, sym}
+use Rattle.std.specs.Option.{option_copied}
+use Rattle.rdl_facts.specs.Greatest.{IsGreatest}
+use Rattle.rdl_facts.specs.Table.{entries_meant}
+use Rattle.rdl_facts.proofs.Along.{left_more, meant_here, no_body}
+use Rattle.rdl_facts.proofs.table.EnumNumbers.greatest.Goals as goal
+
+pub returns-in_default : goal.returns-in_default
+returns-in_default c = λ bodies around are envs. absurd (no_body c.args.self.now c.args.numbers.now c.args.name.now c.loop-number.number-index 0 c.loop-number-test.true c.loop-number.invariant (sym c.body.ensures ∙ ap option_copied c.in_default.is) bodies around are envs)
+
+pub returns-in-Some-place : goal.returns-in-Some-place
+returns-in-Some-place c = λ bodies around are envs.
+    subst (λ g. IsGreatest g (entries_meant around c.args.name.now)) (sym c.greatest.ensures)
+    (meant_here c.args.self.now c.args.numbers.now c.args.name.now c.loop-number.number-index 0 c.in-Some.body.now c.in-Some-place.place c.loop-number-test.true (sym c.body.ensures ∙ ap option_copied c.in-Some.is) (sym c.place.ensures ∙ c.in-Some-place.is) c.loop-number.invariant bodies around are envs)
+
+pub loop-number-preserved : goal.loop-number-preserved
+loop-number-preserved c = left_more c.args.self.now c.args.numbers.now c.args.name.now c.loop-number.number-index 0 c.in-Some.body.now c.loop-number-test.true (sym c.body.ensures ∙ ap option_copied c.in-Some.is) (sym c.place.ensures ∙ c.in_default-place.is) c.loop-number.invariant

@@ -1,0 +1,22 @@
+-- The enumerations of all open bodies.
+use Rattle.std.specs.Prelude.{◌≡◌, ℕ, List, ◌∷◌, flat_map, Some, option_to_list, slice_get}
+use Rattle.rdl_tree.specs.declared.expr.Name.{Name}
+use Rattle.rdl_values.specs.Seen.{around_of}
+use Rattle.rdl_values.specs.Values.{Around, Names, visible_enum}
+use Rattle.rdl_bodies.specs.declared.bodies.Bodies.{Bodies}
+use Rattle.rdl_bodies.specs.declared.bodies.Body.{Body}
+use Rattle.rdl_facts.specs.Body.{AreEnumsOf}
+use Rattle.rdl_facts.specs.declared.body.BodyEnums.{BodyEnums}
+use Rattle.rdl_facts.specs.declared.table.EnumNumbers.{EnumNumbers}
+
+-- the body of this number has the enumerations of these names
+abbrev pub HasEnums : EnumNumbers → ℕ → Names → Type 0
+HasEnums t k names = (b : BodyEnums) × (slice_get t.bodies.items k ≡ Some b) × AreEnumsOf b names
+
+-- Each open body has those of its own names.
+pub record AreNumbersOf (t : EnumNumbers) (bodies : Bodies) : Type 0 where
+  pub each : (k : ℕ) (x : Body) (names : Names) (rest : Around) → slice_get bodies.list.items k ≡ Some x → around_of x.env.now ≡ names ∷ rest → HasEnums t k names
+
+-- the entries of the enumeration that a name means in these bodies, none where it means none
+abbrev pub entries_meant : Around → Name → List (List ℕ × ℕ)
+entries_meant around n = flat_map (λ e. e.entries) (option_to_list (visible_enum around n))

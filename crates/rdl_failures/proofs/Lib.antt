@@ -1,0 +1,4 @@
+pub mod Around
+pub mod Named
+pub mod Noting
+pub mod Sets

@@ -1,0 +1,4 @@
+pub mod Firsts
+pub mod Noted
+pub mod Shown
+pub mod Sorted

@@ -1,4 +1,0 @@
-pub mod Faultless
-pub mod Free
-mod Listed
-mod Nothing

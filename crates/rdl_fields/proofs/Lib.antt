@@ -1,0 +1,8 @@
+pub mod Beside
+pub mod Fields
+mod Growing
+pub mod Lists
+mod Named
+pub mod Primaries
+pub mod Steps
+mod Viewed

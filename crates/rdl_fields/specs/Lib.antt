@@ -1,0 +1,3 @@
+pub mod Primary
+pub mod Touched
+pub mod Views

@@ -1,3 +1,0 @@
-mod Growing
-mod Numbering
-pub mod Places

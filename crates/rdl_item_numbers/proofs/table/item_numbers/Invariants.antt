@@ -1,5 +1,0 @@
-use Rattle.rdl_item_numbers.specs.Numbered.{AreNumbersTo}
-use Rattle.rdl_item_numbers.proofs.table.item_numbers.Given as goal
-
-abbrev pub invariant-loop-at : goal.invariant-loop-at
-invariant-loop-at l = AreNumbersTo l.elab l.at l.items.items l.places.items l.firsts.items

@@ -1,2 +1,0 @@
-mod Using
-mod Listing

@@ -1,4 +1,0 @@
-pub mod Sets
-pub mod Noting
-pub mod Named
-pub mod Around

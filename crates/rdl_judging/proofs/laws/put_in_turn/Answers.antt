@@ -1,5 +1,0 @@
-use Rattle.rdl_judging.proofs.Sets.{with_all-append}
-use Rattle.rdl_judging.proofs.laws.put_in_turn.Goals as goal
-
-pub returns : goal.returns
-returns c = with_all-append

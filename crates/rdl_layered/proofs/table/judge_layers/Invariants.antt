@@ -1,7 +1,0 @@
-use Rattle.rdl_tree.specs.declared.node.Elab.{Elab}
-use Rattle.rdl_opened.specs.Spots.{IsOpenTree}
-use Rattle.rdl_layered.proofs.Knowing.{done}
-use Rattle.rdl_layered.proofs.table.judge_layers.Given as goal
-
-abbrev pub invariant-loop-spot : goal.invariant-loop-spot
-invariant-loop-spot l = (e : Elab) (open_ : IsOpenTree e l.tree) → done e l.tree open_ l.fn.failures l.spot-index l.table l.failures l.spot-index

@@ -1,4 +1,0 @@
-mod Chaining
-mod Numbers
-mod Stepping
-mod Whole

@@ -1,4 +1,0 @@
-mod Marking
-mod Behind
-mod Taking
-mod Going

@@ -1,4 +1,0 @@
-pub mod Marks
-pub mod Pushed
-pub mod Judged
-pub mod Given

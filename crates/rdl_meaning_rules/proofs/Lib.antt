@@ -1,0 +1,6 @@
+mod Bodies
+mod Levels
+mod Put
+mod Rows
+mod Walk
+mod Whole

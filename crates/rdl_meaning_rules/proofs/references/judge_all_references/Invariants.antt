@@ -1,0 +1,12 @@
+use Rattle.std.proofs.Common.{◌≡◌, [], cond, flat_map, take}
+use Rattle.rdl_tree.specs.declared.item.Kind.TheVariants as kinds
+use Rattle.rdl_props.specs.Table.{reference_props}
+use Rattle.rdl_values.specs.Elaborated.{nodes_of}
+use Rattle.rdl_values.specs.Lineages.{lineages_of}
+use Rattle.rdl_failures.specs.Noted.{with_all}
+use Rattle.rdl_layers.specs.Fields.{is_a}
+use Rattle.rdl_rules.specs.ReferenceRules.{bad_target}
+use Rattle.rdl_meaning_rules.proofs.references.judge_all_references.Given as goal
+
+abbrev pub invariant-loop-at : goal.invariant-loop-at
+invariant-loop-at l = l.failures ≡ with_all (flat_map (λ n. cond (is_a kinds.Field n) (flat_map (bad_target (lineages_of l.props) n) reference_props) []) (take l.at (nodes_of l.props))) l.initial.failures

@@ -1,4 +1,0 @@
-pub mod Steps
-mod Numbers
-mod Looked
-mod Given

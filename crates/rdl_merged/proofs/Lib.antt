@@ -1,5 +1,0 @@
-mod Related
-mod Found
-mod Said
-mod Each
-mod Reset

@@ -1,5 +1,0 @@
-use Rattle.rdl_named.specs.Named.{AreNamedTo}
-use Rattle.rdl_named.proofs.tree.named_items.Given as goal
-
-abbrev pub invariant-loop-node : goal.invariant-loop-node
-invariant-loop-node l = AreNamedTo l.props l.node l.items.items l.faults.items

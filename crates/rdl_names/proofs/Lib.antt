@@ -1,5 +1,0 @@
-mod Twice
-mod Found
-mod Entered
-pub mod Meant
-pub mod ByItem

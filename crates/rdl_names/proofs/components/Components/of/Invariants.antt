@@ -1,6 +1,0 @@
-use Rattle.std.proofs.Common.{take}
-use Rattle.rdl_names.specs.Named.{Knows}
-use Rattle.rdl_names.proofs.components.Components.of.Given as goal
-
-abbrev pub invariant-loop-at : goal.invariant-loop-at
-invariant-loop-at l = Knows l.firsts (take l.at l.items)

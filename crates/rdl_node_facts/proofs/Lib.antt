@@ -1,6 +1,0 @@
-mod Above
-mod Listed
-mod Narrow
-mod Round
-mod Unit
-mod Wide

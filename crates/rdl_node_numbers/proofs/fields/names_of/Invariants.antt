@@ -1,5 +1,0 @@
-use Rattle.rdl_node_numbers.specs.Named.{AreNamesTo}
-use Rattle.rdl_node_numbers.proofs.fields.names_of.Given as goal
-
-abbrev pub invariant-loop-at : goal.invariant-loop-at
-invariant-loop-at l = AreNamesTo l.elab l.at l.names

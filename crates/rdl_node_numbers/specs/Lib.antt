@@ -1,4 +1,0 @@
-pub mod Listed
-pub mod Named
-pub mod Numbers
-pub mod Ranks

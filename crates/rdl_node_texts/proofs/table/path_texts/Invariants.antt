@@ -1,5 +1,0 @@
-use Rattle.rdl_node_texts.specs.Texts.{AreTextsTo}
-use Rattle.rdl_node_texts.proofs.table.path_texts.Given as goal
-
-abbrev pub invariant-loop-at : goal.invariant-loop-at
-invariant-loop-at l = AreTextsTo l.elab l.at l.texts.items

@@ -1,0 +1,6 @@
+pub mod Cuts
+mod Growing
+mod Started
+pub mod Staying
+mod Topmost
+mod Uses

@@ -1,0 +1,27 @@
+use Rattle.std.proofs.Common.{refl, subst, sym}
+use Rattle.rdl_values.specs.Top.{root}
+use Rattle.rdl_open_bodies.specs.Spots.{IsOpenAt}
+use Rattle.rdl_open_bodies.proofs.Staying.{open_stays}
+use Rattle.rdl_open_bodies.proofs.Topmost.{nodes_open}
+use Rattle.rdl_open_bodies.proofs.roots.open_tree.Goals as goal
+
+pub open_top-requires-clause-some : goal.open_top-requires-clause-some
+open_top-requires-clause-some c =
+    let e = c.args.elab.now in
+    let r = c.in_ok-bodies.ensures e.source.now refl in
+    let first = subst (λ t. IsOpenAt t 0 (root e.source.now)) (sym c.new-walk.ensures.bodies) (record { open_ = r.body; here = r.here; is = r.open_ }) in
+    open_stays c.new-walk.result.bodies c.open_signals.new.walk.bodies c.new-walk.result.failures c.new-walk.ensures.walking.kept c.in_ok-open_signals.ensures.grown 0 (root e.source.now) first
+
+pub returns : goal.returns
+returns c =
+    let e = c.args.elab.now in
+    let f = c.in_ok-open_signals.ensures in
+    let g = c.in_ok-open_top.ensures in
+    let r = c.in_ok-bodies.ensures e.source.now refl in
+    let start = subst (λ t. IsOpenAt t 0 (root e.source.now)) (sym c.new-walk.ensures.bodies) (record { open_ = r.body; here = r.here; is = r.open_ }) in
+    let first = open_stays c.new-walk.result.bodies c.open_signals.new.walk.bodies c.new-walk.result.failures c.new-walk.ensures.walking.kept f.grown 0 (root e.source.now) start in
+    record {
+      in_order = λ k b at. (g.walking.kept.bodies k b at).in_order;
+      root_ = open_stays c.open_signals.new.walk.bodies c.open_top.new.walk.bodies c.open_signals.new.walk.failures f.walking.kept g.grown 0 (root e.source.now) first;
+      nodes_ = nodes_open e c.new-walk.result c.open_signals.new.walk c.open_top.new.walk c.new-spots.result.items c.open_signals.new.spots.items c.open_top.new.spots.items c.new-spots.ensures.items f g;
+    }

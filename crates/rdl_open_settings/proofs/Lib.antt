@@ -1,0 +1,4 @@
+mod Knowing
+mod Numbered
+mod Own
+mod Round

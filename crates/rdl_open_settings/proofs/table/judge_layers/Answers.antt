@@ -1,0 +1,20 @@
+use Rattle.std.proofs.Common.{◌≤◌, length, subst}
+use Rattle.rdl_values.specs.Top.{root}
+use Rattle.rdl_open_settings.proofs.Knowing.{all_done, done_none, next_listed, node_judged, root_judged}
+use Rattle.rdl_open_settings.proofs.table.judge_layers.Goals as goal
+
+pub loop-spot-init : goal.loop-spot-init
+loop-spot-init c = λ e open_. done_none e c.args.tree.now.walk.bodies _ c.judge.new.self c.args.failures.now c.judge.new.failures (c.in_ok-judge.ensures (root e.source.now) open_.root_)
+
+pub judge-requires-in-loop-spot : goal.judge-requires-in-loop-spot
+judge-requires-in-loop-spot c = record { kept = (c.loop-spot.invariant c.requires.0 c.requires.1).all; some = node_judged c.requires.0 c.args.tree.now c.deref-spot-items.result.now c.loop-spot.spot-index _ c.requires.1 c.deref-spot-items.ensures.value c.loop-spot-test.true }
+
+pub loop-spot-preserved : goal.loop-spot-preserved
+loop-spot-preserved c = λ e open_.
+    next_listed e c.args.tree.now open_ c.args.failures.now c.loop-spot.spot-index c.loop-spot.table c.judge-in-loop-spot.new.self c.loop-spot.failures c.judge-in-loop-spot.new.failures c.deref-spot-items.result.now c.deref-spot-items.ensures.value _ c.loop-spot-test.true (c.loop-spot.invariant e open_) c.in_ok-judge-2.ensures
+
+pub returns : goal.returns
+returns c = λ e open_. all_done e c.args.tree.now open_ c.args.failures.now c.loop-spot.spot-index c.loop-spot.table c.loop-spot.failures (subst (λ os. length os ≤ c.loop-spot.spot-index) c.deref-spot-items.ensures.value c.loop-spot-test.false) (c.loop-spot.invariant e open_)
+
+pub judge-requires-clause-some : goal.judge-requires-clause-some
+judge-requires-clause-some c = root_judged c.requires.0 c.args.tree.now c.requires.1

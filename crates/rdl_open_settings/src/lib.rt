@@ -1,0 +1,11 @@
+//! What the assignments of open bodies give, judged once for all nodes that have a body, and what decides the properties of a node.
+#![tactic(auto)]
+
+mod layers;
+mod node;
+mod rounds;
+mod table;
+
+pub use layers::Layers;
+pub use node::complete_node;
+pub use table::{LayerTable, judge_layers};

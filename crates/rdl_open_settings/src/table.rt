@@ -1,0 +1,82 @@
+//! The assignments of all open bodies.
+
+ghost use Rattle.std.specs.Prelude.{IfOk};
+ghost use Rattle.rdl_tree.specs.declared.node.Elab.{Elab};
+ghost use Rattle.rdl_open_bodies.specs.Spots.{IsOpenTree};
+ghost use Rattle.rdl_open_settings.specs.Layered.{AreLayersOf};
+
+use crate::layers::{Layers, layers_of};
+use bumpalo::Bump;
+use indexmap::IndexMap;
+use rb_base::NoMemory;
+use rdl_bodies::Bodies;
+use rdl_failures::Failures;
+use rdl_open_bodies::OpenTree;
+use std::alloc::Global;
+
+/// What the assignments of bodies give, by the numbers of the bodies.
+#[derive(Drop)]
+pub struct LayerTable<'a> {
+    list: IndexMap<usize, Layers<'a>>,
+}
+
+impl<'a> LayerTable<'a> {
+    ghost use Rattle.std.specs.Prelude.{◌≡◌, OnOk};
+    ghost use Rattle.std.specs.Option.{option_copied};
+    ghost use Rattle.rdl_values.specs.Bodies.{Body as BodyOf};
+    ghost use Rattle.rdl_open_bodies.specs.Spots.{IsOpenAt};
+    ghost use Rattle.rdl_open_settings.specs.Layered.{AreLayers, CanJudge, IsKnown, layers_at};
+
+    /// What the assignments of the body of a number give.
+    pub fn find(&self, number: usize) -> Option<&Layers<'a>>
+        ensures { option_copied result ≡ layers_at self.now number }
+    {
+        self.list.get(&number)
+    }
+
+    // Judges the assignments of the body of a number, where they aren't yet.
+    fn judge(
+        &mut self,
+        alloc: Global,
+        arena: &'a Bump,
+        bodies: &Bodies<'a>,
+        number: usize,
+        failures: &mut Failures,
+    ) -> Result<(), NoMemory>
+        requires kept { AreLayers bodies.now failures.old self.old }
+        requires some { CanJudge bodies.now number }
+        ensures { OnOk result ((b : BodyOf) → IsOpenAt bodies.now number b → IsKnown bodies.now self.old self.new failures.old failures.new number b) }
+    {
+        if self.find(number).is_some() {
+            return Ok(());
+        }
+        let Some(body) = bodies.body(number) else {
+            return Ok(());
+        };
+        let layers = layers_of(alloc, arena, bodies, &body, failures)?;
+        self.list.insert(number, layers)?;
+        Ok(())
+    }
+}
+
+/// Puts in all failures of the assignments of the bodies of a tree to its nodes, of their defaults and of their enumerations' entries, of
+/// each open body once, and gives those to nodes and by default that fail none.
+pub fn judge_layers<'a>(
+    alloc: Global,
+    arena: &'a Bump,
+    tree: &OpenTree<'a>,
+    failures: &mut Failures,
+) -> Result<LayerTable<'a>, NoMemory>
+    requires { (e : Elab) × IsOpenTree e tree.now }
+    ensures { IfOk result (λ r. (e : Elab) → IsOpenTree e tree.now → AreLayersOf e tree.now r failures.old failures.new) }
+{
+    let mut table = LayerTable {
+        list: IndexMap::new(alloc),
+    };
+    let bodies = &tree.walk.bodies;
+    table.judge(alloc, arena, bodies, 0, failures)?;
+    for spot in &tree.spots {
+        table.judge(alloc, arena, bodies, spot.body, failures)?;
+    }
+    Ok(table)
+}

@@ -1,6 +1,0 @@
-pub mod Cuts
-pub mod Staying
-mod Uses
-mod Started
-mod Growing
-mod Topmost

@@ -1,5 +1,0 @@
-use Rattle.rdl_ordered.proofs.All.{all-once}
-use Rattle.rdl_ordered.proofs.laws.order_has_all_items.Goals as goal
-
-pub returns : goal.returns
-returns c = λ e b ks clean bound none is order. all-once e b ks clean bound none is order

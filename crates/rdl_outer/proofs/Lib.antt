@@ -1,2 +1,0 @@
-mod Chained
-mod Viewed

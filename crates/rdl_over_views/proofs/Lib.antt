@@ -1,3 +1,0 @@
-mod Covering
-mod Marking
-pub mod Sharing

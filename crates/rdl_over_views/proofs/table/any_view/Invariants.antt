@@ -1,5 +1,0 @@
-use Rattle.rdl_over_views.proofs.Marking.{AreMarked}
-use Rattle.rdl_over_views.proofs.table.any_view.Given as goal
-
-abbrev pub invariant-loop-at : goal.invariant-loop-at
-invariant-loop-at l = AreMarked l.elab l.own l.at l.marks.items

@@ -1,4 +1,0 @@
-mod Bytes
-mod Numbers
-mod Parted
-mod Formed

@@ -1,3 +1,0 @@
-mod Cut
-mod Spelled
-pub mod Texts

@@ -1,3 +1,0 @@
-mod Having
-mod Listing
-mod Targeting

@@ -1,5 +1,0 @@
-use Rattle.rdl_ref_targets.specs.Targeted.{AreTargetsTo}
-use Rattle.rdl_ref_targets.proofs.table.ref_targets.Given as goal
-
-abbrev pub invariant-loop-node : goal.invariant-loop-node
-invariant-loop-node l = AreTargetsTo l.elab l.node l.targets.items

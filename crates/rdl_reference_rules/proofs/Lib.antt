@@ -1,2 +1,0 @@
-pub mod Items
-mod Turns

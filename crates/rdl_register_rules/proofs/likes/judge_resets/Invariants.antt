@@ -1,9 +1,0 @@
-use Rattle.std.proofs.Common.{◌≡◌, List, flat_map, take}
-use Rattle.rdl_judging.specs.Noted.{with_all}
-use Rattle.rdl_addr.specs.Bits.{Bits}
-use Rattle.rdl_views.specs.Views.{AreViewsOf}
-use Rattle.rdl_register_rules.specs.Judged as judged
-use Rattle.rdl_register_rules.proofs.likes.judge_resets.Given as goal
-
-abbrev pub invariant-loop-view : goal.invariant-loop-view
-invariant-loop-view l = (bs cs : List Bits) → AreViewsOf l.props l.views bs → AreViewsOf l.props l.others cs → l.failures ≡ with_all (flat_map (judged.resets cs) (take l.view-index bs)) l.initial.failures

@@ -1,3 +1,0 @@
-mod Failed
-pub mod Filtered
-mod Listed

@@ -1,5 +1,0 @@
-use Rattle.rdl_registers.specs.Found.{AreRegistersTo}
-use Rattle.rdl_registers.proofs.list.registers.Given as goal
-
-abbrev pub invariant-loop-at : goal.invariant-loop-at
-invariant-loop-at l = AreRegistersTo l.props l.at l.registers.items

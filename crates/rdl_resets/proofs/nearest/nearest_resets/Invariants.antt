@@ -1,5 +1,0 @@
-use Rattle.rdl_resets.specs.Nearest.{AreNearestTo}
-use Rattle.rdl_resets.proofs.nearest.nearest_resets.Given as goal
-
-abbrev pub invariant-loop-at : goal.invariant-loop-at
-invariant-loop-at l = AreNearestTo l.elab l.at l.nearest.items

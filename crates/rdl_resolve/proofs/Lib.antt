@@ -1,0 +1,9 @@
+mod Adding
+mod Chained
+mod Chaining
+mod Named
+mod Numbers
+mod Stepping
+mod Viewed
+mod Walking
+mod Whole

@@ -1,0 +1,14 @@
+use Rattle.std.proofs.Common.{subst}
+use Rattle.rdl_values.specs.Lineages.{lineages_of}
+use Rattle.rdl_values.specs.Seen.{around_of}
+use Rattle.rdl_values.specs.Uses.{values}
+use Rattle.rdl_members.specs.Found.{members_at}
+use Rattle.rdl_resolve.specs.Led.{AreNumbers}
+use Rattle.rdl_resolve.proofs.Stepping.{without-indices}
+use Rattle.rdl_resolve.proofs.walk.step_to.Goals as goal
+
+pub returns-in-None : goal.returns-in-None
+returns-in-None c = λ e are low.
+    let env = around_of c.args.env.now in
+    let step = c.args.step.now in
+    without-indices e env step (members_at (lineages_of e) c.args.body) (subst (λ r. AreNumbers r (values env step.index.now)) c.in-None.is c.in_ok-index.ensures)

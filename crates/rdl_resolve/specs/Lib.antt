@@ -1,0 +1,5 @@
+pub mod Aimed
+pub mod Led
+pub mod Named
+pub mod Outers
+pub mod Outward

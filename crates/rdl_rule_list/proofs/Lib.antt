@@ -1,2 +1,0 @@
-mod Put
-mod Whole

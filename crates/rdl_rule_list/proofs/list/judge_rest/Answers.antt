@@ -1,6 +1,0 @@
-use Rattle.rdl_rule_list.specs.Collected.{of_roots}
-use Rattle.rdl_rule_list.proofs.Put.{more}
-use Rattle.rdl_rule_list.proofs.list.judge_rest.Goals as goal
-
-pub returns : goal.returns
-returns c = more (of_roots c.args.elab.now) c.args.circles.now c.args.failures.now c.judge_root_resets.new.failures c.judge_circles.new.failures c.in_ok-judge_root_resets.ensures c.in_ok-judge_circles.ensures

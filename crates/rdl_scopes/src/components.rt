@@ -1,0 +1,139 @@
+//! The components of a body by their names, and names that are defined twice.
+
+ghost use Rattle.std.specs.Prelude.{◌≡◌, None, Some, take, IfOk, MatchOption};
+ghost use Rattle.rdl_values.specs.Bodies.{Body, found, is_component, standing};
+ghost use Rattle.rdl_values.specs.Bodies as bodies;
+ghost use Rattle.rdl_values.specs.Values.{nearest};
+ghost use Rattle.rdl_values.specs.Phase3 as phase;
+ghost use Rattle.rdl_values.specs.Views.{item_is};
+ghost use Rattle.rdl_failures.specs.Noted.{IsNoted};
+ghost use Rattle.rdl_scopes.specs.Named.{AreComponents, component_named, fails_twice};
+
+use rb_base::NoMemory;
+use rdl_base::Rule;
+use rdl_failures::{Failures, Firsts};
+use rdl_tree::{Def, Item, Name};
+use std::alloc::Global;
+
+// The name of a definition or an enumeration; both share one list of names.
+fn name_of<'a>(item: &Item<'a>) -> Option<Name<'a>>
+    ensures { result ≡ phase.name_of (item_is item.now) }
+{
+    match item {
+        Item::Def(def) => def.name,
+        Item::EnumDef { name, .. } => Some(*name),
+        _ => None,
+    }
+}
+
+// The names that a body defines, in order.
+fn names_in<'a>(alloc: Global, items: &[Item<'a>]) -> Result<Vec<Name<'a>>, NoMemory>
+    ensures { IfOk result (λ names. names.items ≡ phase.names_in items.now) }
+{
+    let mut names = Vec::new(alloc);
+    for item in items {
+        if let Some(name) = name_of(item) {
+            names.push(name)?;
+        }
+    }
+    Ok(names)
+}
+
+// Puts in E2 at each name that stands before.
+fn note_twice(alloc: Global, names: &[Name<'_>], failures: &mut Failures) -> Result<bool, NoMemory>
+    ensures { IfOk result (λ clean. IsNoted (fails_twice names.now) clean failures.old failures.new) }
+{
+    let mut firsts = Firsts::new(alloc);
+    let mut clean = true;
+    for (at, name) in names.iter().enumerate() {
+        let again = firsts.put(name.text, at)?;
+        clean &= failures.note(again, Rule::E2, name.place)?;
+    }
+    Ok(clean)
+}
+
+/// Puts in E2 at each name of a definition or an enumeration that stands in the body before (SystemRDL 2.0, 5.1.4), and answers
+/// whether there is none.
+pub fn judge_names(
+    alloc: Global,
+    items: &[Item<'_>],
+    failures: &mut Failures,
+) -> Result<bool, NoMemory>
+    ensures { IfOk result (λ clean. (b : Body) → b.items ≡ items.now → IsNoted (phase.twice_defined b) clean failures.old failures.new) }
+{
+    let names = names_in(alloc, items)?;
+    note_twice(alloc, &names, failures)
+}
+
+/// The definitions of a body by their names, of two of one name the first.
+#[derive(Drop)]
+pub struct Components<'a> {
+    items: &'a [Item<'a>],
+    firsts: Firsts<'a>,
+}
+
+// The name of a component.
+fn component_name<'a>(item: &Item<'a>) -> Option<&'a [u8]>
+    ensures { MatchOption result (component_named item.now ≡ None) (λ n. component_named item.now ≡ Some n.now) }
+{
+    match item {
+        Item::Def(def) => Some(def.name?.text),
+        _ => None,
+    }
+}
+
+// Whether the definition has this name.
+fn is_named(def: &Def<'_>, name: &[u8]) -> bool
+    ensures { result ≡ bodies.is_named name.now def.now.name }
+{
+    match def.name {
+        Some(own) => own.text == name,
+        None => false,
+    }
+}
+
+// The component of this name that the item defines.
+fn component_in<'a>(item: &'a Item<'a>, name: &[u8]) -> Option<&'a Def<'a>>
+    ensures { MatchOption result (is_component name.now (item_is item.now) ≡ None) (λ d. is_component name.now (item_is item.now) ≡ Some d.now) }
+{
+    match item {
+        Item::Def(def) if is_named(def, name) => Some(def),
+        _ => None,
+    }
+}
+
+impl<'a> Components<'a> {
+    /// The definitions among these items.
+    pub fn of(alloc: Global, items: &'a [Item<'a>]) -> Result<Self, NoMemory>
+        ensures { IfOk result (λ c. AreComponents c items.now) }
+    {
+        let mut firsts = Firsts::new(alloc);
+        for (at, item) in items.iter().enumerate() {
+            if let Some(name) = component_name(item) {
+                firsts.put(name, at)?;
+            }
+        }
+        Ok(Components { items, firsts })
+    }
+
+    /// The component that a name means behind the first `upto` items: the first of that name, with its position (SystemRDL 2.0,
+    /// 5.1.4).
+    pub fn find(&self, name: &[u8], upto: usize) -> Option<(usize, &'a Def<'a>)>
+        requires { AreComponents self.now self.now.items.now }
+        ensures { MatchOption result
+            (nearest (found name.now) (standing (take upto self.now.items.now)) ≡ None)
+            (λ r. nearest (found name.now) (standing (take upto self.now.items.now)) ≡ Some (take r.0 self.now.items.now, r.1.now)) }
+    {
+        let Some(at) = self.firsts.find(name) else {
+            return None;
+        };
+        if at >= upto {
+            return None;
+        }
+        let items: &'a [Item<'a>] = self.items;
+        let Some(def) = component_in(&items[at], name) else {
+            return None;
+        };
+        Some((at, def))
+    }
+}

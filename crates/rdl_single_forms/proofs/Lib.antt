@@ -1,2 +1,0 @@
-mod Derived
-mod Nodes

@@ -1,3 +1,0 @@
-pub mod Fed
-mod Counting
-pub mod Alone

@@ -1,0 +1,9 @@
+use Rattle.rdl_addr.specs.Rules.{is_read_only, is_write_only}
+use Rattle.rdl_sound_laws.proofs.Counted.{few-words}
+use Rattle.rdl_sound_laws.proofs.sound_words.words_are_few.Goals as goal
+
+pub returns-clause-reads : goal.returns-clause-reads
+returns-clause-reads c = λ e waits b settled placed block. few-words e settled placed is_write_only is_read_only b.reads block.reads
+
+pub returns-clause-writes : goal.returns-clause-writes
+returns-clause-writes c = λ e waits b settled placed block. few-words e settled placed is_read_only is_write_only b.writes block.writes

@@ -1,5 +1,0 @@
-mod Gates
-mod Items
-pub mod Places
-mod Resets
-mod Sound

@@ -1,5 +1,0 @@
-use Rattle.rdl_sound_registers.proofs.Sound.{all-sound}
-use Rattle.rdl_sound_registers.proofs.laws.registers_are_sound.Goals as goal
-
-pub returns : goal.returns
-returns c = λ wanted s waits b is leads. all-sound wanted s c.settings_have_forms.ensures leads waits b is

@@ -1,5 +1,0 @@
-use Rattle.rdl_sound_slots.proofs.Views.{all-of}
-use Rattle.rdl_sound_slots.proofs.laws.views_are_of_fields.Goals as goal
-
-pub returns : goal.returns
-returns c = λ e waits b settled clean block one mates. all-of e settled clean waits b block one mates

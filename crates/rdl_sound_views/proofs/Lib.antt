@@ -1,5 +1,0 @@
-mod Classes
-mod Counted
-mod Fields
-mod Names
-mod Viewed

@@ -1,4 +1,0 @@
-pub mod Staying
-pub mod TopUses
-mod Listing
-pub mod Totals

@@ -1,2 +1,0 @@
-pub mod Topped
-pub mod Surveying

@@ -1,5 +1,0 @@
-use Rattle.rdl_wires.specs.Touched.{AreTouches}
-use Rattle.rdl_wires.proofs.list.own_touches.Given as goal
-
-abbrev pub invariant-loop-node : goal.invariant-loop-node
-invariant-loop-node l = AreTouches l.props l.node l.list.items

@@ -1,4 +1,0 @@
-pub mod Meeting
-mod Ordered
-pub mod Placed
-mod Same

@@ -1,4 +1,0 @@
-mod Entered
-mod Masked
-mod Risen
-mod Standing

@@ -1,5 +1,0 @@
-use Rattle.run_laws.proofs.Agreeing.{agree}
-use Rattle.run_laws.proofs.laws.runs_agree.Goals as goal
-
-pub returns : goal.returns
-returns c = agree
