@@ -1,5 +1,5 @@
 //! Where files are read from.
-ghost use Rattle.std.specs.Prelude.{◌≡◌, ℕ, ◌-◌, ◌^◌, ◌<◌, ◌≤◌, List, length, Option, IfOk, OnErr, IsErrOf};
+ghost use Rattle.std.specs.Prelude.{◌≡◌, ℕ, ◌+◌, ◌-◌, ◌^◌, ◌<◌, ◌≤◌, List, length, Option, IfOk, OnErr, IsErrOf};
 ghost use Rattle.rb_edge.specs.declared.shelf.LoadError.TheVariants.{Failed as failed_error, NoMemory as no_memory_error};
 ghost use Rattle.rb_edge.specs.Count.{Rose};
 ghost use Rattle.rb_edge.specs.Shelf.{Files, Holds, IsLonger, Reads};
@@ -60,7 +60,32 @@ impl From<AllocError> for LoadError {
     }
 }
 
+/// How many bytes of a file are read at first.
+const FIRST: usize = 65536;
+
+/// The most bytes that are read at once.
+const MOST: usize = 1048576;
+
+// How far is read where so many bytes are read already: to the end of the first piece, and from
+// there twice as far, by no more than 1 MiB, but only one byte past the most that are wanted.
+fn end_of_piece(len: usize, most: usize) -> usize
+    requires within { len ≤ most }
+    requires limited { most < 2 ^ 32 }
+    ensures further { len < result }
+    ensures one_past { result ≤ most + 1 }
+{
+    let end = if len < FIRST {
+        FIRST
+    } else {
+        len + len.min(MOST)
+    };
+    end.min(most + 1)
+}
+
 /// The whole file of a name, unless it is longer than the limit, in bytes.
+///
+/// It is read from the front into the vector that is answered, in pieces: 65,536 bytes at first,
+/// and then as many as were read so far, up to 1 MiB, but never more than one byte past the limit.
 ///
 /// [`LoadError::Failed`] comes only where the shelf's count of faults for the name rose, and
 /// [`LoadError::TooLong`] only where the file is longer than the limit. Whatever the answer, the
@@ -85,15 +110,16 @@ pub fn load<S: Shelf>(
 {
     let most = limit as usize;
     let mut bytes = Vec::new(alloc);
-    let mut buffer = [0u8; 4096];
     loop {
-        let count = shelf.read(name, bytes.len() as u64, &mut buffer)?;
+        let len = bytes.len();
+        bytes.resize(end_of_piece(len, most), 0)?;
+        let count = shelf.read(name, len as u64, &mut bytes[len..])?;
+        bytes.truncate(len + count);
         if count == 0 {
             return Ok(bytes);
         }
-        if count > most - bytes.len() {
+        if bytes.len() > most {
             return Err(LoadError::TooLong);
         }
-        bytes.extend_from_slice(&buffer[..count])?;
     }
 }

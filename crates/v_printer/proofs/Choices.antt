@@ -1,6 +1,6 @@
 -- Texts that depend on a width.
 use Rattle.std.specs.Fmt.{decimal}
-use Rattle.std.proofs.Common.{◌≡◌, ℕ, ◌-◌, ◌<◌, ◌==◌, Bool, true, false, if◌then◌else◌, List, [], ◌++◌, slice_get, Some, codes, ap, sym, ◌∙◌, arith, append_assoc, append-nil}
+use Rattle.std.proofs.Common.{◌≡◌, ℕ, ◌-◌, ◌<◌, ◌==◌, Bool, true, false, if◌then◌else◌, List, [], ◌++◌, slice_get, Some, codes, refl, ap, sym, ◌∙◌, arith, append_assoc, append-nil}
 use Rattle.std.proofs.lemmas.Bool.Decides.{nat_tests}
 use Rattle.rtl_net.specs.Value.{expr_width}
 use Rattle.rtl_net.specs.Net.{Net, width_in, widths}
@@ -44,6 +44,18 @@ module _ (w : ℕ) (n : List ℕ) (hi lo : ℕ) (wide : w ≡ 1 → ⊥) where
 
   pub bits_are : (hi ≡ lo → ⊥) → n ++ (codes "[" ++ (decimal hi ++ (codes ":" ++ (decimal lo ++ codes "]")))) ≡ term_text (selected w n hi lo)
   bits_are e = sym (chosen false (other_number hi lo e))
+
+-- what stands behind the name of a net of several bits
+abbrev pub bits_text : (hi lo : ℕ) → List ℕ
+bits_text hi lo = if hi == lo then codes "[" ++ (decimal hi ++ codes "]") else codes "[" ++ (decimal hi ++ (codes ":" ++ (decimal lo ++ codes "]")))
+
+behind_name : (n : List ℕ) (hi lo : ℕ) (d : Bool)
+    → operand_text (if d then Bit n hi else Part n hi lo) ≡ n ++ (if d then codes "[" ++ (decimal hi ++ codes "]") else codes "[" ++ (decimal hi ++ (codes ":" ++ (decimal lo ++ codes "]"))))
+behind_name n hi lo true = refl
+behind_name n hi lo false = refl
+
+pub part_is : (w : ℕ) (n : List ℕ) (hi lo : ℕ) → (w ≡ 1 → ⊥) → n ++ bits_text hi lo ≡ term_text (selected w n hi lo)
+part_is w n hi lo wide = sym (chosen w n hi lo wide (hi == lo) refl ∙ behind_name n hi lo (hi == lo))
 
 block_parts : (c r p g n v a : List ℕ) → (c ++ (r ++ (codes " " ++ p))) ++ (codes ")\n    if (" ++ (g ++ (p ++ codes ") "))) ++ ((n ++ (codes " <= " ++ (v ++ codes ";\n    else "))) ++ (n ++ (codes " <= " ++ (a ++ codes ";\n"))))
     ≡ c ++ (r ++ (codes " " ++ (p ++ (codes ")\n    if (" ++ (g ++ (p ++ (codes ") " ++ (n ++ (codes " <= " ++ (v ++ (codes ";\n    else " ++ (n ++ (codes " <= " ++ (a ++ codes ";\n"))))))))))))))

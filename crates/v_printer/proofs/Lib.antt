@@ -14,4 +14,3 @@ mod Terms
 mod Tokens
 mod Whole
 mod Words
-mod Writing

@@ -2,4 +2,3 @@ pub mod Layout
 pub mod Module
 pub mod TextOf
 pub mod TextSink
-pub mod Written

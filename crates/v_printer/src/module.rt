@@ -10,13 +10,14 @@ ghost use Rattle.v_design.specs.Header.{port_text, ports_text, header};
 ghost use Rattle.v_printer.specs.Module.{numbered, node_name, ports, port_of, side_of};
 ghost use Rattle.v_printer.specs.Layout.{port_line, shown_text, text_of};
 ghost use Rattle.v_printer.specs.TextOf.{IsWhole, IsTextOf};
-ghost use Rattle.v_printer.specs.Written.{Writes};
+ghost use Rattle.rb_page.specs.Flows.{Flows};
 
 use crate::expr::put_name;
 use crate::lines::{put_range, put_section};
 use crate::section::Section;
 use crate::write::put;
 use rb_edge::{Failed, Sink};
+use rb_page::Page;
 use rtl_net::{Id, Netlist, Seat, Taken};
 
 /// The word of a port's side.
@@ -31,27 +32,31 @@ fn side_word(taken: Option<Taken>) -> &'static [u8]
 
 /// Writes a port of this name and width in bits.
 fn put_port<K: Sink>(
+    page: &mut Page,
     out: &mut K,
     taken: Option<Taken>,
     width: u8,
     name: &[u8],
 ) -> Result<(), Failed>
     requires { 0 < width }
-    ensures { Writes (K.told out.old) (K.told out.new) (K.faults out.old) (K.faults out.new) result (port_text (record { dir = side_of taken; name = name.now; width = width })) }
+    ensures { Flows (K.told out.old) (K.told out.new) (K.faults out.old) (K.faults out.new)
+        page.old page.new result
+        (port_text (record { dir = side_of taken; name = name.now; width = width })) }
 {
-    put(out, b"  ")?;
-    put(out, side_word(taken))?;
-    put(out, b" ")?;
-    put_range(out, width)?;
-    put(out, name)
+    put(page, out, b"  ")?;
+    put(page, out, side_word(taken))?;
+    put(page, out, b" ")?;
+    put_range(page, out, width)?;
+    put(page, out, name)
 }
 
 /// Writes the port of a seat.
-fn put_seat<K: Sink>(out: &mut K, seat: &Seat) -> Result<(), Failed>
+fn put_seat<K: Sink>(page: &mut Page, out: &mut K, seat: &Seat) -> Result<(), Failed>
     requires { 0 < seat.now.width }
-    ensures { Writes (K.told out.old) (K.told out.new) (K.faults out.old) (K.faults out.new) result (port_text (port_of seat.now)) }
+    ensures { Flows (K.told out.old) (K.told out.new) (K.faults out.old) (K.faults out.new)
+        page.old page.new result (port_text (port_of seat.now)) }
 {
-    put_port(out, seat.taken, seat.width, &seat.name.bytes)
+    put_port(page, out, seat.taken, seat.width, &seat.name.bytes)
 }
 
 /// What ends the line of a port.
@@ -62,91 +67,119 @@ fn line_end(last: bool) -> &'static [u8]
 }
 
 /// Writes the line of a port.
-fn put_port_line<K: Sink>(out: &mut K, seat: &Seat, last: bool) -> Result<(), Failed>
+fn put_port_line<K: Sink>(
+    page: &mut Page,
+    out: &mut K,
+    seat: &Seat,
+    last: bool,
+) -> Result<(), Failed>
     requires { 0 < seat.now.width }
-    ensures { Writes (K.told out.old) (K.told out.new) (K.faults out.old) (K.faults out.new) result (port_text (port_of seat.now) ++ (if last then codes "\n" else codes ",\n")) }
+    ensures { Flows (K.told out.old) (K.told out.new) (K.faults out.old) (K.faults out.new)
+        page.old page.new result
+        (port_text (port_of seat.now) ++ (if last then codes "\n" else codes ",\n")) }
 {
-    put_seat(out, seat)?;
-    put(out, line_end(last))
+    put_seat(page, out, seat)?;
+    put(page, out, line_end(last))
 }
 
 /// Writes the lines of the ports.
-fn put_ports<K: Sink>(out: &mut K, net: &Netlist) -> Result<(), Failed>
+fn put_ports<K: Sink>(page: &mut Page, out: &mut K, net: &Netlist) -> Result<(), Failed>
     requires { IsMade net.now }
-    ensures { Writes (K.told out.old) (K.told out.new) (K.faults out.old) (K.faults out.new) result (ports_text (ports net.now)) }
+    ensures { Flows (K.told out.old) (K.told out.new) (K.faults out.old) (K.faults out.new)
+        page.old page.new result (ports_text (ports net.now)) }
 {
     let count = net.seats().len();
     for (at, seat) in net.seats().iter().enumerate() {
-        put_port_line(out, seat, at + 1 == count)?;
+        put_port_line(page, out, seat, at + 1 == count)?;
     }
     Ok(())
 }
 
 /// Writes the header.
-fn put_header<K: Sink>(out: &mut K, net: &Netlist) -> Result<(), Failed>
+fn put_header<K: Sink>(page: &mut Page, out: &mut K, net: &Netlist) -> Result<(), Failed>
     requires { IsMade net.now }
-    ensures { Writes (K.told out.old) (K.told out.new) (K.faults out.old) (K.faults out.new) result (header net.now.name (ports net.now)) }
+    ensures { Flows (K.told out.old) (K.told out.new) (K.faults out.old) (K.faults out.new)
+        page.old page.new result (header net.now.name (ports net.now)) }
 {
-    put(out, b"module ")?;
-    put(out, net.name())?;
-    put(out, b" (\n")?;
-    put_ports(out, net)?;
-    put(out, b");\n")
+    put(page, out, b"module ")?;
+    put(page, out, net.name())?;
+    put(page, out, b" (\n")?;
+    put_ports(page, out, net)?;
+    put(page, out, b");\n")
 }
 
 /// Writes the assignment of an output.
-fn put_shown<K: Sink>(out: &mut K, net: &Netlist, name: &[u8], from: Id) -> Result<(), Failed>
+fn put_shown<K: Sink>(
+    page: &mut Page,
+    out: &mut K,
+    net: &Netlist,
+    name: &[u8],
+    from: Id,
+) -> Result<(), Failed>
     requires { from.0 < length net.now.nodes }
-    ensures { Writes (K.told out.old) (K.told out.new) (K.faults out.old) (K.faults out.new) result (codes "  assign " ++ (name.now ++ (codes " = " ++ (node_name net.now.nodes from.0 ++ codes ";\n")))) }
+    ensures { Flows (K.told out.old) (K.told out.new) (K.faults out.old) (K.faults out.new)
+        page.old page.new result
+        (codes "  assign " ++ (name.now ++ (codes " = "
+        ++ (node_name net.now.nodes from.0 ++ codes ";\n")))) }
 {
-    put(out, b"  assign ")?;
-    put(out, name)?;
-    put(out, b" = ")?;
-    put_name(out, net, from)?;
-    put(out, b";\n")
+    put(page, out, b"  assign ")?;
+    put(page, out, name)?;
+    put(page, out, b" = ")?;
+    put_name(page, out, net, from)?;
+    put(page, out, b";\n")
 }
 
 /// Writes the assignment of a seat that is taken by an output.
-fn put_if_shown<K: Sink>(out: &mut K, net: &Netlist, at: usize, seat: &Seat) -> Result<(), Failed>
+fn put_if_shown<K: Sink>(
+    page: &mut Page,
+    out: &mut K,
+    net: &Netlist,
+    at: usize,
+    seat: &Seat,
+) -> Result<(), Failed>
     requires { IsTakenBy net.now seat.now.name seat.now.width seat.now.taken }
-    ensures { Writes (K.told out.old) (K.told out.new) (K.faults out.old) (K.faults out.new) result (shown_text net.now at seat.now) }
+    ensures { Flows (K.told out.old) (K.told out.new) (K.faults out.old) (K.faults out.new)
+        page.old page.new result (shown_text net.now at seat.now) }
 {
     match seat.taken {
-        Some(Taken::Output(from)) => put_shown(out, net, &seat.name.bytes, from),
+        Some(Taken::Output(from)) => put_shown(page, out, net, &seat.name.bytes, from),
         _ => Ok(()),
     }
 }
 
 /// Writes the assignments of the outputs.
-fn put_outputs<K: Sink>(out: &mut K, net: &Netlist) -> Result<(), Failed>
+fn put_outputs<K: Sink>(page: &mut Page, out: &mut K, net: &Netlist) -> Result<(), Failed>
     requires { IsMade net.now }
-    ensures { Writes (K.told out.old) (K.told out.new) (K.faults out.old) (K.faults out.new) result (numbered (shown_text net.now) 0 net.now.seats) }
+    ensures { Flows (K.told out.old) (K.told out.new) (K.faults out.old) (K.faults out.new)
+        page.old page.new result (numbered (shown_text net.now) 0 net.now.seats) }
 {
     for (at, seat) in net.seats().iter().enumerate() {
-        put_if_shown(out, net, at, seat)?;
+        put_if_shown(page, out, net, at, seat)?;
     }
     Ok(())
 }
 
 /// Writes the text.
-fn put_module<K: Sink>(out: &mut K, net: &Netlist) -> Result<(), Failed>
+fn put_module<K: Sink>(page: &mut Page, out: &mut K, net: &Netlist) -> Result<(), Failed>
     requires { IsMade net.now }
-    ensures { Writes (K.told out.old) (K.told out.new) (K.faults out.old) (K.faults out.new) result (text_of net.now) }
+    ensures { Flows (K.told out.old) (K.told out.new) (K.faults out.old) (K.faults out.new)
+        page.old page.new result (text_of net.now) }
 {
-    put_header(out, net)?;
-    put_section(out, net, Section::Registers)?;
-    put_section(out, net, Section::Wires)?;
-    put_section(out, net, Section::Assignments)?;
-    put_outputs(out, net)?;
-    put_section(out, net, Section::Blocks)?;
-    put(out, b"endmodule\n")
+    put_header(page, out, net)?;
+    put_section(page, out, net, Section::Registers)?;
+    put_section(page, out, net, Section::Wires)?;
+    put_section(page, out, net, Section::Assignments)?;
+    put_outputs(page, out, net)?;
+    put_section(page, out, net, Section::Blocks)?;
+    put(page, out, b"endmodule\n")
 }
 
 /// Writes the module of a netlist (IEEE 1364-2005, clause 12.1): its ports in order, its registers and wires, the
 /// assignments, and a block for each register at the rising edge of PCLK. The wire of node 7 is `n$7`.
 ///
-/// It takes no memory. [`Failed`] comes only where the sink's count of faults rose. Then a proper prefix of the text
-/// was taken, and nothing else.
+/// Its bytes wait on a page of 64 KiB, on the stack, so the sink is called once for many of them. It takes no memory.
+/// [`Failed`] comes only where the sink's count of faults rose. Then a proper prefix of the text was taken, and nothing
+/// else.
 pub fn print<K: Sink>(net: &Netlist, out: &mut K) -> Result<(), Failed>
     requires { IsWhole net.now }
     ensures module { IsTextOf net.now (text_of net.now) }
@@ -157,5 +190,7 @@ pub fn print<K: Sink>(net: &Netlist, out: &mut K) -> Result<(), Failed>
 {
     // The proof cites what holds of each netlist, which it knows where the nodes are read.
     let _nodes = net.nodes();
-    put_module(out, net)
+    let mut page = Page::new();
+    put_module(&mut page, out, net)?;
+    page.flush(out)
 }

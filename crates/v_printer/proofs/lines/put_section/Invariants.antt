@@ -2,10 +2,10 @@ use Rattle.std.proofs.Common.{take, Ok}
 use Rattle.rb_edge.specs.declared.sink.Failed.{Failed}
 use Rattle.v_printer.specs.Module.{numbered}
 use Rattle.v_printer.specs.Layout.{line_text}
-use Rattle.v_printer.specs.Written.{Writes}
+use Rattle.rb_page.specs.Flows.{Flows}
 use Rattle.v_printer.proofs.lines.put_section.Given as goal
 
 abbrev pub invariant-loop-at : goal.invariant-loop-at
 invariant-loop-at g l =
-    Writes {U = Unit {0}} {E = Failed} (g.K.Sink.told l.fn.out) (g.K.Sink.told l.out) (g.K.Sink.faults l.fn.out) (g.K.Sink.faults l.out) (Ok tt)
+    Flows {U = Unit {0}} {E = Failed} (g.K.Sink.told l.fn.out) (g.K.Sink.told l.out) (g.K.Sink.faults l.fn.out) (g.K.Sink.faults l.out) l.fn.page l.page (Ok tt)
     (numbered (line_text l.net l.section) 0 (take l.at l.net.nodes))

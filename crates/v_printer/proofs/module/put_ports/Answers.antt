@@ -1,12 +1,12 @@
 use Rattle.std.proofs.Common.{◌≡◌, slice_get, Some, length, ap, ◌∙◌, arith}
 use Rattle.rtl_net.proofs.Places.{read_at}
 use Rattle.v_printer.specs.Layout.{port_line}
-use Rattle.v_printer.proofs.Writing.{and_then, stopped, nothing, of_bytes}
+use Rattle.rb_page.proofs.Flowing.{and_then, stopped, nothing, of_bytes}
 use Rattle.v_printer.proofs.Sections.{port_lines, more_lines, lines_left, all_lines, last_lines}
 use Rattle.v_printer.proofs.module.put_ports.Goals as goal
 
 pub loop-at-init : goal.loop-at-init
-loop-at-init g c = nothing _ _ tt
+loop-at-init g c = nothing _ _ _ tt
 
 pub put_port_line-requires : goal.put_port_line-requires
 put_port_line-requires g c = (c.requires.seats c.loop-at.at c.seat-item.result (read_at c.seats-seat-items.result.now c.args.net.now.seats c.loop-at.at c.seat-item.result c.seats-seat-items.ensures c.loop-at-test.true c.seat-item.is)).0.0
