@@ -11,8 +11,8 @@ use Rattle.std.proofs.lemmas.List.Folds.{list_all-map}
 use Rattle.plain_lemmas.proofs.Bools.{and-both}
 use Rattle.plain_lemmas.proofs.Lists.{bytes_eq-same as same-text}
 use Rattle.rdl_tree.specs.Words.{is_word}
-use Rattle.command_line.specs.Words.{AreFileWords, Asks, AsksNothing, Command, IsCommand, IsFileWord, IsTop, IsWaits, check, compile, gen_of, map_of, run_of, sim, texts, top_words, waits_words, words_of}
-use Rattle.command_line.specs.Found.{Topped, Waited, are_files, compiled, count_in, counted, file_pair, found_in, is_file, named, one_count, one_file, ran, some_files, some_gen, topped, two_files, waited}
+use Rattle.command_line.specs.Words.{AreFileWords, Asks, AsksNothing, Command, IsCommand, IsFileWord, IsTop, IsWaits, check, compile, drive_of, gen_of, map_of, run_of, sim, texts, top_words, waits_words, words_of}
+use Rattle.command_line.specs.Found.{Topped, Waited, are_files, compiled, count_in, counted, driven, driven_by, file_pair, found_in, is_file, named, one_count, one_file, ran, some_files, some_gen, topped, two_files, waited}
 use Rattle.command_line.proofs.Counting.{count-found, found-count}
 
 -- Words that name files.
@@ -191,6 +191,10 @@ asked-found (run_of waits top source stimulus) h =
     ∙ ap ran (waits-found waits (top_words top ++ source ∷ stimulus ∷ []) h.0 (follows top source (stimulus ∷ []) file))
     ∙ ap (file_pair (run_of waits)) (top-found top (source ∷ stimulus ∷ []) h.1 file)
     ∙ ap (λ t. cond (t && is_file stimulus) (Some (run_of waits top source stimulus)) None) file ∙ ap (λ t. cond t (Some (run_of waits top source stimulus)) None) (file-yes stimulus h.3)
+asked-found (drive_of top source script) h =
+    let file = file-yes source h.1 in
+    ap driven (top-found top (source ∷ script ∷ []) h.0 file)
+    ∙ ap (λ t. cond (t && is_file script) (Some (drive_of top source script)) None) file ∙ ap (λ t. cond t (Some (drive_of top source script)) None) (file-yes script h.2)
 asked-found (gen_of count) h = ap some_gen (count-found (decimal count) count (record { spelled = refl; some = h.0; few = h.1 }))
 
 -- one file behind the name of a top
@@ -282,6 +286,21 @@ run-found ws c e = go (waited ws) refl e
           formed = (is.formed, f.named, f.first, f.second);
         })
 
+two-driven : (top : Option (List ℕ)) (rest : List (List ℕ)) → file_pair drive_of (Some (record { top = top; rest = rest })) ≡ driven_by top rest
+two-driven top [] = refl
+two-driven top (source ∷ []) = refl
+two-driven top (source ∷ script ∷ []) = refl
+two-driven top (source ∷ script ∷ more ∷ us) = refl
+
+pair-driven : (o : Option Topped) → file_pair drive_of o ≡ driven o
+pair-driven None = refl
+pair-driven (Some t) = two-driven t.top t.rest
+
+drive-found : (ws : List (List ℕ)) (c : Command) → driven (topped ws) ≡ Some c → Asks (codes "drive" ∷ ws) c
+drive-found ws c e =
+    let f = pair-found drive_of ws c (pair-driven (topped ws) ∙ e) in
+    subst (Asks (codes "drive" ∷ ws)) f.is (record { spelled = ap (λ us. codes "drive" ∷ us) f.spelled; formed = (f.named, f.first, f.second) })
+
 gen-found : (ws : List (List ℕ)) (c : Command) → one_count ws ≡ Some c → Asks (codes "gen" ∷ ws) c
 gen-found [] c e = cc e
 gen-found (w ∷ []) c e = go (count_in w) refl e
@@ -346,10 +365,14 @@ found-asked (name ∷ rest) c e =
     (found-by name (codes "check") rest c (some_files (topped rest)) after-check (some-found rest c)
     (found-by name (codes "sim") rest c (two_files rest) after-sim (two-found rest c)
     (found-by name (codes "run") rest c (ran (waited rest)) after-run (run-found rest c)
-    (found-by name (codes "gen") rest c (one_count rest) None (gen-found rest c) (λ x. cc x)))))) e
+    (found-by name (codes "drive") rest c (driven (topped rest)) after-drive (drive-found rest c)
+    (found-by name (codes "gen") rest c (one_count rest) None (gen-found rest c) (λ x. cc x))))))) e
   where
+    after-drive : Option Command
+    after-drive = cond (bytes_eq name (codes "gen")) (one_count rest) None
+
     after-run : Option Command
-    after-run = cond (bytes_eq name (codes "gen")) (one_count rest) None
+    after-run = cond (bytes_eq name (codes "drive")) (driven (topped rest)) after-drive
 
     after-sim : Option Command
     after-sim = cond (bytes_eq name (codes "run")) (ran (waited rest)) after-run

@@ -3,7 +3,7 @@ use Rattle.std.specs.Prelude.{ℕ, Bool, false, not, ◌&&◌, ◌==◌, cond, b
 use Rattle.std.specs.List.{list_all}
 use Rattle.std.specs.Str.Parse.{digits_value}
 use Rattle.rdl_tree.specs.Words.{is_word}
-use Rattle.command_line.specs.Words.{Command, check, compile, gen_of, map_of, run_of, sim}
+use Rattle.command_line.specs.Words.{Command, check, compile, drive_of, gen_of, map_of, run_of, sim}
 
 -- the wait states, and the words behind them
 pub record Waited : Type 0 where
@@ -67,6 +67,15 @@ abbrev pub ran : Option Waited → Option Command
 ran None = None
 ran (Some w) = file_pair (run_of w.waits) (topped w.rest)
 
+-- a source and a script
+abbrev pub driven_by : (top : Option (List ℕ)) → List (List ℕ) → Option Command
+driven_by top (source ∷ script ∷ []) = cond (is_file source && is_file script) (Some (drive_of top source script)) None
+driven_by top _ = None
+
+abbrev pub driven : Option Topped → Option Command
+driven None = None
+driven (Some t) = driven_by t.top t.rest
+
 abbrev pub some_files : Option Topped → Option Command
 some_files None = None
 some_files (Some t) = cond (are_files t.rest) (Some (check t.top t.rest)) None
@@ -99,4 +108,5 @@ found_in (name ∷ rest) =
     (cond (bytes_eq name (codes "check")) (some_files (topped rest))
     (cond (bytes_eq name (codes "sim")) (two_files rest)
     (cond (bytes_eq name (codes "run")) (ran (waited rest))
-    (cond (bytes_eq name (codes "gen")) (one_count rest) None)))))
+    (cond (bytes_eq name (codes "drive")) (driven (topped rest))
+    (cond (bytes_eq name (codes "gen")) (one_count rest) None))))))

@@ -11,6 +11,7 @@ pub data Command : Type 0 where
   map_of : (top : Option (List ℕ)) (source : List ℕ) → Command
   sim : (verilog stimulus : List ℕ) → Command
   run_of : (waits : Option ℕ) (top : Option (List ℕ)) (source stimulus : List ℕ) → Command
+  drive_of : (top : Option (List ℕ)) (source script : List ℕ) → Command
   gen_of : (count : ℕ) → Command
 
 -- the wait states of a transfer: none, where no number is given
@@ -56,6 +57,7 @@ words_of (check top sources) = codes "check" ∷ top_words top ++ sources
 words_of (map_of top source) = codes "map" ∷ top_words top ++ source ∷ []
 words_of (sim verilog stimulus) = codes "sim" ∷ verilog ∷ stimulus ∷ []
 words_of (run_of waits top source stimulus) = codes "run" ∷ waits_words waits ++ top_words top ++ source ∷ stimulus ∷ []
+words_of (drive_of top source script) = codes "drive" ∷ top_words top ++ source ∷ script ∷ []
 words_of (gen_of count) = codes "gen" ∷ decimal count ∷ []
 
 -- what a command carries has its form
@@ -65,6 +67,7 @@ IsCommand (check top sources) = IsTop top × AreFileWords sources
 IsCommand (map_of top source) = IsTop top × IsFileWord source
 IsCommand (sim verilog stimulus) = IsFileWord verilog × IsFileWord stimulus
 IsCommand (run_of waits top source stimulus) = IsWaits waits × IsTop top × IsFileWord source × IsFileWord stimulus
+IsCommand (drive_of top source script) = IsTop top × IsFileWord source × IsFileWord script
 IsCommand (gen_of count) = (1 ≤ count) × (count ≤ 8192)
 
 -- the words ask for the command

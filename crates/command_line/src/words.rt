@@ -1,6 +1,6 @@
 //! The words of a command line.
 
-ghost use Rattle.std.specs.Prelude.{◌≡◌, MatchOption};
+ghost use Rattle.std.specs.Prelude.{◌≡◌, MatchOption, option_copied};
 ghost use Rattle.command_line.specs.Words.{Asks, AsksNothing, texts};
 ghost use Rattle.command_line.specs.Words as commands;
 ghost use Rattle.command_line.specs.Found as found;
@@ -39,6 +39,12 @@ pub enum Command<'w> {
         top: Option<&'w str>,
         source: &'w str,
         stimulus: &'w str,
+    },
+    /// A script played on the register machine that a source describes.
+    Drive {
+        top: Option<&'w str>,
+        source: &'w str,
+        script: &'w str,
     },
     /// A source of as many registers, 1 to 8,192.
     Gen {
@@ -143,6 +149,32 @@ fn run_of(words: &[String]) -> Option<Command<'_>>
     }
 }
 
+// The files of `drive`, behind the name of its top.
+fn drive_behind<'w>(top: Option<&'w str>, words: &'w [String]) -> Option<Command<'w>>
+    ensures { view_all result ≡ found.driven_by (option_copied top.entry) (texts words.now) }
+{
+    match words {
+        [source, script] if is_file(source.as_str()) && is_file(script.as_str()) => {
+            Some(Command::Drive {
+                top,
+                source: source.as_str(),
+                script: script.as_str(),
+            })
+        }
+        _ => None,
+    }
+}
+
+// The files of `drive`, with the name of the top.
+fn drive_of(words: &[String]) -> Option<Command<'_>>
+    ensures { view_all result ≡ found.driven (found.topped (texts words.now)) }
+{
+    match top_of(words) {
+        Some(topped) => drive_behind(topped.top, topped.rest),
+        None => None,
+    }
+}
+
 // The number of `gen`.
 fn gen_of(words: &[String]) -> Option<Command<'_>>
     ensures { view_all result ≡ found.one_count (texts words.now) }
@@ -178,6 +210,9 @@ fn named_by(words: &[String]) -> Option<Command<'_>>
     if name.as_str() == "run" {
         return run_of(rest);
     }
+    if name.as_str() == "drive" {
+        return drive_of(rest);
+    }
     if name.as_str() == "gen" {
         return gen_of(rest);
     }
@@ -185,7 +220,7 @@ fn named_by(words: &[String]) -> Option<Command<'_>>
 }
 
 /// The command of the words behind the program's name, if there is one: `compile` and `run` take `--waits` with 0 or 1 and then `--top` with
-/// a name, `check` and `map` take `--top`, and `gen` takes a number from 1 to 8,192 in decimal without leading zeros. All other words are none.
+/// a name, `check`, `map` and `drive` take `--top`, and `gen` takes a number from 1 to 8,192 in decimal without leading zeros. All other words are none.
 pub fn command_of(words: &[String]) -> Option<Command<'_>>
     ensures { MatchOption result (AsksNothing (texts words.now)) (λ command. Asks (texts words.now) (view command)) }
 {

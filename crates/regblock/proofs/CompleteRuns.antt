@@ -6,12 +6,12 @@ use Rattle.std.proofs.Common.{◌≡◌, ◌⊎◌, ⊎_elim, inl, inr, ℕ, tru
 use Rattle.rb_edge.specs.Count.{Rose}
 use Rattle.rb_edge.specs.Shelf.{Files, IsLonger}
 use Rattle.replies.specs.declared.status.Status.{Status}
-use Rattle.replies.specs.declared.status.Status.TheVariants.{Done, Refused, ReadFault, WriteFault, NoMemory, TooLong, BadVerilog, BadStimulus, Protocol}
-use Rattle.command_line.specs.Words.{Command, check, compile, map_of, sim, run_of, gen_of, waits_of, Asks}
+use Rattle.replies.specs.declared.status.Status.TheVariants.{Done, Refused, ReadFault, WriteFault, NoMemory, TooLong, BadVerilog, BadStimulus, Protocol, BadScript, Unmet}
+use Rattle.command_line.specs.Words.{Command, check, compile, map_of, sim, run_of, drive_of, gen_of, waits_of, Asks}
 use Rattle.command_line.proofs.Asking.{one-command}
 use Rattle.replies.specs.Outcome.{AreRead, AreVerdicts, StopsAt, Texts, Judges, Answers, Outcome, files_of, has_none, source_limit}
 use Rattle.replies.specs.Ends.{Passage, IsCutShort, Ends}
-use Rattle.regblock.specs.Complete.{AreAtHand, AreFit, CanBeDone, FitsBlock, IsComplete, IsFit}
+use Rattle.regblock.specs.Complete.{AreAtHand, AreFit, CanBeDone, FitsBlock, IsComplete, IsEnd, IsFit, IsScriptFor}
 use Rattle.replies.specs.Verdict.{BreaksNone, FailsFirst, IsVerdict, tree}
 use Rattle.rdl_verdict_laws.proofs.OneVerdict.{one, one_block}
 use Rattle.rdl_base.specs.declared.fault.Fault.{Fault}
@@ -94,6 +94,17 @@ fit_ran waits top file table source stimulus BadStimulus texts fit judged = absu
 fit_ran waits top file table source stimulus Protocol texts fit judged = absurd (machine.no_break judged.block stimulus judged.row (fits_each (waits_of waits) top source stimulus fit judged.tree judged.block judged.described) judged.breaks)
 fit_ran waits top file table source stimulus _ texts fit judged = absurd judged
 
+-- a script for the block of a source is played
+fit_driven : (top : Option (List ℕ)) (file script source bytes : List ℕ) (status : Status) (texts : Texts) → IsScriptFor top source bytes
+    → Judges (drive_of top file script) (source ∷ bytes ∷ []) status texts → (status ≡ Done) ⊎ (status ≡ Unmet)
+fit_driven top file script source bytes Done texts fit judged = inl refl
+fit_driven top file script source bytes Unmet texts fit judged = inr refl
+fit_driven top file script source bytes Refused texts fit judged = absurd (clean_source top source judged.place judged.rule fit.clean judged.fails)
+fit_driven top file script source bytes BadScript texts fit judged =
+    let steps = fit.script judged.tree judged.block judged.described in
+    let bad : Ok steps.0 ≡ Err judged.error = sym steps.1 ∙ judged.fails in absurd (cc bad)
+fit_driven top file script source bytes _ texts fit judged = absurd judged
+
 module _ (fails : NoModuleFails) where
   fit_run : (file table verilog stimulus : List ℕ) (status : Status) (texts : Texts) → IsFitTable verilog stimulus → Judges (sim file table) (verilog ∷ stimulus ∷ []) status texts → status ≡ Done
   fit_run file table verilog stimulus Done texts fit judged = refl
@@ -102,7 +113,7 @@ module _ (fails : NoModuleFails) where
   fit_run file table verilog stimulus _ texts fit judged = absurd judged
 
   fit_judged : (files : Files) (command : Command) (sources : List (List ℕ)) (status : Status) (texts : Texts)
-      → AreFit command files → AreRead (Some files) (files_of command) sources → Judges command sources status texts → status ≡ Done
+      → AreFit command files → AreRead (Some files) (files_of command) sources → Judges command sources status texts → IsEnd command status
   fit_judged files (compile waits top file) [] status texts fit read judged = absurd read
   fit_judged files (compile waits top file) (source ∷ a ∷ more) status texts fit read judged = absurd read.1
   fit_judged files (compile waits top file) (source ∷ []) Done texts fit read judged = refl
@@ -123,19 +134,23 @@ module _ (fails : NoModuleFails) where
   fit_judged files (run_of waits top file table) (source ∷ []) status texts fit read judged = absurd read.1
   fit_judged files (run_of waits top file table) (source ∷ stimulus ∷ []) status texts fit read judged = fit_ran waits top file table source stimulus status texts (fit source stimulus read.0.held read.1.0.held) judged
   fit_judged files (run_of waits top file table) (source ∷ stimulus ∷ a ∷ more) status texts fit read judged = absurd read.1.1
+  fit_judged files (drive_of top file script) [] status texts fit read judged = absurd read
+  fit_judged files (drive_of top file script) (source ∷ []) status texts fit read judged = absurd read.1
+  fit_judged files (drive_of top file script) (source ∷ bytes ∷ []) status texts fit read judged = fit_driven top file script source bytes status texts (fit source bytes read.0.held read.1.0.held) judged
+  fit_judged files (drive_of top file script) (source ∷ bytes ∷ a ∷ more) status texts fit read judged = absurd read.1.1
   fit_judged files (gen_of count) [] Done texts fit read judged = refl
   fit_judged files (gen_of count) [] Refused texts fit read judged = absurd (clean_source None (source_of count) judged.place judged.rule fit judged.fails)
   fit_judged files (gen_of count) [] _ texts fit read judged = absurd judged
   fit_judged files (gen_of count) (a ∷ more) status texts fit read judged = absurd read
 
   fit_answers : (files : Files) (failed : List ℕ → Type 0) (command : Command) (status : Status) (texts : Texts)
-      → AreAtHand files failed (files_of command) → AreFit command files → Answers (Some files) failed command status texts → status ≡ Done
+      → AreAtHand files failed (files_of command) → AreFit command files → Answers (Some files) failed command status texts → IsEnd command status
   fit_answers files failed command ReadFault texts hand fit answers = absurd (read_fault_stops files failed (files_of command) _ hand answers)
   fit_answers files failed command TooLong texts hand fit answers = absurd (too_long_stops files failed (files_of command) _ hand answers)
   fit_answers files failed command status texts hand fit answers = fit_judged files command answers.0 status texts fit answers.1 answers.2
 
   fit_outcome : (words : List (List ℕ)) (files : Files) (failed : List ℕ → Type 0) (command : Command) (status : Status) (texts : Texts)
-      → Asks words command → AreAtHand files failed (files_of command) → AreFit command files → Outcome words (Some files) failed status texts → status ≡ Done
+      → Asks words command → AreAtHand files failed (files_of command) → AreFit command files → Outcome words (Some files) failed status texts → IsEnd command status
   fit_outcome words files failed command status texts asked hand fit is = ⊎_elim
       (λ asks. let P : Command → Type 0 = λ c. Answers (Some files) failed c status texts in
       fit_answers files failed command status texts hand fit (subst P (one-command words asks.0 command asks.1 asked) asks.2))
@@ -145,7 +160,7 @@ module _ (fails : NoModuleFails) where
   no_cut err out texts e o cut = ⊎_elim (λ first. e first.0.1) (λ second. o second.1.1) cut
 
   ends_done : (words : List (List ℕ)) (files : Files) (failed : List ℕ → Type 0) (err out : Passage) (status : Status) (command : Command)
-      → CanBeDone words files failed err out command → Ends (Outcome words (Some files) failed) err out status → (status ≡ Done) ⊎ (status ≡ NoMemory)
+      → CanBeDone words files failed err out command → Ends (Outcome words (Some files) failed) err out status → IsEnd command status ⊎ (status ≡ NoMemory)
   ends_done words files failed err out NoMemory command can ends = inr refl
   ends_done words files failed err out WriteFault command can ends = absurd (no_cut err out ends.1 can.err_unharmed can.out_unharmed ends.3)
   ends_done words files failed err out status command can ends = inl (fit_outcome words files failed command status ends.0 can.asked can.at_hand can.fit ends.1)

@@ -1,6 +1,7 @@
 mod Asked
 mod Causes
 mod CompleteRuns
+mod Drives
 mod Headlines
 mod MachineRuns
 mod Simulations

@@ -1,4 +1,5 @@
 pub mod Complete
+pub mod Drives
 pub mod Generated
 pub mod Headline
 pub mod MachineRuns

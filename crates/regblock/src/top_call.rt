@@ -1,15 +1,16 @@
 //! The top call.
 
-ghost use Rattle.std.specs.Prelude.{◌≡◌, ◌⊎◌, ◌≤◌, List, Option, ℕ};
+ghost use Rattle.std.specs.Prelude.{◌≡◌, ◌⊎◌, ◌<◌, ◌≤◌, List, Option, ℕ};
 ghost use Rattle.rb_edge.specs.Count.{Rose};
 ghost use Rattle.rb_edge.specs.Shelf.{IsLonger};
-ghost use Rattle.command_line.specs.Words.{texts, Command, check, compile, map_of, sim, run_of, gen_of, waits_of, Asks, AsksNothing};
+ghost use Rattle.command_line.specs.Words.{texts, Command, check, compile, map_of, sim, run_of, drive_of, gen_of, waits_of, Asks, AsksNothing};
 ghost use Rattle.replies.specs.Outcome.{FailedRead, Outcome, StopsAt, files_of};
 ghost use Rattle.replies.specs.Ends.{Ends, passage};
 ghost use Rattle.regblock.specs.Complete.{IsComplete};
 ghost use Rattle.regblock.specs.Headline.{AreToldVerdicts, IsRight, IsTable, IsToldFailure};
 ghost use Rattle.regblock.specs.Simulations.{IsRun, IsToldVerilog, IsToldStimulus};
 ghost use Rattle.regblock.specs.MachineRuns.{IsMachineRun, IsToldUnfit, IsToldBreak};
+ghost use Rattle.regblock.specs.Drives.{IsDriven, IsToldScript};
 ghost use Rattle.regblock.specs.Generated.{IsSizedSource};
 
 use rb_edge::{Shelf, Sink};
@@ -57,6 +58,16 @@ pub fn run<S: Shelf, O: Sink, E: Sink>(
         → IsToldUnfit (S.contents shelf.old) (waits_of waits) top file table (passage E.told E.faults err.old err.new) (passage O.told O.faults out.old out.new) }
     ensures protocol { (waits : Option ℕ) (top : Option (List ℕ)) (file table : List ℕ) → Asks (texts words.now) (run_of waits top file table) → result ≡ Status.Protocol
         → IsToldBreak (S.contents shelf.old) (waits_of waits) top file table (passage E.told E.faults err.old err.new) (passage O.told O.faults out.old out.new) }
+
+    // A transcript that was written is what the script sees of the machine of the block that the source describes, and of its modules.
+    ensures driven { (top : Option (List ℕ)) (file script : List ℕ) → Asks (texts words.now) (drive_of top file script) → result ≡ Status.Done
+        → IsDriven (S.contents shelf.old) top file script 0 (passage E.told E.faults err.old err.new) (passage O.told O.faults out.old out.new) }
+    ensures unmet { (top : Option (List ℕ)) (file script : List ℕ) → Asks (texts words.now) (drive_of top file script) → result ≡ Status.Unmet
+        → (failed : ℕ) × (0 < failed) × IsDriven (S.contents shelf.old) top file script failed (passage E.told E.faults err.old err.new) (passage O.told O.faults out.old out.new) }
+    ensures undriven { (top : Option (List ℕ)) (file script : List ℕ) → Asks (texts words.now) (drive_of top file script) → result ≡ Status.Refused
+        → IsToldFailure (S.contents shelf.old) top file (passage E.told E.faults err.old err.new) (passage O.told O.faults out.old out.new) }
+    ensures bad_script { (top : Option (List ℕ)) (file script : List ℕ) → Asks (texts words.now) (drive_of top file script) → result ≡ Status.BadScript
+        → IsToldScript (S.contents shelf.old) top file script (passage E.told E.faults err.old err.new) (passage O.told O.faults out.old out.new) }
 
     // A source that was made has its size and breaks no rule, and its summary has the length of a module of it.
     ensures generated { (count : ℕ) → Asks (texts words.now) (gen_of count) → result ≡ Status.Done

@@ -1,6 +1,7 @@
 -- The rows of the outcome, at a status that is known by an equation.
-use Rattle.std.proofs.Common.{◌≡◌, ◌⊎◌, ⊎_elim, ℕ, Bool, true, false, cond, List, [], ◌∷◌, append-nil, codes, take, Option, None, refl, sym, ◌∙◌, ap, subst}
+use Rattle.std.proofs.Common.{◌≡◌, ◌⊎◌, ⊎_elim, ℕ, zero, suc, ◌==◌, ◌<◌, Bool, true, false, cond, List, [], ◌∷◌, append-nil, codes, take, Option, None, Err, refl, sym, ◌∙◌, ap, subst, arith}
 use Rattle.std.specs.List.{list_all}
+use Rattle.std.proofs.lemmas.Bool.{eqb-true}
 use Rattle.rdl_base.specs.declared.fault.Fault.{Fault}
 use Rattle.rdl_verdict.specs.Answers as verdict
 use Rattle.verdict_text.specs.Lines.{rule_line, verdict_lines}
@@ -9,9 +10,9 @@ use Rattle.sim_run.specs.Simulated.{IsSimulated, IsProblem}
 use Rattle.v_syntax.specs.Failing.{Fails}
 use Rattle.v_syntax.specs.declared.error.VError.{VError}
 use Rattle.replies.specs.declared.status.Status.{Status}
-use Rattle.replies.specs.declared.status.Status.TheVariants.{Done, Refused, ReadFault, WriteFault, NoMemory, TooLong, BadVerilog, BadStimulus, Protocol}
-use Rattle.replies.specs.Text.{cannot_read, too_long, verilog_line, stimulus_line, protocol_line}
-use Rattle.command_line.specs.Words.{Command, check, compile, map_of, sim, run_of, gen_of, waits_of}
+use Rattle.replies.specs.declared.status.Status.TheVariants.{Done, Refused, ReadFault, WriteFault, NoMemory, TooLong, BadVerilog, BadStimulus, Protocol, BadScript, Unmet}
+use Rattle.replies.specs.Text.{cannot_read, too_long, verilog_line, stimulus_line, protocol_line, script_line}
+use Rattle.command_line.specs.Words.{Command, check, compile, map_of, sim, run_of, drive_of, gen_of, waits_of}
 use Rattle.rb_model.specs.declared.block.Block.{Block}
 use Rattle.rdl_tree.specs.declared.item.Source.{Source}
 use Rattle.replies.specs.Verdict.{IsDescribedWith}
@@ -19,7 +20,10 @@ use Rattle.machine_run.specs.Runs.{IsBreak}
 use Rattle.machine_run.specs.Runs as machine
 use Rattle.command_line.specs.Source.{source_of}
 use Rattle.replies.specs.RunAnswer.{IsRunAnswer}
-use Rattle.replies.specs.Outcome.{IsMapped, IsRefused, IsRunText, AreRead, StopsAt, Texts, IsNotice, Judges, Answers, Outcome, files_of, has_none}
+use Rattle.drive_lang.specs.declared.error.DriveError.{DriveError}
+use Rattle.drive_lang.specs.Scripts.{script_of}
+use Rattle.replies.specs.DriveAnswer.{IsDriveAnswer, status_of_checks}
+use Rattle.replies.specs.Outcome.{IsDriveText, IsMapped, IsRefused, IsRunText, AreRead, StopsAt, Texts, IsNotice, Judges, Answers, Outcome, files_of, has_none}
 use Rattle.replies.specs.Ends.{Passage, TookAll, IsCutShort, Ends}
 
 -- the first failure of a verdict, told alone
@@ -102,6 +106,39 @@ pub IsRunAnswer-broken : (b : Block) (table stimulus : List ℕ) (row : ℕ) (st
 IsRunAnswer-broken b table stimulus row status texts is breaks told =
     let P : Status → Type 0 = λ s. IsRunAnswer b table stimulus s texts in subst P (sym is) (row, breaks, told)
 
+-- what a script sees of the machine of a block, where the first file of `drive` describes the block
+pub Judges-driven : (top : Option (List ℕ)) (file script source bytes : List ℕ) (tree : Source) (block : Block) (status : Status) (texts : Texts)
+    → IsDescribedWith top source tree 0 block → IsDriveAnswer block script bytes status texts → Judges (drive_of top file script) (source ∷ bytes ∷ []) status texts
+Judges-driven top file script source bytes tree block Done texts d a = record { tree = tree; block = block; described = d; text = a.0; quiet = a.1 }
+Judges-driven top file script source bytes tree block Unmet texts d a = (a.0, a.1, record { tree = tree; block = block; described = d; text = a.2; quiet = a.3 })
+Judges-driven top file script source bytes tree block BadScript texts d a = record { tree = tree; block = block; described = d; error = a.0; fails = a.1; told = a.2 }
+Judges-driven top file script source bytes tree block _ texts d a = absurd a
+
+pub Judges-not_driven : (top : Option (List ℕ)) (file script source bytes : List ℕ) (status : Status) (texts : Texts)
+    → status ≡ Refused → IsRefused top file source texts → Judges (drive_of top file script) (source ∷ bytes ∷ []) status texts
+Judges-not_driven top file script source bytes status texts is refused =
+    let P : Status → Type 0 = λ s. Judges (drive_of top file script) (source ∷ bytes ∷ []) s texts in
+    subst P (sym is) refused
+
+-- what a script saw, and its first error
+pub IsDriveAnswer-seen : (b : Block) (file bytes : List ℕ) (failed : ℕ) (status : Status) (texts : Texts)
+    → status ≡ status_of_checks failed → IsDriveText b bytes texts.out failed → texts.err ≡ [] → IsDriveAnswer b file bytes status texts
+IsDriveAnswer-seen b file bytes failed status texts is text quiet =
+    let P : Status → Type 0 = λ s. IsDriveAnswer b file bytes s texts in subst P (sym is) (by (failed == 0) refl)
+  where
+    by : (c : Bool) → (failed == 0) ≡ c → IsDriveAnswer b file bytes (cond c Done Unmet) texts
+    by true e = (subst (IsDriveText b bytes texts.out) (eqb-true failed 0 e) text, quiet)
+    by false e = (failed, some failed e, text, quiet)
+      where
+        some : (n : ℕ) → (n == 0) ≡ false → 0 < n
+        some zero e = cc e
+        some (suc n) e = omega arith
+
+pub IsDriveAnswer-bad : (b : Block) (file bytes : List ℕ) (error : DriveError) (status : Status) (texts : Texts)
+    → status ≡ BadScript → script_of b bytes ≡ Err error → IsNotice texts (script_line file error) → IsDriveAnswer b file bytes status texts
+IsDriveAnswer-bad b file bytes error status texts is fails told =
+    let P : Status → Type 0 = λ s. IsDriveAnswer b file bytes s texts in subst P (sym is) (error, fails, told)
+
 -- the source that `gen` makes breaks a rule
 pub Judges-not_generated : (count : ℕ) (status : Status) (texts : Texts)
     → status ≡ Refused → IsRefused None (codes "gen") (source_of count) texts → Judges (gen_of count) [] status texts
@@ -115,6 +152,8 @@ is_judged Refused = true
 is_judged BadVerilog = true
 is_judged BadStimulus = true
 is_judged Protocol = true
+is_judged BadScript = true
+is_judged Unmet = true
 is_judged _ = false
 
 check_judged : (t : Bool) (status : Status) → status ≡ cond t Done Refused → is_judged status ≡ true
@@ -148,6 +187,14 @@ only_judged (run_of waits top file table) (a ∷ b ∷ []) BadStimulus texts j =
 only_judged (run_of waits top file table) (a ∷ b ∷ []) Protocol texts j = refl
 only_judged (run_of waits top file table) (a ∷ b ∷ []) _ texts j = absurd j
 only_judged (run_of waits top file table) (a ∷ b ∷ c ∷ more) status texts j = absurd j
+only_judged (drive_of top file script) [] status texts j = absurd j
+only_judged (drive_of top file script) (a ∷ []) status texts j = absurd j
+only_judged (drive_of top file script) (a ∷ b ∷ []) Done texts j = refl
+only_judged (drive_of top file script) (a ∷ b ∷ []) Refused texts j = refl
+only_judged (drive_of top file script) (a ∷ b ∷ []) BadScript texts j = refl
+only_judged (drive_of top file script) (a ∷ b ∷ []) Unmet texts j = refl
+only_judged (drive_of top file script) (a ∷ b ∷ []) _ texts j = absurd j
+only_judged (drive_of top file script) (a ∷ b ∷ c ∷ more) status texts j = absurd j
 only_judged (gen_of count) [] Done texts j = refl
 only_judged (gen_of count) [] Refused texts j = refl
 only_judged (gen_of count) [] _ texts j = absurd j

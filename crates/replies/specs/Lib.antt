@@ -1,6 +1,7 @@
 pub mod Answer
 pub mod Checked
 pub mod Described
+pub mod DriveAnswer
 pub mod Ends
 pub mod Loaded
 pub mod Outcome

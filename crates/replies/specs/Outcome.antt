@@ -1,5 +1,5 @@
 -- Which status and which texts belong to the words of a command line and the files that they name.
-use Rattle.std.specs.Prelude.{◌≡◌, ◌⊎◌, ℕ, ◌≤◌, Bool, true, false, cond, List, [], ◌∷◌, ◌++◌, codes, length, map, Option, None, ⊤}
+use Rattle.std.specs.Prelude.{◌≡◌, ◌⊎◌, ℕ, ◌<◌, ◌≤◌, Bool, true, false, cond, List, [], ◌∷◌, ◌++◌, codes, length, map, Option, None, Err, ⊤}
 use Rattle.std.specs.List.{list_all}
 use Rattle.rb_edge.specs.Count.{Rose, raised}
 use Rattle.rb_edge.specs.Shelf.{Files, Holds, IsLonger}
@@ -10,15 +10,19 @@ use Rattle.rdl_tree.specs.declared.item.Source.{Source}
 use Rattle.rdl_verdict.specs.Verdict.{IsVerdict}
 use Rattle.report_text.specs.Lines.{address_lines}
 use Rattle.verdict_text.specs.Lines.{ok_line, rule_line, verdict_lines}
-use Rattle.command_line.specs.Words.{Command, check, compile, map_of, sim, run_of, gen_of, waits_of, Asks, AsksNothing}
+use Rattle.command_line.specs.Words.{Command, check, compile, map_of, sim, run_of, drive_of, gen_of, waits_of, Asks, AsksNothing}
 use Rattle.replies.specs.declared.status.Status.{Status}
-use Rattle.replies.specs.declared.status.Status.TheVariants.{Done, Refused, Usage, ReadFault, TooLong, BadVerilog, BadStimulus, Protocol}
-use Rattle.replies.specs.Text.{cannot_read, too_long, verilog_line, stimulus_line, protocol_line, usage}
+use Rattle.replies.specs.declared.status.Status.TheVariants.{Done, Refused, Usage, ReadFault, TooLong, BadVerilog, BadStimulus, Protocol, BadScript, Unmet}
+use Rattle.replies.specs.Text.{cannot_read, too_long, verilog_line, stimulus_line, protocol_line, script_line, usage}
 use Rattle.replies.specs.Verdict.{FailsFirst, IsDescribedWith}
 use Rattle.sim_run.specs.Simulated.{IsSimulated, IsProblem}
 use Rattle.machine_run.specs.Runs.{IsRunOf, IsBreak}
 use Rattle.machine_run.specs.Runs as machine
 use Rattle.command_line.specs.Source.{source_of, summary_of}
+use Rattle.drive_lang.specs.declared.error.DriveError.{DriveError}
+use Rattle.drive_lang.specs.Scripts.{script_of}
+use Rattle.drive_run.specs.Modules.{IsSeenOf}
+use Rattle.drive_run.specs.Playing.{IsTranscriptOf}
 use Rattle.v_syntax.specs.Failing.{Fails}
 use Rattle.v_syntax.specs.declared.error.VError.{VError}
 use Rattle.rb_base.specs.declared.place.Place.{Place}
@@ -37,7 +41,7 @@ IsNotice texts line = (texts.err ≡ line) × (texts.out ≡ [])
 abbrev pub FailedRead : {S : Type 0} → (S → List ℕ → ℕ) → S → S → List ℕ → Type 0
 FailedRead faults old new name = Rose (faults old name) (faults new name)
 
--- the most bytes that a source or a table of pin values may have, and a module
+-- the most bytes that a source, a table of pin values or a script may have, and a module
 abbrev pub source_limit : ℕ
 source_limit = 8388608
 
@@ -51,6 +55,7 @@ files_of (check top sources) = map (λ source. (source, source_limit)) sources
 files_of (map_of top source) = (source, source_limit) ∷ []
 files_of (sim verilog stimulus) = (verilog, verilog_limit) ∷ (stimulus, source_limit) ∷ []
 files_of (run_of waits top source stimulus) = (source, source_limit) ∷ (stimulus, source_limit) ∷ []
+files_of (drive_of top source script) = (source, source_limit) ∷ (script, source_limit) ∷ []
 files_of (gen_of count) = []
 
 -- the file was read whole
@@ -167,6 +172,28 @@ pub record IsBroken (waits : ℕ) (top : Option (List ℕ)) (source file stimulu
   pub breaks : IsBreak block stimulus row
   pub told : IsNotice texts (protocol_line file row)
 
+-- the text is what a script sees of a block's machine, of which so many checks failed, and what it sees of each module of the block
+pub record IsDriveText (b : Block) (bytes text : List ℕ) (failed : ℕ) : Type 0 where
+  pub seen : IsTranscriptOf b bytes text failed
+  pub of_modules : (verilog : List ℕ) → Agrees verilog b → IsSeenOf b verilog bytes text failed
+
+-- the source breaks no rule, and on out is what the script sees of its block's machine, of which so many checks failed
+pub record IsDriven (top : Option (List ℕ)) (source bytes : List ℕ) (failed : ℕ) (texts : Texts) : Type 0 where
+  pub tree : Source
+  pub block : Block
+  pub described : IsDescribedWith top source tree 0 block
+  pub text : IsDriveText block bytes texts.out failed
+  pub quiet : texts.err ≡ []
+
+-- it breaks none, and on err is the line of the script's first error for its block
+pub record IsBadScript (top : Option (List ℕ)) (source file bytes : List ℕ) (texts : Texts) : Type 0 where
+  pub tree : Source
+  pub block : Block
+  pub described : IsDescribedWith top source tree 0 block
+  pub error : DriveError
+  pub fails : script_of block bytes ≡ Err error
+  pub told : IsNotice texts (script_line file error)
+
 -- the length of some module of the block, or the greatest count of 64 bits where the module is longer
 pub record IsModuleLength (b : Block) (bytes : ℕ) : Type 0 where
   pub text : List ℕ
@@ -198,6 +225,10 @@ Judges (run_of waits top file table) (source ∷ stimulus ∷ []) Done texts = I
 Judges (run_of waits top file table) (source ∷ stimulus ∷ []) Refused texts = IsRefused top file source texts
 Judges (run_of waits top file table) (source ∷ stimulus ∷ []) BadStimulus texts = IsUnfit (waits_of waits) top source table stimulus texts
 Judges (run_of waits top file table) (source ∷ stimulus ∷ []) Protocol texts = IsBroken (waits_of waits) top source table stimulus texts
+Judges (drive_of top file script) (source ∷ bytes ∷ []) Done texts = IsDriven top source bytes 0 texts
+Judges (drive_of top file script) (source ∷ bytes ∷ []) Unmet texts = (failed : ℕ) × (0 < failed) × IsDriven top source bytes failed texts
+Judges (drive_of top file script) (source ∷ bytes ∷ []) BadScript texts = IsBadScript top source script bytes texts
+Judges (drive_of top file script) (source ∷ bytes ∷ []) Refused texts = IsRefused top file source texts
 Judges (gen_of count) [] Done texts = IsGenerated count texts
 Judges (gen_of count) [] Refused texts = IsRefused None (codes "gen") (source_of count) texts
 Judges _ _ _ _ = ⊥

@@ -8,6 +8,7 @@ ghost use Rattle.replies.specs.Reply.{HasText, IsPrintable, status_of, told_by};
 use crate::answer::{Reply, usage_answer};
 use crate::checking::check_files;
 use crate::compiling::{compile_file, map_file};
+use crate::driving::drive_files;
 use crate::generating::generate;
 use crate::running::run_files;
 use crate::simulating::simulate_files;
@@ -47,6 +48,13 @@ pub fn answer_words<S: Shelf>(
                 stimulus,
             },
         ) => Ok(Reply::Text(run_files(alloc, shelf, waits, top, source, stimulus)?)),
+        Some(
+            Command::Drive {
+                top,
+                source,
+                script,
+            },
+        ) => Ok(Reply::Text(drive_files(alloc, shelf, top, source, script)?)),
         Some(Command::Gen { count }) => Ok(Reply::Text(generate(alloc, count)?)),
         None => Ok(Reply::Text(usage_answer(alloc)?)),
     }

@@ -6,6 +6,7 @@ mod checking;
 mod commands;
 mod compiling;
 mod describing;
+mod driving;
 mod generating;
 mod loading;
 mod modules;

@@ -10,7 +10,7 @@ use rb_base::NoMemory;
 use rb_edge::{LoadError, Shelf, load};
 use std::alloc::Global;
 
-/// The most bytes that a source or a table of pin values may have.
+/// The most bytes that a source, a table of pin values or a script may have.
 pub(crate) const SOURCE_LIMIT: u32 = 8_388_608;
 
 /// The most bytes that a module may have.

@@ -1,6 +1,6 @@
 ghost use Rattle.std.specs.Prelude.{◌≡◌};
 
-/// How a run ends. The texts that go with each are written on err, but for `Done`, whose text is on out.
+/// How a run ends. The texts that go with each are written on err, but for `Done` and `Unmet`, whose text is on out.
 #[derive(Clone, Copy, Debug, PartialEq, Eq)]
 pub enum Status {
     /// All that was asked for is written.
@@ -23,12 +23,16 @@ pub enum Status {
     BadStimulus,
     /// A row of pin values breaks the bus protocol.
     Protocol,
+    /// A file is no script for the block of a source.
+    BadScript,
+    /// A check of a script failed. What the script saw is on out, and nothing on err.
+    Unmet,
 }
 
 impl Status {
     ghost use Rattle.replies.specs.Status.{number_of};
 
-    /// The exit status of the process, 0 to 9. It takes no memory.
+    /// The exit status of the process, 0 to 9, 11 or 12. It takes no memory.
     pub fn number(self) -> u8
         ensures { result ≡ number_of self }
     {
@@ -43,6 +47,8 @@ impl Status {
             Status::BadVerilog => 7,
             Status::BadStimulus => 8,
             Status::Protocol => 9,
+            Status::BadScript => 11,
+            Status::Unmet => 12,
         }
     }
 }

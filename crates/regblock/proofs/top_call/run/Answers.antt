@@ -4,6 +4,7 @@ use Rattle.regblock.proofs.Causes.{usage_cause, read_fault_cause, too_long_cause
 use Rattle.regblock.proofs.Headlines.{checked, done, mapped, refused, unmapped}
 use Rattle.v_reader.proofs.Verdicts.{no_module}
 use Rattle.regblock.proofs.Simulations.{simulated, bad_verilog, bad_stimulus}
+use Rattle.regblock.proofs.Drives.{bad_script, driven, undriven, unmet}
 use Rattle.regblock.proofs.MachineRuns.{ran, not_run, unfit, protocol, generated}
 use Rattle.regblock.proofs.top_call.run.Goals as goal
 
@@ -60,6 +61,18 @@ returns-in-Ok-clause-unfit g c = unfit _ _ _ _ _ _ (returns-in-Ok-clause-ends g 
 
 pub returns-in-Ok-clause-protocol : goal.returns-in-Ok-clause-protocol
 returns-in-Ok-clause-protocol g c = protocol _ _ _ _ _ _ (returns-in-Ok-clause-ends g c)
+
+pub returns-in-Ok-clause-driven : goal.returns-in-Ok-clause-driven
+returns-in-Ok-clause-driven g c = driven _ _ _ _ _ _ (returns-in-Ok-clause-ends g c)
+
+pub returns-in-Ok-clause-unmet : goal.returns-in-Ok-clause-unmet
+returns-in-Ok-clause-unmet g c = unmet _ _ _ _ _ _ (returns-in-Ok-clause-ends g c)
+
+pub returns-in-Ok-clause-undriven : goal.returns-in-Ok-clause-undriven
+returns-in-Ok-clause-undriven g c = undriven _ _ _ _ _ _ (returns-in-Ok-clause-ends g c)
+
+pub returns-in-Ok-clause-bad_script : goal.returns-in-Ok-clause-bad_script
+returns-in-Ok-clause-bad_script g c = bad_script _ _ _ _ _ _ (returns-in-Ok-clause-ends g c)
 
 pub returns-in-Ok-clause-generated : goal.returns-in-Ok-clause-generated
 returns-in-Ok-clause-generated g c = generated _ _ _ _ _ _ (returns-in-Ok-clause-ends g c)

@@ -1,0 +1,9 @@
+pub mod Answers
+pub mod Lines
+pub mod Meanings
+pub mod Orders
+pub mod Playing
+pub mod Rising
+pub mod Scripts
+pub mod Verbs
+pub mod Words

@@ -1,0 +1,2 @@
+pub mod Narrow
+mod Tables
