@@ -6,6 +6,7 @@ use Rattle.std.proofs.lemmas.Option.{same_Some}
 use Rattle.rb_model.specs.declared.block.Field.{Field}
 use Rattle.rb_model.specs.Items.{is_interrupt}
 use Rattle.block_plan.specs.Plan.{is_member, members_among}
+use Rattle.plain_lemmas.proofs.Numbers.{eq-itself as same_true}
 
 later : (xs : List ℕ) (x k : ℕ) → Contains xs k → Contains (x ∷ xs) k
 later xs x k (h, low, is) = (suc h, omega (arith, low), is)
@@ -28,9 +29,6 @@ listed_from n (g ∷ fields) r (suc k) f here t =
     let z : n + 1 + k ≡ n + suc k = omega arith in
     let rest : Contains (map (λ (e : ℕ × Field). e.0) (filter (is_member r) (enumerate_from (n + 1) fields))) (n + 1 + k) = listed_from (n + 1) fields r k f here (ap (λ m. is_member r (m, f)) z ∙ t) in
     kept_later (is_member r (n, g)) (n, g) (filter (is_member r) (enumerate_from (n + 1) fields)) (n + suc k) (subst (Contains (map (λ (e : ℕ × Field). e.0) (filter (is_member r) (enumerate_from (n + 1) fields)))) z rest)
-
-same_true : (m : ℕ) → (m == m) ≡ true
-same_true m = grind arith
 
 -- an interrupt is listed for its register
 pub member_listed : (fields : List Field) (k : ℕ) (f : Field) → slice_get fields k ≡ Some f → is_interrupt f.latch ≡ true → Contains (members_among fields f.reg) k

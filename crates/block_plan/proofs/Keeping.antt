@@ -4,7 +4,7 @@ use Rattle.rb_model.specs.declared.block.Field.{Field}
 use Rattle.rb_model.specs.Kept.{Kept}
 use Rattle.block_plan.specs.declared.kept.FieldKept.{FieldKept}
 use Rattle.block_plan.specs.Kept.{AreFieldKept, IsKeptAt}
-use Rattle.block_plan.proofs.Pairing.{front}
+use Rattle.plain_lemmas.proofs.Lists.{get-front_of as front}
 
 pub stays_at : (all more : List Kept) (is_kept : Bool) (k : Kept) (place : Option ℕ) → IsKeptAt all is_kept k place → IsKeptAt (all ++ more) is_kept k place
 stays_at all more is_kept k None h = h

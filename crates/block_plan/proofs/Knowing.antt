@@ -13,7 +13,7 @@ use Rattle.rb_model.proofs.InputPins.{input_names_apart}
 use Rattle.block_plan.specs.declared.places.Places.{Places}
 use Rattle.block_plan.specs.Places.{AreKnown, ArePlaces, Known, known_at}
 use Rattle.block_plan.specs.Plan.{IsPlaceOf}
-use Rattle.block_plan.proofs.Pairing.{front, last}
+use Rattle.plain_lemmas.proofs.Lists.{get-front_of as front, get-last as last}
 
 -- elements of a list that got one more
 front_or_last : {X : Type 0} (xs : List X) (x y : X) (k : ℕ) → slice_get (xs ++ x ∷ []) k ≡ Some y → (slice_get xs k ≡ Some y) ⊎ ((k ≡ length xs) × (x ≡ y))

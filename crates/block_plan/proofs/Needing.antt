@@ -22,6 +22,7 @@ use Rattle.block_plan.specs.Table.{item_place}
 use Rattle.block_plan.specs.Wanted.{Adds, AreIn, IsClosed, IsMore, is_wanted}
 use Rattle.block_plan.specs.Lines.{has_line, line_mask}
 use Rattle.block_plan.specs.Needs.{line_item, member_refs}
+use Rattle.plain_lemmas.proofs.Numbers.{below_next-same_or as last_or_before, same_or_above}
 
 pub IsMore-refl : (w : List Bool) → IsMore w w
 IsMore-refl w = record { long = refl; more = λ i h. h }
@@ -106,12 +107,6 @@ pub members_added : (b : Block) (halt : Bool) (r i : ℕ) (ks : List ℕ) (u v :
 members_added b halt r i ks u v past e h = subst (Adds u v) (ap (flat_map (member_at b halt)) (take_all i ks past ∙ e) ∙ line_is b halt r) h
 
 -- What all outputs, fields or views need
-
-last_or_before : (k end : ℕ) → k < end + 1 → (k ≡ end) ⊎ (k < end)
-last_or_before k end l = grind arith
-
-same_or_above : (p k : ℕ) → p ≤ k → (k ≡ p) ⊎ (p + 1 ≤ k)
-same_or_above p k l = grind arith
 
 -- the first of these have what they need
 pub record NeedsTo {X : Type 0} (f : ℕ → X → List RefItem) (xs : List X) (u w : List Bool) (end : ℕ) : Type 0 where

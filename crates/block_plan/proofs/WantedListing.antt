@@ -11,9 +11,7 @@ use Rattle.rb_model.specs.References.{Each, StandsBefore, refs}
 use Rattle.rb_model.specs.Sound.{IsSound}
 use Rattle.rb_model.proofs.Eachs.{Each-both, Each-weaker}
 use Rattle.block_plan.specs.Wanted.{AreInOrder, IsClosed, is_wanted}
-
-last_or_before : (k end : ℕ) → k < end + 1 → (k ≡ end) ⊎ (k < end)
-last_or_before k end l = grind arith
+use Rattle.plain_lemmas.proofs.Numbers.{below_next-same_or as last_or_before}
 
 -- an item that stands in the order is the block's
 pub ordered_among : (b : Block) → IsSound b → (k : ℕ) (i : RefItem) → slice_get b.order k ≡ Some i → Contains (items b) i

@@ -1,6 +1,6 @@
 -- Compiled expressions have the values of expressions.
 use Rattle.std.specs.List.{AllByRecursion}
-use Rattle.std.proofs.Common.{◌≡◌, ℕ, ◌+◌, ◌-◌, ◌^◌, ◌<◌, ◌≤◌, ◌==◌, Bool, true, false, ◌&&◌, nat_le, Option, Some, None, IsSome, List, [], ◌∷◌, ◌++◌, length, get_or, refl, ap, sym, subst, ◌∙◌, append_assoc, length-append, arith}
+use Rattle.std.proofs.Common.{◌≡◌, ℕ, ◌+◌, ◌-◌, ◌^◌, ◌<◌, ◌≤◌, ◌==◌, Bool, true, false, ◌&&◌, nat_le, Option, Some, IsSome, List, [], ◌∷◌, ◌++◌, length, get_or, refl, ap, sym, subst, ◌∙◌, append_assoc, length-append, arith}
 use Rattle.std.proofs.lemmas.List.{append-nil}
 use Rattle.std.proofs.lemmas.Bool.Decides.{nat_tests}
 use Rattle.std.proofs.lemmas.Map.Views.{exact_unsigned_eq}
@@ -10,7 +10,7 @@ use Rattle.v_design.specs.declared.design.VOne.{VOne}
 use Rattle.v_design.specs.declared.design.VTwo.{VTwo}
 use Rattle.v_design.specs.declared.design.VTwo.TheVariants.{Add, Sub, And, Or, Xor, Eq, Ne, Lt, Le, Gt, Ge}
 use Rattle.v_design.specs.Expr as expr
-use Rattle.v_design.specs.Expr.{Expr, Exprs, none, more, Widths, Values, nets_of, nets_of_each, width_of, width_of_all, is_sized, are_sized, value_of, value_of_all, value_under, value_over, width_under, width_over}
+use Rattle.v_design.specs.Expr.{Expr, Exprs, more, Widths, Values, nets_of, nets_of_each, width_of, width_of_all, is_sized, are_sized, value_of, value_of_all, value_under, value_over, width_under, width_over}
 use Rattle.v_design.specs.Constants.{ConstantsFit, EachConstantFits}
 use Rattle.v_design.proofs.ValuesFit.{value_fits}
 use Rattle.v_design.proofs.Names.{each_one, each_append}
@@ -21,10 +21,7 @@ use Rattle.cyc_sim.specs.declared.listing.Listing.{Listing}
 use Rattle.cyc_sim.specs.Operations.{value_by, result_over, values_after}
 use Rattle.cyc_sim.specs.Compiled.{Known, known_at, end_of, AreBelow, AreWidths, Agrees, Extends, Adds, Compiles}
 use Rattle.cyc_sim.proofs.Settling.{value_added, value_kept}
-
-some_is : {A : Type 0} (o : Option A) → IsSome o → (x : A) × (o ≡ Some x)
-some_is None h = cc h
-some_is (Some x) h = (x, refl)
+use Rattle.plain_lemmas.proofs.Options.{some_is}
 
 is_some : {A : Type 0} (o : Option A) (x : A) → o ≡ Some x → IsSome o
 is_some o x e = rw e refl

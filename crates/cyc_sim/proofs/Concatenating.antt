@@ -1,6 +1,6 @@
 -- Concatenations, part by part.
 use Rattle.std.specs.List.{AllByRecursion}
-use Rattle.std.proofs.Common.{◌≡◌, ℕ, ◌+◌, ◌*◌, ◌^◌, ◌<◌, ◌≤◌, Bool, true, false, ◌&&◌, nat_le, IsSome, List, [], ◌∷◌, ◌++◌, length, take, get_or, refl, ap, sym, ◌∙◌, append_assoc, arith, rules, Vec, Box, Global}
+use Rattle.std.proofs.Common.{◌≡◌, ℕ, ◌+◌, ◌*◌, ◌^◌, ◌<◌, ◌≤◌, true, ◌&&◌, nat_le, IsSome, List, [], ◌∷◌, ◌++◌, length, take, get_or, refl, ap, sym, ◌∙◌, append_assoc, arith, rules, Vec, Box, Global}
 use Rattle.std.proofs.lemmas.List.{append-nil, take_more, take_all}
 use Rattle.std.proofs.lemmas.Bool.Decides.{nat_tests}
 use Rattle.std.proofs.lemmas.Nat.{pow-add}
@@ -21,6 +21,7 @@ use Rattle.cyc_sim.specs.Operations.{values_after}
 use Rattle.cyc_sim.specs.Compiled.{Known, known_at, end_of, AreWidths, Agrees, Extends, Adds, Compiles}
 use Rattle.cyc_sim.proofs.Numbers.{joined_small}
 use Rattle.cyc_sim.proofs.Compiling.{extends_one, extends_both, end_adds, agrees_extends, kept, added, expr_fits, exprs_fit}
+use Rattle.plain_lemmas.proofs.Bools.{and-both as two-true}
 
 -- the expressions of a list
 abbrev pub listed : List VExpr → Exprs
@@ -70,10 +71,6 @@ value-behind ws v (more x xs) e =
     ∙ (ap (λ p. value_of ws v x * p + value_of_all ws v (behind xs e)) (pow-add 2 (width_of_all ws xs) (width_of ws e))
     ∙ (ap (λ n. value_of ws v x * (2 ^ width_of_all ws xs * 2 ^ width_of ws e) + n) (value-behind ws v xs e)
     ∙ shifted (value_of ws v x) (value_of_all ws v xs) (2 ^ width_of_all ws xs) (2 ^ width_of ws e) (value_of ws v e)))
-
-two-true : (a b : Bool) → (a && b) ≡ true → (a ≡ true) × (b ≡ true)
-two-true true b h = (refl, h)
-two-true false b h = cc h
 
 sized-behind : (ws : Widths) (es : Exprs) (e : Expr) → are_sized ws (behind es e) ≡ true → (are_sized ws es ≡ true) × (is_sized ws e ≡ true)
 sized-behind ws none e h = (refl, (two-true (is_sized ws e) true h).0)

@@ -100,17 +100,8 @@ each_at P [] i d h l = absurd (omega (arith, l))
 each_at P (x ∷ xs) zero d h l = h.0
 each_at P (x ∷ xs) (suc i) d h l = each_at P xs i d h.1 (omega (arith, l))
 
-pub each_got : {A : Type 0} (P : A → Type 0) (xs : List A) (i : ℕ) (x : A) → AllByRecursion P xs → slice_get xs i ≡ Some x → P x
-each_got P [] i x h e = cc e
-each_got P (y ∷ ys) zero x h e = let same : y ≡ x = cc in subst P same h.0
-each_got P (y ∷ ys) (suc i) x h e = each_got P ys i x h.1 e
-
 pub value_got : (v : Values) (ps : List Pin) (i : ℕ) (p : Pin) → slice_get ps i ≡ Some p → get_or (values_at v ps) i 0 ≡ v p.name
 value_got v [] i p e = cc e
 value_got v (q ∷ qs) zero p e = let same : q ≡ p = cc in ap (λ x. v x.name) same
 value_got v (q ∷ qs) (suc i) p e = value_got v qs i p e
 
-pub got_within : {A : Type 0} (xs : List A) (i : ℕ) (x : A) → slice_get xs i ≡ Some x → i < length xs
-got_within [] i x e = cc e
-got_within (y ∷ ys) zero x e = omega arith
-got_within (y ∷ ys) (suc i) x e = let l = got_within ys i x e in omega (arith, l)

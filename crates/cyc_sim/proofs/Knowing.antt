@@ -1,20 +1,9 @@
 -- Nets that have a place, as they are found one after the other.
 use Rattle.std.specs.Str.{bytes_eq}
 use Rattle.std.specs.List.{AllZip, slice_get}
-use Rattle.std.proofs.Common.{◌≡◌, ℕ, zero, suc, ◌<◌, Bool, true, false, ◌&&◌, nat_eq, if◌then◌else◌, Option, Some, List, [], ◌∷◌, ◌++◌, length, take, get_or, refl, sym, ◌∙◌, ◌⊎◌, inl, inr, arith}
-use Rattle.std.proofs.lemmas.Map.Views.{exact_unsigned_eq}
+use Rattle.std.proofs.Common.{◌≡◌, ℕ, zero, suc, ◌<◌, Bool, true, false, ◌&&◌, if◌then◌else◌, Option, Some, List, [], ◌∷◌, ◌++◌, length, take, get_or, refl, sym, ◌∙◌, ◌⊎◌, inl, inr, arith}
 use Rattle.cyc_sim.specs.declared.listing.Wire.{Wire}
-
-pub same_bytes : (xs ys : List ℕ) → bytes_eq xs ys ≡ true → xs ≡ ys
-same_bytes [] [] h = refl
-same_bytes [] (y ∷ ys) h = cc h
-same_bytes (x ∷ xs) [] h = cc h
-same_bytes (x ∷ xs) (y ∷ ys) h = go (nat_eq x y) (bytes_eq xs ys) (exact_unsigned_eq x y) (same_bytes xs ys) h
-  where
-    go : (a b : Bool) → (a ≡ true → x ≡ y) → (b ≡ true → xs ≡ ys) → (a && b) ≡ true → x ∷ xs ≡ y ∷ ys
-    go true true p q h = let e = p refl in let f = q refl in cc
-    go true false p q h = cc h
-    go false b p q h = cc h
+use Rattle.plain_lemmas.proofs.Lists.{bytes_eq-same as same_bytes}
 
 -- a net that has a place is the last one, or had a place before
 pub known_or_last : (old : Option Wire) (new : Option Wire) (text name : List ℕ) (wire w : Wire) → new ≡ (if bytes_eq text name then Some wire else old) → new ≡ Some w → ((text ≡ name) × (w ≡ wire)) ⊎ (old ≡ Some w)
@@ -25,12 +14,6 @@ known_or_last old new text name wire w is at = go (bytes_eq text name) refl (sym
     go false e h = inr h
 
 -- elements of a front
-pub front_more : {A : Type 0} (xs : List A) (n i : ℕ) (x : A) → slice_get (take n xs) i ≡ Some x → slice_get (take (suc n) xs) i ≡ Some x
-front_more [] zero i x h = cc h
-front_more [] (suc n) i x h = cc h
-front_more (y ∷ ys) zero i x h = cc h
-front_more (y ∷ ys) (suc n) zero x h = h
-front_more (y ∷ ys) (suc n) (suc i) x h = front_more ys n i x h
 
 pub front_last : {A : Type 0} (xs : List A) (i : ℕ) (d : A) → i < length xs → slice_get (take (suc i) xs) i ≡ Some (get_or xs i d)
 front_last [] i d l = absurd (omega (arith, l))

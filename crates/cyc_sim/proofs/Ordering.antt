@@ -13,8 +13,8 @@ use Rattle.v_design.specs.WellFormed.{AllBelow}
 use Rattle.v_design.specs.declared.design.Stmt.{Stmt}
 use Rattle.v_design.proofs.Tests.{same-refl}
 use Rattle.cyc_sim.specs.Order.{Drivers, Assigns, AreDrivers, IsAcyclic, IsSettlingOrder, all_needs, driver_at, numbers_of, step_needs, with_number}
-use Rattle.cyc_sim.proofs.Knowing.{same_bytes}
-use Rattle.cyc_sim.proofs.Facts.{each_got, got_within}
+use Rattle.plain_lemmas.proofs.Lists.{bytes_eq-same as same_bytes, each-get as each_got, get-within as got_within, mapped-at, some-at}
+use Rattle.plain_lemmas.proofs.Options.{some_is as some-of}
 
 -- the numbers of names
 pub numbers-append : (number : List ℕ → Option ℕ) (ms ns : List (List ℕ)) → numbers_of number (ms ++ ns) ≡ numbers_of number ms ++ numbers_of number ns
@@ -24,10 +24,6 @@ numbers-append number (m ∷ ms) ns = go (number m) (numbers-append number ms ns
     go : (o : Option ℕ) → numbers_of number (ms ++ ns) ≡ numbers_of number ms ++ numbers_of number ns → with_number o (numbers_of number (ms ++ ns)) ≡ with_number o (numbers_of number ms) ++ numbers_of number ns
     go None h = h
     go (Some i) h = ap (λ is. i ∷ is) h
-
-pub some-of : {X : Type 0} (o : Option X) → IsSome o → (x : X) × (o ≡ Some x)
-some-of None h = cc h
-some-of (Some x) h = (x, refl)
 
 number-in : (number : List ℕ → Option ℕ) (ns : List (List ℕ)) (n : List ℕ) (i : ℕ) → among ns n ≡ true → number n ≡ Some i → (k : ℕ) × (slice_get (numbers_of number ns) k ≡ Some i)
 number-in number [] n i h e = cc h
@@ -54,21 +50,6 @@ in-numbers number P (m ∷ ms) k i all h = go (number m) refl k h (λ k h. in-nu
 all-any : (ns : List (List ℕ)) → AllByRecursion (λ n. Unit {0}) ns
 all-any [] = tt
 all-any (n ∷ ns) = (tt, all-any ns)
-
-pub mapped-at : {X Y : Type 0} (f : X → Y) (xs : List X) (i : ℕ) (x : X) (d : Y) → slice_get xs i ≡ Some x → get_or (map f xs) i d ≡ f x
-mapped-at f [] i x d h = cc h
-mapped-at f (y ∷ ys) zero x d h = let e : y ≡ x = cc in ap f e
-mapped-at f (y ∷ ys) (suc i) x d h = mapped-at f ys i x d h
-
-pub get-at : {X : Type 0} (xs : List X) (i : ℕ) (d : X) → i < length xs → slice_get xs i ≡ Some (get_or xs i d)
-get-at [] i d l = absurd (omega (arith, l))
-get-at (x ∷ xs) zero d l = refl
-get-at (x ∷ xs) (suc i) d l = get-at xs i d (omega (arith, l))
-
-some-at : {X : Type 0} (xs : List X) (i : ℕ) → i < length xs → (x : X) × (slice_get xs i ≡ Some x)
-some-at [] i l = absurd (omega (arith, l))
-some-at (x ∷ xs) zero l = (x, refl)
-some-at (x ∷ xs) (suc i) l = some-at xs i (omega (arith, l))
 
 past-none : {X Y : Type 0} (f : X → List Y) (xs : List X) (i k : ℕ) (y : Y) → slice_get (get_or (map f xs) i []) k ≡ Some y → (x : X) × (slice_get xs i ≡ Some x) × (slice_get (f x) k ≡ Some y)
 past-none f [] i k y h = cc h

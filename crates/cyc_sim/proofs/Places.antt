@@ -4,11 +4,8 @@ use Rattle.std.specs.List.{list_all}
 use Rattle.std.proofs.Math.ListN.{set}
 use Rattle.std.proofs.Math.Seq.{drop-cons}
 use Rattle.std.proofs.lemmas.List.{take_more, length-take, take-append-le, take_all}
-use Rattle.std.proofs.lemmas.Bool.Decides.{nat_tests}
 use Rattle.cyc_sim.specs.Operations.{are_places}
-
-below_test : (a b : ℕ) → nat_lt a b ≡ true → a < b
-below_test a b h = grind (arith, nat_tests)
+use Rattle.plain_lemmas.proofs.Numbers.{less as below_test}
 
 -- each of some places is below their limit
 pub place_below : (limit : ℕ) (ps : List ℕ) (k : ℕ) → are_places limit ps ≡ true → k < length ps → get_or ps k 0 < limit

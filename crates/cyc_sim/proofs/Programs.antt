@@ -1,6 +1,5 @@
 -- A compiled module gives what the module gives.
-use Rattle.std.proofs.Common.{◌≡◌, ℕ, suc, ◌<◌, true, nat_lt, Some, List, [], ◌∷◌, ◌++◌, length, get_or, refl, ap, sym, subst, ◌∙◌, arith}
-use Rattle.std.proofs.lemmas.Bool.Decides.{nat_tests}
+use Rattle.std.proofs.Common.{◌≡◌, ℕ, suc, ◌<◌, true, nat_lt, Some, List, [], ◌∷◌, ◌++◌, length, get_or, refl, ap, sym, subst, ◌∙◌}
 use Rattle.rb_base.specs.declared.ports.Pin.{Pin}
 use Rattle.v_design.specs.Expr.{Values}
 use Rattle.v_design.specs.Design.{Module, inputs, outputs, registers}
@@ -15,15 +14,13 @@ use Rattle.cyc_sim.specs.declared.listing.Wire.{Wire}
 use Rattle.cyc_sim.specs.declared.listing.Listing.{Listing}
 use Rattle.cyc_sim.specs.declared.operation.Operation.{Operation}
 use Rattle.cyc_sim.proofs.Facts.{edge_of}
+use Rattle.plain_lemmas.proofs.Numbers.{below-nat_lt as below_is}
 
 pub places_length : (known : Known) (ps : List Pin) (places : List ℕ) → ArePlacesOf known ps places → length places ≡ length ps
 places_length known [] [] h = refl
 places_length known [] (q ∷ qs) h = absurd h
 places_length known (p ∷ ps) [] h = absurd h
 places_length known (p ∷ ps) (q ∷ qs) h = ap suc (places_length known ps qs h.1)
-
-below_is : (a b : ℕ) → a < b → nat_lt a b ≡ true
-below_is a b h = grind (arith, nat_tests)
 
 -- the places of names are below that of the end
 pub places_below : (known : Known) (end : ℕ) (ps : List Pin) (places : List ℕ) → AreBelow known end → ArePlacesOf known ps places → are_places end places ≡ true

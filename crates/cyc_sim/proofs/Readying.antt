@@ -1,7 +1,6 @@
 -- Expressions whose nets have places and whose widths agree, and their parts.
 use Rattle.std.specs.List.{AllByRecursion}
 use Rattle.std.proofs.Common.{◌≡◌, ℕ, zero, suc, ◌+◌, ◌<◌, ◌≤◌, ◌==◌, true, ◌&&◌, nat_le, nat_lt, IsSome, List, [], ◌∷◌, length, take, get_or, ap, sym, subst, ◌∙◌, arith}
-use Rattle.std.proofs.lemmas.Bool.Decides.{nat_tests}
 use Rattle.v_design.specs.declared.design.VExpr.{VExpr}
 use Rattle.v_design.specs.declared.design.VOne.{VOne}
 use Rattle.v_design.specs.declared.design.VOne.TheVariants.{Not, All, Any, Odd}
@@ -16,12 +15,7 @@ use Rattle.cyc_sim.specs.declared.listing.Wire.{Wire}
 use Rattle.cyc_sim.specs.declared.listing.Listing.{Listing}
 use Rattle.cyc_sim.specs.Compiled.{Known, known_at, Compiles, IsReady}
 use Rattle.cyc_sim.proofs.Concatenating.{listed, listed-more, width-behind, CompilesAll}
-
-at-most : (a b : ℕ) → nat_le a b ≡ true → a ≤ b
-at-most a b h = grind (arith, nat_tests)
-
-less : (a b : ℕ) → nat_lt a b ≡ true → a < b
-less a b h = grind (arith, nat_tests)
+use Rattle.plain_lemmas.proofs.Numbers.{at-most, less}
 
 under-narrow : (op : VOne) (w : ℕ) → w ≤ 128 → width_under op w ≤ 128
 under-narrow Not w h = h

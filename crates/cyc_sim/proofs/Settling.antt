@@ -1,10 +1,11 @@
 -- What operations compute, place by place.
-use Rattle.std.proofs.Common.{◌≡◌, ℕ, zero, suc, ◌+◌, ◌<◌, ◌≤◌, Bool, true, false, ◌&&◌, List, [], ◌∷◌, ◌++◌, length, take, drop, get_or, refl, ap, sym, ◌∙◌, length-append, add-one, add-zero, arith}
+use Rattle.std.proofs.Common.{◌≡◌, ℕ, zero, suc, ◌+◌, ◌<◌, ◌≤◌, true, ◌&&◌, List, [], ◌∷◌, ◌++◌, length, take, drop, get_or, refl, ap, sym, ◌∙◌, length-append, add-one, add-zero, arith}
 use Rattle.std.proofs.Math.Seq.{drop-cons, get_or-append_seam}
 use Rattle.std.proofs.lemmas.List.{get_or_append_left, take_more_set, drop_all, take_all}
 use Rattle.std.proofs.Math.ListN.{set}
 use Rattle.cyc_sim.specs.declared.operation.Operation.{Operation}
 use Rattle.cyc_sim.specs.Operations.{value_by, is_within, are_within, values_after}
+use Rattle.plain_lemmas.proofs.Bools.{and-both_true as both, and-left, and-right}
 
 pub values_after-none : (vs : List ℕ) → values_after [] vs ≡ vs
 unfolding values_after
@@ -46,17 +47,6 @@ value_added os base o =
 pub value_kept : (os more : List Operation) (base : List ℕ) (p : ℕ) → p < length base + length os → get_or (values_after (os ++ more) base) p 0 ≡ get_or (values_after os base) p 0
 value_kept os more base p h =
     ap (λ vs. get_or vs p 0) (values_after-append os more base) ∙ values_stay more (values_after os base) p (omega (arith, h, length-values_after os base))
-
-and-left : (a b : Bool) → (a && b) ≡ true → a ≡ true
-and-left true b h = refl
-and-left false b h = cc h
-
-and-right : (a b : Bool) → (a && b) ≡ true → b ≡ true
-and-right true b h = h
-and-right false b h = cc h
-
-both : (a b : Bool) → a ≡ true → b ≡ true → (a && b) ≡ true
-both a b p q = rw (p, q)
 
 -- an operation at a place reads the places before it
 pub within_at : (first : ℕ) (os : List Operation) (k : ℕ) (d : Operation) → are_within first os ≡ true → k < length os → is_within (first + k) (get_or os k d) ≡ true

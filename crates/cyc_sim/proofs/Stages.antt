@@ -18,7 +18,8 @@ use Rattle.cyc_sim.specs.declared.listing.Listing.{Listing}
 use Rattle.cyc_sim.proofs.Settling.{values_after-none, values_stay}
 use Rattle.cyc_sim.proofs.Compiling.{extends_both, below_more, agrees_extends, kept, expr_fits}
 use Rattle.cyc_sim.proofs.Knowing.{known_or_last}
-use Rattle.cyc_sim.proofs.Facts.{IsSoundStep, HasWidth, wide_inputs, wide_registers, pins_fit, fits_length, reset_within, each_got, value_got, got_within}
+use Rattle.cyc_sim.proofs.Facts.{IsSoundStep, HasWidth, wide_inputs, wide_registers, pins_fit, fits_length, reset_within, value_got}
+use Rattle.plain_lemmas.proofs.Lists.{each-get as each_got, get-within as got_within}
 
 -- how many places come first
 pub base_length : (m : Module) (base : List ℕ) (v after : Values) → IsSettling m base v after → length base ≡ length (inputs m) + length (registers m)

@@ -21,8 +21,8 @@ use Rattle.cyc_sim.specs.Accepted.{IsAccepted}
 use Rattle.cyc_sim.specs.Compiled.{Known, known_at, AreWidths, IsReady}
 use Rattle.cyc_sim.specs.Order.{IsAcyclic, IsSettlingOrder}
 use Rattle.cyc_sim.specs.Preparing.{KnowsNets, KnowsPins, KnowsRegisters, KnowsReset}
-use Rattle.cyc_sim.proofs.Facts.{IsSoundStep, each_got, got_within, sound_steps}
-use Rattle.cyc_sim.proofs.Knowing.{same_bytes}
+use Rattle.cyc_sim.proofs.Facts.{IsSoundStep, sound_steps}
+use Rattle.plain_lemmas.proofs.Lists.{bytes_eq-same as same_bytes, each-get as each_got, get-within as got_within}
 
 -- a name is that of an input, or a step drives it
 abbrev pub IsDriven : Module → List ℕ → Type 0

@@ -13,6 +13,7 @@ use Rattle.drive_lang.specs.Lines.{lines_of, words_of}
 use Rattle.drive_lang.specs.Meanings.{IsError, IsFirstError, IsScript, IsWrong, asked, asked_by, judged, judged_at, judged_text, vectors_before, vectors_judged}
 use Rattle.drive_lang.specs.Orders.{Judged, order_of, spelled, within}
 use Rattle.drive_lang.specs.Scripts.{Lines, at_first, in_front, lines_from, most_vectors, ordered, script_of, steps_in, unless_blank}
+use Rattle.plain_lemmas.proofs.Lists.{drop-rest as rest_at}
 
 -- Places.
 
@@ -27,12 +28,6 @@ first_at [] zero x rest e = cc e
 first_at [] (suc k) x rest e = cc e
 first_at (y ∷ ys) zero x rest e = let same : y ≡ x = cc e in ap Some same
 first_at (y ∷ ys) (suc k) x rest e = first_at ys k x rest e
-
-rest_at : {X : Type 0} (xs : List X) (k : ℕ) (x : X) (rest : List X) → drop k xs ≡ x ∷ rest → drop (suc k) xs ≡ rest
-rest_at [] zero x rest e = cc e
-rest_at [] (suc k) x rest e = cc e
-rest_at (y ∷ ys) zero x rest e = let same : ys ≡ rest = cc e in same
-rest_at (y ∷ ys) (suc k) x rest e = rest_at ys k x rest e
 
 one_more : (k : ℕ) → suc k ≡ k + 1
 one_more k = omega arith

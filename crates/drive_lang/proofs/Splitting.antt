@@ -1,12 +1,13 @@
 -- The first line of a text, and the first word of a line.
 use Rattle.std.proofs.Common.{◌≡◌, ℕ, zero, suc, ◌+◌, ◌-◌, ◌<◌, ◌≤◌, ◌==◌, Bool, true, false, not, cond, Some, None, List, [], ◌∷◌, filter, get_or, length, map, nat_lt, position, add-one, take, drop, refl, ap, sym, ◌∙◌, arith}
 use Rattle.std.specs.List.{position_or_len, slice_split}
-use Rattle.std.proofs.lemmas.List.{take_all, drop_all, length-drop, length-take}
+use Rattle.std.proofs.lemmas.List.{drop_all, length-take}
 use Rattle.std.proofs.lemmas.List.Splits.{slice_split-cons_yes, slice_split_first, slice_split_none}
 use Rattle.std.proofs.lemmas.List.Sums.{prefix_len-le-length, fails_before_first, passes_at_first}
 use Rattle.std.proofs.lemmas.Bool.Decides.{nat_tests}
 use Rattle.std.proofs.Math.Seq.{drop-cons}
 use Rattle.drive_lang.specs.Lines.{bare, is_blank, lines_of, words_of}
+use Rattle.plain_lemmas.proofs.Lists.{take-rest as past}
 
 module _ {X : Type 0} (p : X → Bool) where
   -- a place that is found, or none
@@ -25,8 +26,6 @@ module _ {X : Type 0} (p : X → Bool) where
       go false low e = let l : length xs ≤ position_or_len p xs = grind (arith, nat_tests, low) in let m = prefix_len-le-length (λ x. not (p x)) xs in omega (arith, l, m)
 
 -- all that stands past a place
-pub past : {X : Type 0} (xs : List X) (n : ℕ) → take (length xs - n) (drop n xs) ≡ drop n xs
-past xs n = take_all (length xs - n) (drop n xs) (omega (arith, length-drop n xs))
 
 -- Lines
 

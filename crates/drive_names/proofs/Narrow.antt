@@ -1,5 +1,5 @@
 -- The words that names mean are within 32 bits.
-use Rattle.std.specs.List.{AllByRecursion, enumerate_from, flat_map}
+use Rattle.std.specs.List.{AllByRecursion, enumerate_from}
 use Rattle.std.proofs.Common.{◌≡◌, ⊎_elim, ℕ, zero, suc, ◌+◌, ◌<◌, ◌≤◌, ◌^◌, ◌==◌, Bool, true, false, cond, bytes_eq, List, [], ◌∷◌, map, slice_get, Option, None, Some, refl, sym, ap, subst, ◌∙◌, arith}
 use Rattle.v_design.proofs.Names.{each_append}
 use Rattle.rb_model.specs.declared.block.Block.{Block}
@@ -11,6 +11,7 @@ use Rattle.rb_model.specs.Sound.{IsSound, WordIsSound}
 use Rattle.drive_names.specs.declared.table.Meaning.{Meaning}
 use Rattle.drive_names.specs.declared.words.Named.{Named}
 use Rattle.drive_names.specs.Named.{meaning_of, named_words, names_at, names_of, other_names, under}
+use Rattle.plain_lemmas.proofs.Lists.{each-flat_map as of_parts, each-get as each_at}
 
 -- an address and a width of 32 bits
 abbrev pub IsNarrow : Meaning → Type 0
@@ -24,21 +25,12 @@ meaning_has Q (n ∷ ns) name m h e = go (bytes_eq n.name name) (meaning_has Q n
     go true rest e = let same : n.meaning ≡ m = cc e in subst Q same h.0
     go false rest e = rest e
 
-of_parts : {X Y : Type 0} (P : Y → Type 0) (f : X → List Y) (xs : List X) → AllByRecursion (λ x. AllByRecursion P (f x)) xs → AllByRecursion P (flat_map f xs)
-of_parts P f [] h = tt
-of_parts P f (x ∷ xs) h = each_append P (f x) (flat_map f xs) h.0 (of_parts P f xs h.1)
-
 numbered : {X : Type 0} (Q : ℕ × X → Type 0) (n : ℕ) (xs : List X) → ((i : ℕ) (x : X) → slice_get xs i ≡ Some x → Q (n + i, x)) → AllByRecursion Q (enumerate_from n xs)
 numbered Q n [] h = tt
 numbered {X = X} Q n (x ∷ xs) h = (
   (let here : n + 0 ≡ n = omega arith in subst (λ k. Q (k, x)) here (h 0 x refl)),
   numbered Q (n + 1) xs (λ i y e. let at : n + suc i ≡ n + 1 + i = omega arith in subst (λ k. Q (k, y)) at (h (suc i) y e)),
 )
-
-each_at : {X : Type 0} (P : X → Type 0) (xs : List X) (k : ℕ) (x : X) → AllByRecursion P xs → slice_get xs k ≡ Some x → P x
-each_at P [] k x h e = cc e
-each_at P (y ∷ ys) zero x h e = let same : y ≡ x = cc e in subst P same h.0
-each_at P (y ∷ ys) (suc k) x h e = each_at P ys k x h.1 e
 
 as_recursion : {X : Type 0} (P : X → Type 0) (xs : List X) → Each P xs → AllByRecursion P xs
 as_recursion P [] h = tt

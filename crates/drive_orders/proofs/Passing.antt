@@ -1,6 +1,5 @@
 -- Going on from line to line.
-use Rattle.std.proofs.Common.{◌≡◌, ℕ, zero, suc, ◌+◌, ◌<◌, Bool, true, false, ◌&&◌, Some, None, List, [], ◌∷◌, ◌++◌, drop, length, slice_get, replicate, refl, ap, sym, ◌∙◌, arith}
-use Rattle.std.specs.List.{list_all}
+use Rattle.std.proofs.Common.{◌≡◌, ℕ, zero, suc, ◌+◌, ◌<◌, ◌&&◌, Some, None, List, [], ◌∷◌, ◌++◌, drop, length, slice_get, replicate, refl, ap, sym, ◌∙◌, arith}
 use Rattle.std.proofs.Math.Seq.{drop-append_seam}
 use Rattle.std.proofs.lemmas.List.{drop-append-le, length-replicate}
 use Rattle.rb_model.specs.Protocol.{idle}
@@ -29,15 +28,6 @@ from_there (y ∷ ys) (suc k) x e = let more : suc (k + 1) ≡ suc k + 1 = omega
 pub played_there : (lines : List Line) (k : ℕ) (l : Line) (held : List ℕ) → slice_get lines k ≡ Some l
     → played (drop k lines) held ≡ steps_of l.number l.order held ++ played (drop (k + 1) lines) (held_after l.order held)
 played_there lines k l held e = ap (λ ls. played ls held) (from_there lines k l e)
-
-both : (b c : Bool) → (b && c) ≡ true → (b ≡ true) × (c ≡ true)
-both true c e = (refl, e)
-both false c e = cc e
-
-pub all_there : {X : Type 0} (p : X → Bool) (xs : List X) (k : ℕ) (x : X) → list_all p xs ≡ true → slice_get xs k ≡ Some x → p x ≡ true
-all_there p [] k x h e = cc e
-all_there p (y ∷ ys) zero x h e = let same : y ≡ x = cc e in ap p (sym same) ∙ (both (p y) (list_all p ys) h).0
-all_there p (y ∷ ys) (suc k) x h e = all_there p ys k x (both (p y) (list_all p ys) h).1 e
 
 -- a line whose vectors are all over is left
 pub passed : (lines : List Line) (at : Position) (l : Line) (held : List ℕ) → slice_get lines at.line ≡ Some l → vectors_of l.order ≡ at.over

@@ -5,7 +5,7 @@ use Rattle.std.specs.Option.{option_map_or}
 use Rattle.std.proofs.lemmas.List.{get_or-replicate, length-replicate, length-append, get_or_append_left, get_or_at}
 use Rattle.std.proofs.lemmas.Option.{slice_get_within}
 use Rattle.plain_lemmas.proofs.Bools.{and-false as and_false, if-same as same_either}
-use Rattle.plain_lemmas.proofs.Numbers.{below-nat_lt as within}
+use Rattle.plain_lemmas.proofs.Numbers.{below-nat_lt as within, same_or_other}
 use Rattle.rtl_net.specs.Value.{bit_of}
 use Rattle.rtl_net.specs.Net.{Net, Grows, IsNode, Stands}
 use Rattle.rtl_net.specs.Ids.{at}
@@ -23,19 +23,18 @@ use Rattle.gen_scene.specs.declared.items.Marks.{Marks}
 use Rattle.block_plan.specs.Wanted.{is_wanted}
 use Rattle.gen_scene.specs.Items.{AreMarks, mark_at}
 use Rattle.gen_scene.specs.Worth.{IsWorth}
-use Rattle.gen_access.specs.declared.touched.Mark.{Mark}
-use Rattle.gen_access.specs.declared.touched.Mark.TheVariants as mark
+use Rattle.gen_access.specs.declared.touched.Strobe.{Strobe}
+use Rattle.gen_access.specs.declared.touched.Strobe.TheVariants as mark
 use Rattle.gen_access.specs.declared.touched.Touch.{Touch}
 use Rattle.gen_access.specs.declared.touched.Touch.TheVariants as touch
 use Rattle.gen_access.specs.Tables.{AreNodes, AreWorth}
 use Rattle.gen_access.specs.Words.{is_at, written_word}
 use Rattle.gen_access.specs.Touches.{ArePaired, IsReading, mark_item, mark_value, marks_step, one_bit, slot_mark, touch_reached, touch_words, touches}
 use Rattle.gen_access.proofs.Puts.{shows_here, shows_other}
-use Rattle.gen_access.proofs.Turns.{same_or_other}
 
 -- A slot
 
-module _ (b : Block) (wanted : List Bool) (m : Mark) (t : Touch) (s : Slot) (u : View) (here : slice_get b.views s.view ≡ Some u) where
+module _ (b : Block) (wanted : List Bool) (m : Strobe) (t : Touch) (s : Slot) (u : View) (here : slice_get b.views s.view ≡ Some u) where
   pub mark_other : (n : Now) (v : ItemValues) (k : ℕ) (f : Field) (x : ℕ) → k ≢ u.field → slot_mark b wanted m t n v k f x s ≡ x
   mark_other n v k f x ne =
       ap (λ c. if is_wanted wanted (mark_item m k) && c then 1 else x) (shows_other b s u here k (touches t) ne) ∙ ap (λ c. if c then 1 else x) (and_false (is_wanted wanted (mark_item m k)))
@@ -91,7 +90,7 @@ none_marked : (w : Bool) → 0 ≡ (if w then bit_of false else 0)
 none_marked true = refl
 none_marked false = refl
 
-module _ (b : Block) (wanted : List Bool) (m : Mark) where
+module _ (b : Block) (wanted : List Bool) (m : Strobe) where
   by_reads : (t : Touch) (n : Now) (v : ItemValues) (k : ℕ) (f : Field) (a : Access) → IsReading t → IsThere b a
       → option_map_or (λ i. if nat_lt i (length b.writes) then fold (slot_mark b wanted m touch.Writes n v k f)
       (option_map_or (λ i. if nat_lt i (length (touch_words b t)) then fold (slot_mark b wanted m t n v k f) 0 (slots_of (touch_words b t) i) else 0) (touch_reached t a) 0) (slots_of b.writes i)
@@ -117,7 +116,7 @@ module _ (b : Block) (wanted : List Bool) (m : Mark) where
   pub marks_from_none : (t : Touch) → IsReading t → (n : Now) (v : ItemValues) (k : ℕ) (f : Field) → IsThere b n.access → marks_step b wanted m t n v k f 0 ≡ (if is_wanted wanted (mark_item m k) then mark_value b t n k else 0)
   marks_from_none t r n v k f there = by_reads t n v k f n.access r there
 
-pub marks_made : (b : Block) (a : Inlet) (net : Net) (table : List Id) (wanted : List Bool) (m : Mark) (t : Touch) → IsReading t → AreWorth b a net table one_bit (λ k f n v. marks_step b wanted m t n v k f 0)
+pub marks_made : (b : Block) (a : Inlet) (net : Net) (table : List Id) (wanted : List Bool) (m : Strobe) (t : Touch) → IsReading t → AreWorth b a net table one_bit (λ k f n v. marks_step b wanted m t n v k f 0)
     → AreWorth b a net table one_bit (λ k f n v. if is_wanted wanted (mark_item m k) then mark_value b t n k else 0)
 marks_made b a net table wanted m t reading h = record {
   each = λ k f e. let r = h.each k f e in record { stands = r.stands; value = λ x q n found items c. r.value x q n found items c ∙ marks_from_none b wanted m t reading n items k f found.there };

@@ -1,6 +1,5 @@
 -- What an effect through one slot makes of a node of its field.
-use Rattle.std.proofs.Common.{◌≡◌, ◌≢◌, ℕ, zero, suc, ◌+◌, ◌-◌, ◌<◌, ◌==◌, Bool, true, false, not, ◌&&◌, ◌||◌, if◌then◌else◌, Option, Some, List, [], ◌∷◌, slice_get, refl, sym, ap, ◌∙◌, subst, arith}
-use Rattle.std.specs.List.{list_any}
+use Rattle.std.proofs.Common.{◌≡◌, ◌≢◌, ℕ, ◌+◌, ◌-◌, ◌<◌, ◌==◌, Bool, true, false, not, ◌&&◌, ◌||◌, if◌then◌else◌, Option, Some, [], ◌∷◌, slice_get, refl, sym, ap, ◌∙◌, subst, arith}
 use Rattle.std.specs.Option.{option_map_or}
 use Rattle.plain_lemmas.proofs.Bools.{same-if as same_either}
 use Rattle.rb_base.specs.Bits.{part}
@@ -27,6 +26,7 @@ use Rattle.gen_access.specs.declared.software.Effect.TheVariants as effect
 use Rattle.gen_access.specs.Words.{data_of, is_at, written_word, read_word}
 use Rattle.gen_access.specs.Effects.{IsPut, reached_by, slot_effect, width_of}
 use Rattle.gen_access.proofs.Reaching.{data_is}
+use Rattle.plain_lemmas.proofs.Lists.{any-get as any_at}
 
 -- One slot by its view
 
@@ -60,15 +60,6 @@ module _ (b : Block) (s : Slot) (u : View) (here : slice_get b.views s.view ≡ 
   effect_other effect.Used n v k f x ne = ap (λ c. if c then 1 else x) (shows_other k (λ w. w.once && acts w (view_gate n v w) (n.kept (Done k))) ne)
 
 -- A view that may be written once, and its field
-
-any_at : {X : Type 0} (p : X → Bool) (xs : List X) (i : ℕ) (x : X) → slice_get xs i ≡ Some x → p x ≡ true → list_any p xs ≡ true
-any_at p [] i x e t = cc
-any_at p (y ∷ ys) zero x e t = let q : y ≡ x = cc in let r : p y ≡ true = ap p q ∙ t in rw r refl
-any_at p (y ∷ ys) (suc i) x e t = let r : list_any p ys ≡ true = any_at p ys i x e t in later (p y) r
-  where
-    later : (c : Bool) → list_any p ys ≡ true → (c || list_any p ys) ≡ true
-    later true r = refl
-    later false r = r
 
 pub once_field : (b : Block) (k : ℕ) (u : View) (f : Field) → IsSound b → slice_get b.views k ≡ Some u → slice_get b.fields u.field ≡ Some f → u.once ≡ true → f.once ≡ true
 once_field b k u f sound hu hf t =

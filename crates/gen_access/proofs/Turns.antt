@@ -32,15 +32,13 @@ use Rattle.gen_access.specs.declared.touched.Touch.TheVariants as touch
 use Rattle.gen_access.specs.Touches.{touch_words}
 use Rattle.gen_access.specs.Tables.{AreNodes, AreWorth, Changes, HasViews, Step}
 use Rattle.gen_access.specs.Words.{AreHitsOf, SlotFits, SlotStep, below, is_at}
+use Rattle.plain_lemmas.proofs.Numbers.{same_or_other}
 
 pub HasViews-grows : (old new : Net) (s : Scene) → Grows old new → HasViews old s → HasViews new s
 HasViews-grows old new s h v = record { base = IsBase-grows old new h s.base.now v.base; each = λ k u e. HasView-grows old new h s k u (v.each k u e) }
 
 pub AreHitsOf-grows : (b : Block) (a : Inlet) (old new : Net) (words : List Word) (reached : Access → Option ℕ) (hits : List Id) → Grows old new → AreHitsOf b a old words reached hits → AreHitsOf b a new words reached hits
 AreHitsOf-grows b a old new words reached hits h k = record { long = k.long; each = λ j l. IsWorth-grows b a old new (at hits j) 1 _ h (k.each j l) }
-
-pub same_or_other : (m n : ℕ) → ((m ≡ n) × ((m == n) ≡ true)) ⊎ ((m ≢ n) × ((m == n) ≡ false))
-same_or_other m n = grind arith
 
 -- Tables
 

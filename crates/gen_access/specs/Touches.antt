@@ -14,15 +14,15 @@ use Rattle.rb_model.specs.Items.{Access, Now, reaches, shows}
 use Rattle.gen_scene.specs.declared.items.Marks.{Marks}
 use Rattle.block_plan.specs.Wanted.{is_wanted}
 use Rattle.gen_scene.specs.Items.{mark_at}
-use Rattle.gen_access.specs.declared.touched.Mark.{Mark}
-use Rattle.gen_access.specs.declared.touched.Mark.TheVariants as mark
+use Rattle.gen_access.specs.declared.touched.Strobe.{Strobe}
+use Rattle.gen_access.specs.declared.touched.Strobe.TheVariants as mark
 use Rattle.gen_access.specs.declared.touched.Touch.{Touch}
 use Rattle.gen_access.specs.declared.touched.Touch.TheVariants as touch
 use Rattle.gen_access.specs.Tables.{Step}
 use Rattle.gen_access.specs.Words.{SlotStep, below, read_word, written_word}
 
 -- the item of a field that the mark is
-abbrev pub mark_item : Mark → ℕ → RefItem
+abbrev pub mark_item : Strobe → ℕ → RefItem
 mark_item mark.Modified k = item.SwMod k
 mark_item mark.Accessed k = item.SwAcc k
 
@@ -47,7 +47,7 @@ abbrev pub one_bit : Field → ℕ
 one_bit f = 1
 
 -- a slot that touches a field whose mark is wanted makes its mark 1
-abbrev pub slot_mark : Block → List Bool → Mark → Touch → SlotStep
+abbrev pub slot_mark : Block → List Bool → Strobe → Touch → SlotStep
 slot_mark b wanted m t n v k f x s = if is_wanted wanted (mark_item m k) && shows b k (touches t) s then 1 else x
 
 -- a touch by reads
@@ -66,7 +66,7 @@ pub record ArePaired (modified accessed : List Id) (all : List Marks) : Type 0 w
   pub each : (k : ℕ) → k < length modified → ((mark_at all k).modified ≡ at modified k) × ((mark_at all k).accessed ≡ at accessed k)
 
 -- what all words make of a mark of field k: first those that are read, then those that are written
-abbrev pub marks_step : Block → List Bool → Mark → Touch → Step
+abbrev pub marks_step : Block → List Bool → Strobe → Touch → Step
 marks_step b wanted m t n v k f x =
     below b.writes written_word (slot_mark b wanted m touch.Writes) (length b.writes) n v k f
     (below (touch_words b t) (touch_reached t) (slot_mark b wanted m t) (length (touch_words b t)) n v k f x)

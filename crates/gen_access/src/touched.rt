@@ -25,7 +25,7 @@ use std::alloc::Global;
 
 /// What an output says of a field: that the access modifies it (`swmod`), or that it reads or writes it (`swacc`).
 #[derive(Clone, Copy)]
-enum Mark {
+enum Strobe {
     Modified,
     Accessed,
 }
@@ -44,17 +44,17 @@ enum Touch {
 struct Marking<'a> {
     base: &'a Base<'a>,
     wanted: &'a [bool],
-    mark: Mark,
+    mark: Strobe,
     touch: Touch,
 }
 
 /// The item that a mark is of the field of a number.
-fn mark_item(mark: Mark, number: u32) -> RefItem
+fn mark_item(mark: Strobe, number: u32) -> RefItem
     ensures { result ≡ spec.mark_item mark number }
 {
     match mark {
-        Mark::Modified => RefItem::SwMod(number),
-        Mark::Accessed => RefItem::SwAcc(number),
+        Strobe::Modified => RefItem::SwMod(number),
+        Strobe::Accessed => RefItem::SwAcc(number),
     }
 }
 
@@ -176,7 +176,7 @@ fn put_marks(
     base: &Base,
     hits: &WordHits,
     wanted: &[bool],
-    kind: (Mark, Touch),
+    kind: (Strobe, Touch),
     table: &mut [Id],
 ) -> Result<(), NoMemory>
     requires sound { IsSound base.now.block.now }
@@ -215,7 +215,7 @@ fn marked(
     base: &Base,
     hits: &WordHits,
     wanted: &[bool],
-    mark: Mark,
+    mark: Strobe,
     reading: Touch,
 ) -> Result<Vec<Id>, NoMemory>
     requires sound { IsSound base.now.block.now }
@@ -266,8 +266,16 @@ pub fn marks(
     ensures marks { IfOk result (λ all. items.AreMarks base.now.block.now base.now.inlet net.new wanted.now all.items) }
 {
     let effects = Touch::ReadsWithEffect;
-    let modified = marked(alloc, net, base, hits, wanted, Mark::Modified, effects)?;
-    let accessed = marked(alloc, net, base, hits, wanted, Mark::Accessed, Touch::Reads)?;
+    let modified = marked(alloc, net, base, hits, wanted, Strobe::Modified, effects)?;
+    let accessed = marked(
+        alloc,
+        net,
+        base,
+        hits,
+        wanted,
+        Strobe::Accessed,
+        Touch::Reads,
+    )?;
     let all = paired(alloc, &modified, &accessed)?;
     Ok(all)
 }

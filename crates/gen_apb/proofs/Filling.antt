@@ -13,8 +13,8 @@ use Rattle.rtl_net.specs.Ports.{has_room, seat_names, seated}
 use Rattle.rtl_net.specs.Run.{by_input, by_output, is_data_input as is_given, is_output as is_shown, seat_pin}
 use Rattle.rtl_net.specs.declared.node.Id.{Id}
 use Rattle.rtl_net.specs.declared.node.Seat.{Seat}
-use Rattle.rtl_net.specs.declared.node.Taken.{Taken}
-use Rattle.rtl_net.specs.declared.node.Taken.TheVariants.{Input, Output}
+use Rattle.rtl_net.specs.declared.node.Occupant.{Occupant}
+use Rattle.rtl_net.specs.declared.node.Occupant.TheVariants.{Input, Output}
 use Rattle.rtl_net.proofs.Others.{has_room-other}
 use Rattle.rb_model.specs.References.{Each}
 use Rattle.rb_model.proofs.Apart.{Apart, Name, bytes_eq-not, bytes_eq-to}
@@ -41,7 +41,7 @@ abbrev pub names_one : List Pin → Name → Bool
 names_one ps name = list_any (λ p. bytes_eq p.name name) ps
 
 -- an output of these pins has taken the seat if one has its name, and else nothing has
-abbrev pub IsTakenIf : Bool → (old new : Option Taken) → Type 0
+abbrev pub IsTakenIf : Bool → (old new : Option Occupant) → Type 0
 IsTakenIf true old new = (id : Id) × (new ≡ Some (Output id))
 IsTakenIf false old new = new ≡ old
 
@@ -130,7 +130,7 @@ pub record IsFilled (p : Port) (s : Seat) : Type 0 where
 filled : (outs : List Pin) (p : Port) (old new : Seat) → names_one outs p.name ≡ is_output p → IsSeatOf old p → Becomes outs old new → IsFilled p new
 filled outs p old new e is b = by p.dir refl is.taken (subst (λ c. IsTakenIf c old.taken new.taken) (ap (names_one outs) is.name ∙ e) b.taken)
   where
-    make : (t : Option Taken) (d : Dir) → new.taken ≡ t → p.dir ≡ d → side_of t ≡ d → is_some t ≡ true → by_output t ≡ is_output (record { dir = d; name = p.name; width = p.width }) → by_input t ≡ is_input d → IsFilled p new
+    make : (t : Option Occupant) (d : Dir) → new.taken ≡ t → p.dir ≡ d → side_of t ≡ d → is_some t ≡ true → by_output t ≡ is_output (record { dir = d; name = p.name; width = p.width }) → by_input t ≡ is_input d → IsFilled p new
     make t d u v side some shown given = record {
       port =
           let q : side_of new.taken ≡ p.dir = ap side_of u ∙ side ∙ sym v in

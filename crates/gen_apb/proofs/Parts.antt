@@ -13,7 +13,7 @@ use Rattle.rtl_net.specs.Ports.{IsFree, IsNew, has_room, register_names, seat_na
 use Rattle.rtl_net.specs.declared.node.Id.{Id}
 use Rattle.rtl_net.specs.declared.node.Seat.{Seat}
 use Rattle.rtl_net.specs.Ports.{seated}
-use Rattle.rtl_net.specs.declared.node.Taken.TheVariants.{Output}
+use Rattle.rtl_net.specs.declared.node.Occupant.TheVariants.{Output}
 use Rattle.rtl_net.proofs.Others.{IsFree-seated, Lacks-seated}
 use Rattle.rtl_net.proofs.Distinct.{Differ-sym}
 use Rattle.rtl_net.proofs.Nets.{Extends-trans, Stands-extends}

@@ -12,7 +12,7 @@ use Rattle.gen_scene.specs.declared.scene.Scene.{Scene}
 use Rattle.gen_scene.proofs.Worths.{HasField-grows, IsBase-grows}
 use Rattle.gen_access.specs.Tables.{Changes, Step}
 use Rattle.gen_scene.specs.Worth.{IsWorth}
-use Rattle.gen_access.proofs.Turns.{same_or_other}
+use Rattle.plain_lemmas.proofs.Numbers.{same_or_other}
 use Rattle.gen_clock.specs.Moves.{HasFields, IsMade, moved_in, moves_in}
 
 pub HasFields-grows : (old new : Net) (s : Scene) → Grows old new → HasFields old s → HasFields new s

@@ -9,14 +9,14 @@ use Rattle.block_plan.specs.declared.plan.Plan.{Plan}
 use Rattle.gen_scene.specs.declared.base.Inlet.{Inlet}
 use Rattle.gen_scene.proofs.Worths.{IsWorth-extends}
 use Rattle.gen_core.specs.Ties.{AreAwaiting, MovesOn, Shows}
-use Rattle.gen_core.specs.declared.nodes.Taken.{Taken}
+use Rattle.gen_core.specs.declared.nodes.EdgeResults.{EdgeResults}
 use Rattle.gen_core.specs.Core.{IsCore}
 use Rattle.gen_core.specs.Parts.{HasTaken}
 
 pub AreAwaiting-grows : (b : Block) (p : Plan) (pins : List Id) (old new : Net) (kept : List Id) → Grows old new → AreAwaiting b p pins old kept → AreAwaiting b p pins new kept
 AreAwaiting-grows b p pins old new kept h k = record { each = λ j q e. h.awaits _ _ _ _ (k.each j q e) }
 
-pub core_is : (b : Block) (a : Inlet) (made driven new : Net) (t : Taken) → HasTaken b a made t → Extends made driven → Extends driven new → MovesOn b a driven → Shows b a new → IsCore b a new t.answer
+pub core_is : (b : Block) (a : Inlet) (made driven new : Net) (t : EdgeResults) → HasTaken b a made t → Extends made driven → Extends driven new → MovesOn b a driven → Shows b a new → IsCore b a new t.answer
 core_is b a made driven new t taken g h moves shows = record {
   shown = shows.shown;
   answered = IsWorth-extends b a made new t.answer 32 _ (Extends-trans made driven new g h) taken.answered;

@@ -1,11 +1,10 @@
 -- The names and widths of a block's outputs.
-use Rattle.std.proofs.Common.{◌≡◌, ℕ, zero, suc, Bool, true, false, Some, List, [], ◌∷◌, ◌++◌, codes, map, filter, slice_get, refl, sym, ap, ◌∙◌, subst, arith}
+use Rattle.std.proofs.Common.{◌≡◌, ℕ, suc, Bool, true, false, Some, List, [], ◌∷◌, ◌++◌, codes, map, filter, slice_get, refl, sym, ap, ◌∙◌, subst, arith}
 use Rattle.std.proofs.lemmas.Bool.Decides.{nat_tests}
 use Rattle.std.specs.List.{enumerate_from, flat_map, list_all}
 use Rattle.std.specs.Option.{option_map_or}
-use Rattle.std.proofs.lemmas.Option.{same_Some}
 use Rattle.plain_lemmas.proofs.Bools.{and-both as and_left}
-use Rattle.plain_lemmas.proofs.Lists.{get-map_at as mapped_at, map-map as mapped}
+use Rattle.plain_lemmas.proofs.Lists.{all-get as list_at, get-map_at as mapped_at, map-map as mapped}
 use Rattle.rb_base.specs.declared.ports.Pin.{Pin}
 use Rattle.v_design.specs.Design.{is_output, outputs_among, port_pin}
 use Rattle.v_design.specs.Lexemes as design
@@ -60,11 +59,6 @@ byte_wider c h = grind (arith, nat_tests)
 bytes_wider : (bs : List ℕ) → list_all design.is_name_byte bs ≡ true → list_all names.is_name_byte bs ≡ true
 bytes_wider [] h = refl
 bytes_wider (c ∷ bs) h = let p = and_left (design.is_name_byte c) (list_all design.is_name_byte bs) h in rw (byte_wider c p.0) (bytes_wider bs p.1)
-
-list_at : {X : Type 0} (test : X → Bool) (xs : List X) (k : ℕ) (x : X) → list_all test xs ≡ true → slice_get xs k ≡ Some x → test x ≡ true
-list_at test [] k x h e = cc
-list_at test (y ∷ ys) zero x h e = ap test (sym (same_Some y x e)) ∙ (and_left (test y) (list_all test ys) h).0
-list_at test (y ∷ ys) (suc k) x h e = list_at test ys k x (and_left (test y) (list_all test ys) h).1 e
 
 field_path : (b : Block) → IsSound b → (k : ℕ) (f : Field) → slice_get b.fields k ≡ Some f → list_all names.is_name_byte f.path ≡ true
 field_path b sound k f e = bytes_wider f.path (list_at (λ g. is_path g.path) b.fields k f (and_left (distinct (map (λ g. g.path) b.fields)) (list_all (λ g. is_path g.path) b.fields) sound.field_paths).1 e)

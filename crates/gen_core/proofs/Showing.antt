@@ -15,8 +15,8 @@ use Rattle.rtl_net.specs.Ports.{IsFree, has_room, seated}
 use Rattle.rtl_net.specs.Names.{Lacks, is_net_name}
 use Rattle.rtl_net.specs.declared.node.Id.{Id}
 use Rattle.rtl_net.specs.declared.node.Seat.{Seat}
-use Rattle.rtl_net.specs.declared.node.Taken.{Taken}
-use Rattle.rtl_net.specs.declared.node.Taken.TheVariants.{Output}
+use Rattle.rtl_net.specs.declared.node.Occupant.{Occupant}
+use Rattle.rtl_net.specs.declared.node.Occupant.TheVariants.{Output}
 use Rattle.rtl_net.proofs.Nets.{Extends-refl, Extends-trans, Stands-extends}
 use Rattle.rb_model.specs.declared.block.Block.{Block}
 use Rattle.rb_model.specs.Kept.{kept_pins}
@@ -40,7 +40,7 @@ taken_more old mid new [] p id h e = (id, e ∙ ap (λ ss. seated ss p.name p.wi
 taken_more old mid new (q ∷ ps) p id h e = (h.0, taken_more (seated old q.name q.width (Output h.0)) mid new ps p id h.1 e)
 
 -- a port of another name has room where it had
-module _ (a m : List ℕ) (u : ℕ) (t : Taken) (ne : m ≡ a → ⊥) where
+module _ (a m : List ℕ) (u : ℕ) (t : Occupant) (ne : m ≡ a → ⊥) where
   room_other : (ss : List Seat) (w : ℕ) → has_room (seated ss a u t) m w ≡ has_room ss m w
   room_other [] w = let e : bytes_eq m a ≡ false = bytes_eq-not m a ne in rw e refl
   room_other (s ∷ ss) w = by_cases (bytes_eq a s.name)
@@ -51,7 +51,7 @@ module _ (a m : List ℕ) (u : ℕ) (t : Taken) (ne : m ≡ a → ⊥) where
       (λ y. ap (λ c. has_room (if c then record { name = s.name; width = s.width; taken = Some t } ∷ ss else s ∷ seated ss a u t) m w) y
       ∙ ap (λ z. if bytes_eq m s.name then is_none s.taken && s.width == w else z) (room_other ss w))
 
-pub free_other : (old new : Net) (a m : List ℕ) (u w : ℕ) (t : Taken) → (m ≡ a → ⊥) → new.nodes ≡ old.nodes → new.seats ≡ seated old.seats a u t → IsFree old m w → IsFree new m w
+pub free_other : (old new : Net) (a m : List ℕ) (u w : ℕ) (t : Occupant) → (m ≡ a → ⊥) → new.nodes ≡ old.nodes → new.seats ≡ seated old.seats a u t → IsFree old m w → IsFree new m w
 free_other old new a m u w t ne nodes seats h = record {
   seats = ap (λ ss. has_room ss m w) seats ∙ room_other a m u t ne old.seats w ∙ h.seats;
   registers = subst (λ ns. Lacks (map (λ r. r.name) (registers_of ns)) m) (sym nodes) h.registers;

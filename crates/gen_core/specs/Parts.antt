@@ -11,7 +11,7 @@ use Rattle.gen_scene.specs.declared.scene.Scene.{Scene}
 use Rattle.gen_scene.specs.Items.{IsItem}
 use Rattle.gen_scene.specs.Worth.{IsWorth}
 use Rattle.gen_clock.specs.Edges.{AreNexts, IsScene}
-use Rattle.gen_core.specs.declared.nodes.Taken.{Taken}
+use Rattle.gen_core.specs.declared.nodes.EdgeResults.{EdgeResults}
 use Rattle.gen_core.specs.declared.nodes.Parts.{Parts}
 
 -- the table has the nodes of the items that outputs show
@@ -24,7 +24,7 @@ pub record IsSceneOf (net : Net) (base : Base) (items : List Id) : Type 0 where
   pub shown : (s : Scene) → s.base.now ≡ base → s.items.now ≡ items → HasShown base.block.now base.inlet net items
 
 -- the nodes of what an edge takes
-pub record HasTaken (b : Block) (a : Inlet) (net : Net) (t : Taken) : Type 0 where
+pub record HasTaken (b : Block) (a : Inlet) (net : Net) (t : EdgeResults) : Type 0 where
   pub answered : IsWorth b a net t.answer 32 (λ n v. read_data b v n.access)
   pub nexts : AreNexts b a net t.nexts.items
 

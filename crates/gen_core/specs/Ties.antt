@@ -7,7 +7,7 @@ use Rattle.rtl_net.specs.Ids.{at}
 use Rattle.rtl_net.specs.Ports.{seated}
 use Rattle.rtl_net.specs.declared.node.Id.{Id}
 use Rattle.rtl_net.specs.declared.node.Seat.{Seat}
-use Rattle.rtl_net.specs.declared.node.Taken.TheVariants.{Output}
+use Rattle.rtl_net.specs.declared.node.Occupant.TheVariants.{Output}
 use Rattle.rb_model.specs.declared.block.Block.{Block}
 use Rattle.rb_model.specs.Kept.{Kept, register_name, register_width}
 use Rattle.rb_model.specs.Ports.{Outlet, outlets}

@@ -17,7 +17,7 @@ use std::alloc::Global;
 
 /// The nodes of the read data of the access of the edge, of 32 bits, and of what the registers take, in the order of the plan.
 #[derive(Drop)]
-pub(crate) struct Taken {
+pub(crate) struct EdgeResults {
     pub answer: Id,
     pub nexts: Vec<Id>,
 }
@@ -26,7 +26,7 @@ pub(crate) struct Taken {
 #[derive(Drop)]
 pub(crate) struct Parts {
     pub items: Vec<Id>,
-    pub taken: Taken,
+    pub taken: EdgeResults,
 }
 
 /// The nodes of the block's items by their places.
@@ -74,7 +74,7 @@ fn edge_nodes(
     net: &mut Netlist,
     scene: &Scene,
     hits: &WordHits,
-) -> Result<Taken, NoMemory>
+) -> Result<EdgeResults, NoMemory>
     requires scene { IsSceneOf net.old scene.now.base.now scene.now.items.now }
     requires reads { AreHitsOf scene.now.base.now.block.now scene.now.base.now.inlet net.old scene.now.base.now.block.now.reads read_word hits.now.reads.items }
     requires writes { AreHitsOf scene.now.base.now.block.now scene.now.base.now.inlet net.old scene.now.base.now.block.now.writes written_word hits.now.writes.items }
@@ -85,7 +85,7 @@ fn edge_nodes(
 {
     let answer = answer_node(alloc, net, scene, &hits.reads)?;
     let nexts = next_values(alloc, net, scene, hits)?;
-    Ok(Taken { answer, nexts })
+    Ok(EdgeResults { answer, nexts })
 }
 
 /// Adds the nodes of a block whose registers and pins are there. The only error is want of memory, after which the netlist has

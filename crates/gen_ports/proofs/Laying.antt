@@ -21,8 +21,8 @@ use Rattle.rtl_net.specs.Ids.{at}
 use Rattle.rtl_net.specs.Ports.{IsFree, IsNew, has_room, seat_names, seated}
 use Rattle.rtl_net.specs.declared.node.Id.{Id}
 use Rattle.rtl_net.specs.declared.node.Seat.{Seat}
-use Rattle.rtl_net.specs.declared.node.Taken.{Taken}
-use Rattle.rtl_net.specs.declared.node.Taken.TheVariants.{Input}
+use Rattle.rtl_net.specs.declared.node.Occupant.{Occupant}
+use Rattle.rtl_net.specs.declared.node.Occupant.TheVariants.{Input}
 use Rattle.rtl_net.proofs.Nets.{Extends-refl, Extends-trans, IsNode-extends}
 use Rattle.rb_model.specs.declared.block.Block.{Block}
 use Rattle.rb_model.specs.Kept.{Kept, Waited, Data, Error, has_wait, kept, kept_pins, register_name}
@@ -99,7 +99,7 @@ free_room s ss p n w t =
     let wide : (s.width == p.width) ≡ true = eq-eqb s.width p.width w in
     ap (λ c. if c then is_none s.taken && s.width == p.width else has_room ss p.name p.width) named ∙ ap (λ o. is_none o && s.width == p.width) t ∙ wide
 
-free_of : (d : Dir) (t : Option Taken) → d ≡ Out → IsTakenAs d t → t ≡ None
+free_of : (d : Dir) (t : Option Occupant) → d ≡ Out → IsTakenAs d t → t ≡ None
 free_of In t d h = cc
 free_of Out t d h = h
 
@@ -141,7 +141,7 @@ pub told_true : {X : Type 0} (c : Bool) → (c ≡ true → X) → OnTrue c X
 told_true true h = h refl
 told_true false h = tt
 
-seated_is : (ss : List Seat) (name : Name) (w : ℕ) (t : Taken) → Lacks (seat_names ss) name → seated ss name w t ≡ ss ++ record { name = name; width = w; taken = Some t } ∷ []
+seated_is : (ss : List Seat) (name : Name) (w : ℕ) (t : Occupant) → Lacks (seat_names ss) name → seated ss name w t ≡ ss ++ record { name = name; width = w; taken = Some t } ∷ []
 seated_is [] name w t h = refl
 seated_is (s ∷ ss) name w t h = by (bytes_eq name s.name) refl h (seated_is ss name w t)
   where

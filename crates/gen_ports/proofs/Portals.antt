@@ -1,9 +1,8 @@
 -- The names and widths of a block's ports.
-use Rattle.std.proofs.Common.{◌≡◌, ℕ, zero, suc, ◌<◌, ◌≤◌, ◌==◌, Bool, true, false, not, ◌&&◌, if◌then◌else◌, Option, Some, None, List, [], ◌∷◌, ◌++◌, codes, map, filter, slice_get, refl, sym, ap, ◌∙◌, arith}
+use Rattle.std.proofs.Common.{◌≡◌, ℕ, ◌<◌, ◌≤◌, ◌==◌, Bool, true, false, not, ◌&&◌, if◌then◌else◌, Option, Some, None, List, [], ◌∷◌, ◌++◌, codes, map, filter, slice_get, refl, sym, ◌∙◌, arith}
 use Rattle.std.proofs.lemmas.Bool.Decides.{nat_tests}
 use Rattle.std.specs.List.{enumerate_from, flat_map, list_all}
 use Rattle.std.specs.Str.{bytes_eq}
-use Rattle.std.proofs.lemmas.Option.{same_Some}
 use Rattle.plain_lemmas.proofs.Bools.{and-both as and_parts}
 use Rattle.rb_base.specs.declared.ports.Pin.{Pin}
 use Rattle.rb_base.specs.declared.ports.Port.{Port}
@@ -32,6 +31,7 @@ use Rattle.rb_model.specs.References.{Each, WithSome}
 use Rattle.rb_model.specs.Sound.{IsSound, is_path}
 use Rattle.rb_model.specs.SoundField.{AmountFits, CountFits, FieldIsSound, FieldIsSoundIn, PartFits}
 use Rattle.rb_model.proofs.Eachs.{Each-always, Each-append, Each-at, Each-flat_map, Each-from_zero, Each-map, Each-numbered_all, Each-passing}
+use Rattle.plain_lemmas.proofs.Lists.{all-get as list_at}
 
 -- a name and a width that a port may have, other than the clock's
 pub record IsPortal (name : List ℕ) (w : ℕ) : Type 0 where
@@ -128,11 +128,6 @@ byte_wider c h = grind (arith, nat_tests)
 path_of : (bs : List ℕ) → is_path bs ≡ true → IsPath bs
 path_of [] h = refl
 path_of (c ∷ bs) h = let p = and_parts (design.is_name_byte c) (list_all design.is_name_byte bs) h in rw (byte_wider c p.0) (path_of bs p.1)
-
-list_at : {X : Type 0} (test : X → Bool) (xs : List X) (k : ℕ) (x : X) → list_all test xs ≡ true → slice_get xs k ≡ Some x → test x ≡ true
-list_at test [] k x h e = cc
-list_at test (y ∷ ys) zero x h e = ap test (sym (same_Some y x e)) ∙ (and_parts (test y) (list_all test ys) h).0
-list_at test (y ∷ ys) (suc k) x h e = list_at test ys k x (and_parts (test y) (list_all test ys) h).1 e
 
 -- Pins
 

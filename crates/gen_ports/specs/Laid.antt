@@ -9,12 +9,12 @@ use Rattle.rtl_net.specs.Net.{Net}
 use Rattle.rtl_net.specs.Ids.{at}
 use Rattle.rtl_net.specs.declared.node.Id.{Id}
 use Rattle.rtl_net.specs.declared.node.Seat.{Seat}
-use Rattle.rtl_net.specs.declared.node.Taken.{Taken}
-use Rattle.rtl_net.specs.declared.node.Taken.TheVariants.{Input}
+use Rattle.rtl_net.specs.declared.node.Occupant.{Occupant}
+use Rattle.rtl_net.specs.declared.node.Occupant.TheVariants.{Input}
 use Rattle.gen_scene.specs.Bases.{IsPinNode}
 
 -- an input's seat is taken by an input, and an output's is free
-abbrev pub IsTakenAs : Dir → Option Taken → Type 0
+abbrev pub IsTakenAs : Dir → Option Occupant → Type 0
 IsTakenAs In t = (id : Id) × (t ≡ Some (Input id))
 IsTakenAs Out t = t ≡ None
 

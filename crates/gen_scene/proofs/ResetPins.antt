@@ -1,5 +1,5 @@
 -- The pins of resets, and what they make of registers.
-use Rattle.std.proofs.Common.{◌≡◌, ℕ, ◌==◌, ◌<◌, ◌^◌, Bool, true, false, not, ◌&&◌, if◌then◌else◌, Option, Some, None, unwrap_or, List, ◌++◌, codes, length, map, slice_get, zero, suc, [], ◌∷◌, lit<, refl, sym, ap, ◌∙◌, subst, arith}
+use Rattle.std.proofs.Common.{◌≡◌, ℕ, ◌==◌, ◌<◌, ◌^◌, Bool, true, false, not, ◌&&◌, if◌then◌else◌, Option, Some, None, unwrap_or, List, ◌++◌, codes, length, map, slice_get, [], ◌∷◌, lit<, refl, sym, ap, ◌∙◌, subst, arith}
 use Rattle.std.specs.Prelude.{Contains, IsTrue}
 use Rattle.std.specs.List.{enumerate_from, list_all}
 use Rattle.std.specs.Option.{option_map_or}
@@ -40,6 +40,7 @@ use Rattle.gen_scene.specs.Bases.{HasPins, IsPinNode, kept_number, kept_reset, k
 use Rattle.gen_scene.specs.Worth.{Finds, IsWorth}
 use Rattle.block_plan.proofs.Wanting.{field_sound}
 use Rattle.gen_scene.proofs.Sources.{pin_is, pin_node}
+use Rattle.plain_lemmas.proofs.Lists.{all-get as list_at}
 
 -- the pin of a reset
 pub record ResetsAt (b : Block) (p : Plan) (signal : Option ℕ) : Type 0 where
@@ -118,11 +119,6 @@ byte_wider c h = grind (arith, nat_tests)
 bytes_wider : (bs : List ℕ) → list_all design.is_name_byte bs ≡ true → list_all names.is_name_byte bs ≡ true
 bytes_wider [] h = refl
 bytes_wider (c ∷ bs) h = let p = and_left (design.is_name_byte c) (list_all design.is_name_byte bs) h in rw (byte_wider c p.0) (bytes_wider bs p.1)
-
-list_at : {X : Type 0} (test : X → Bool) (xs : List X) (k : ℕ) (x : X) → list_all test xs ≡ true → slice_get xs k ≡ Some x → test x ≡ true
-list_at test [] k x h e = cc
-list_at test (y ∷ ys) zero x h e = ap test (sym (same_Some y x e)) ∙ (and_left (test y) (list_all test ys) h).0
-list_at test (y ∷ ys) (suc k) x h e = list_at test ys k x (and_left (test y) (list_all test ys) h).1 e
 
 pub named : (b : Block) → IsSound b → (k : Kept) (n : ℕ) (f : Field) → kept_number k ≡ Some n → slice_get b.fields n ≡ Some f → IsTrue (is_net_name (kept_word k ++ f.path))
 named b sound k n f of here = by k of

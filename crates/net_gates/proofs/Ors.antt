@@ -11,9 +11,7 @@ use Rattle.std.proofs.lemmas.List.Elements.{All-get_or}
 use Rattle.rtl_net.specs.Net.{Net, Grows, IsNode, Stands, width_in}
 use Rattle.rtl_net.proofs.Nets.{IsNode-is, Stands-grows}
 use Rattle.std.specs.Prelude.{All, slice_index_or}
-
-max_assoc : (x y z : ℕ) → max (max x y) z ≡ max x (max y z)
-max_assoc x y z = omega arith
+use Rattle.plain_lemmas.proofs.Numbers.{max_assoc}
 
 pub or_assoc : (a b c : ℕ) → bit_or (bit_or a b) c ≡ bit_or a (bit_or b c)
 or_assoc a b c = same_from_bits (bit_or (bit_or a b) c) (bit_or a (bit_or b c)) (λ i.

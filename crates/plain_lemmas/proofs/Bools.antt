@@ -1,5 +1,5 @@
 -- Lemmas on booleans.
-use Rattle.std.proofs.Common.{◌≡◌, ℕ, Bool, true, false, if◌then◌else◌, refl, ◌&&◌, ◌||◌, not, ◌⊎◌, inl, inr, sym, arith, cond}
+use Rattle.std.proofs.Common.{◌≡◌, ℕ, Bool, true, false, if◌then◌else◌, refl, ◌&&◌, ◌||◌, not, ◌⊎◌, inl, inr, sym, arith, cond, ap}
 use Rattle.std.proofs.lemmas.Bool.{and_parts}
 
 pub if-same : (c : Bool) (x : ℕ) → (if c then x else x) ≡ x
@@ -90,3 +90,17 @@ or-assoc false b c = refl
 pub cond-map : {A B : Type 0} (g : A → B) (b : Bool) (x y : A) → cond b (g x) (g y) ≡ g (cond b x y)
 cond-map g true x y = refl
 cond-map g false x y = refl
+
+pub or-left : (a b : Bool) → a ≡ true → (a || b) ≡ true
+or-left true b h = refl
+or-left false b h = cc
+
+pub and-true_left : (a b : Bool) → a ≡ true → (a && b) ≡ b
+and-true_left a b e = grind arith
+
+pub not-of_false : (b : Bool) → b ≡ false → not b ≡ true
+not-of_false b e = ap not e
+
+pub true_or_false : (b : Bool) → (b ≡ true) ⊎ (b ≡ false)
+true_or_false true = inl refl
+true_or_false false = inr refl

@@ -1,13 +1,15 @@
 -- Lemmas on lists.
-use Rattle.std.proofs.Common.{ℕ, ◌≡◌, true, List, refl, ◌-◌, ◌∷◌, length, take, drop, arith, length-drop, zero, suc, ◌+◌, [], ◌++◌, Some, slice_get, ◌≤◌, None, ap, ◌<◌, ◌∙◌, Bool, false, cond, filter, if◌then◌else◌, ◌||◌, map, fold, option_map, flat_map}
+use Rattle.std.proofs.Common.{ℕ, ◌≡◌, true, List, refl, ◌-◌, ◌∷◌, length, take, drop, arith, length-drop, zero, suc, ◌+◌, [], ◌++◌, Some, slice_get, ◌≤◌, None, ap, ◌<◌, ◌∙◌, Bool, false, cond, filter, if◌then◌else◌, ◌||◌, map, fold, option_map, flat_map, sym, subst, get_or}
 use Rattle.std.proofs.lemmas.Grind.{common_steps}
 use Rattle.std.proofs.lemmas.List.{take_all}
 use Rattle.std.proofs.lemmas.Option.{same_Some}
 use Rattle.std.proofs.lemmas.Slice.Eq.{bytes_eq-Decides}
 use Rattle.std.specs.Cmp.Lexicographic.{nat_list_eq_equiv, bytes_decides}
-use Rattle.std.specs.List.{AllByRecursion, list_any}
+use Rattle.std.specs.List.{AllByRecursion, list_any, list_all, position_from}
 use Rattle.std.specs.Prelude.{Contains}
 use Rattle.std.specs.Str.{bytes_eq}
+use Rattle.plain_lemmas.proofs.Bools.{and-both as and_left}
+use Rattle.std.proofs.lemmas.Bool.{false_from_ne_true}
 
 pub bytes_eq-itself : (n : List ℕ) → bytes_eq n n ≡ true
 bytes_eq-itself n = (bytes_eq-Decides n n).1 refl
@@ -197,3 +199,96 @@ map-alike f g (x ∷ xs) h = (λ i. h x (0, omega arith, refl) i ∷ map-alike f
 pub map-map : {X Y Z : Type 0} (f : Y → Z) (g : X → Y) (xs : List X) → map f (map g xs) ≡ map (λ x. f (g x)) xs
 map-map f g [] = refl
 map-map f g (x ∷ xs) = ap (λ ys. f (g x) ∷ ys) (map-map f g xs)
+
+pub get-within : {A : Type 0} (xs : List A) (i : ℕ) (x : A) → slice_get xs i ≡ Some x → i < length xs
+get-within [] i x e = cc e
+get-within (y ∷ ys) zero x e = omega arith
+get-within (y ∷ ys) (suc i) x e = let l = get-within ys i x e in omega (arith, l)
+
+pub all-get : {X : Type 0} (test : X → Bool) (xs : List X) (k : ℕ) (x : X) → list_all test xs ≡ true → slice_get xs k ≡ Some x → test x ≡ true
+all-get test [] k x h e = cc
+all-get test (y ∷ ys) zero x h e = ap test (sym (same_Some y x e)) ∙ (and_left (test y) (list_all test ys) h).0
+all-get test (y ∷ ys) (suc k) x h e = all-get test ys k x (and_left (test y) (list_all test ys) h).1 e
+
+pub each-get : {X : Type 0} (P : X → Type 0) (xs : List X) (k : ℕ) (x : X) → AllByRecursion P xs → slice_get xs k ≡ Some x → P x
+each-get P [] k x h e = cc e
+each-get P (y ∷ ys) zero x h e = let same : y ≡ x = cc e in subst P same h.0
+each-get P (y ∷ ys) (suc k) x h e = each-get P ys k x h.1 e
+
+pub some-at : {X : Type 0} (xs : List X) (i : ℕ) → i < length xs → (x : X) × (slice_get xs i ≡ Some x)
+some-at [] i l = absurd (omega (arith, l))
+some-at (x ∷ xs) zero l = (x, refl)
+some-at (x ∷ xs) (suc i) l = some-at xs i (omega (arith, l))
+
+pub each-append : {X : Type 0} (P : X → Type 0) (xs ys : List X) → AllByRecursion P xs → AllByRecursion P ys → AllByRecursion P (xs ++ ys)
+each-append P [] ys h g = g
+each-append P (x ∷ xs) ys h g = (h.0, each-append P xs ys h.1 g)
+
+pub each-imp : {X : Type 0} (P Q : X → Type 0) (xs : List X) → ((x : X) → P x → Q x) → AllByRecursion P xs → AllByRecursion Q xs
+each-imp P Q [] f h = tt
+each-imp P Q (x ∷ xs) f h = (f x h.0, each-imp P Q xs f h.1)
+
+pub take-get_more : {A : Type 0} (xs : List A) (n i : ℕ) (x : A) → slice_get (take n xs) i ≡ Some x → slice_get (take (suc n) xs) i ≡ Some x
+take-get_more [] zero i x h = cc h
+take-get_more [] (suc n) i x h = cc h
+take-get_more (y ∷ ys) zero i x h = cc h
+take-get_more (y ∷ ys) (suc n) zero x h = h
+take-get_more (y ∷ ys) (suc n) (suc i) x h = take-get_more ys n i x h
+
+pub mapped-at : {X Y : Type 0} (f : X → Y) (xs : List X) (i : ℕ) (x : X) (d : Y) → slice_get xs i ≡ Some x → get_or (map f xs) i d ≡ f x
+mapped-at f [] i x d h = cc h
+mapped-at f (y ∷ ys) zero x d h = let e : y ≡ x = cc in ap f e
+mapped-at f (y ∷ ys) (suc i) x d h = mapped-at f ys i x d h
+
+pub get-at : {X : Type 0} (xs : List X) (i : ℕ) (d : X) → i < length xs → slice_get xs i ≡ Some (get_or xs i d)
+get-at [] i d l = absurd (omega (arith, l))
+get-at (x ∷ xs) zero d l = refl
+get-at (x ∷ xs) (suc i) d l = get-at xs i d (omega (arith, l))
+
+pub drop-rest : {X : Type 0} (xs : List X) (k : ℕ) (x : X) (rest : List X) → drop k xs ≡ x ∷ rest → drop (suc k) xs ≡ rest
+drop-rest [] zero x rest e = cc e
+drop-rest [] (suc k) x rest e = cc e
+drop-rest (y ∷ ys) zero x rest e = let same : ys ≡ rest = cc e in same
+drop-rest (y ∷ ys) (suc k) x rest e = drop-rest ys k x rest e
+
+pub take-rest : {X : Type 0} (xs : List X) (n : ℕ) → take (length xs - n) (drop n xs) ≡ drop n xs
+take-rest xs n = take_all (length xs - n) (drop n xs) (omega (arith, length-drop n xs))
+
+pub each-flat_map : {X Y : Type 0} (P : Y → Type 0) (f : X → List Y) (xs : List X) → AllByRecursion (λ x. AllByRecursion P (f x)) xs → AllByRecursion P (flat_map f xs)
+each-flat_map P f [] h = tt
+each-flat_map P f (x ∷ xs) h = each-append P (f x) (flat_map f xs) h.0 (each-flat_map P f xs h.1)
+
+pub any-get : {X : Type 0} (p : X → Bool) (xs : List X) (i : ℕ) (x : X) → slice_get xs i ≡ Some x → p x ≡ true → list_any p xs ≡ true
+any-get p [] i x e t = cc
+any-get p (y ∷ ys) zero x e t = let q : y ≡ x = cc in let r : p y ≡ true = ap p q ∙ t in rw r refl
+any-get p (y ∷ ys) (suc i) x e t = let r : list_any p ys ≡ true = any-get p ys i x e t in later (p y) r
+  where
+    later : (c : Bool) → list_any p ys ≡ true → (c || list_any p ys) ≡ true
+    later true r = refl
+    later false r = r
+
+pub any-map : {X Y : Type 0} (p : Y → Bool) (f : X → Y) (xs : List X) → list_any p (map f xs) ≡ list_any (λ x. p (f x)) xs
+any-map p f [] = refl
+any-map p f (x ∷ xs) = ap (λ b. p (f x) || b) (any-map p f xs)
+
+pub position_from-least : (f : List ℕ → Bool) (i : ℕ) (xs : List (List ℕ)) (k : ℕ) → position_from f i xs ≡ Some k → i ≤ k
+position_from-least f i [] k e = cc
+position_from-least f i (x ∷ xs) k e = go (f x) e (position_from-least f (i + 1) xs k)
+  where
+    go : (b : Bool) → cond b (Some i) (position_from f (i + 1) xs) ≡ Some k → (position_from f (i + 1) xs ≡ Some k → i + 1 ≤ k) → i ≤ k
+    go true e ih = let same : i ≡ k = cc in omega (arith, same)
+    go false e ih = let l = ih e in omega (arith, l)
+
+pub any-default : {X : Type 0} (xs : List X) (i : ℕ) (d e : X) → i < length xs → get_or xs i d ≡ get_or xs i e
+any-default [] i d e l = absurd (omega (arith, l))
+any-default (x ∷ xs) zero d e l = refl
+any-default (x ∷ xs) (suc i) d e l = any-default xs i d e (omega (arith, l))
+
+pub get_or-front : (xs : List ℕ) (y i : ℕ) → i < length xs → get_or (xs ++ y ∷ []) i 0 ≡ get_or xs i 0
+get_or-front xs y i h = grind (arith, common_steps)
+
+pub get_or-end : (xs : List ℕ) (y i : ℕ) → i ≡ length xs → get_or (xs ++ y ∷ []) i 0 ≡ y
+get_or-end xs y i h = grind (arith, common_steps)
+
+pub differ_by : (a b : List ℕ) → (a ≡ b → ⊥) → bytes_eq a b ≡ false
+differ_by a b h = false_from_ne_true (bytes_eq a b) (λ t. h ((bytes_eq-Decides a b).0 t))

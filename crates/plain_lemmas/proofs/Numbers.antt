@@ -1,8 +1,9 @@
 -- Lemmas on numbers.
-use Rattle.std.proofs.Common.{◌≡◌, ℕ, ◌==◌, true, arith, ◌+◌, suc, ◌∙◌, ◌/◌, ◌%◌, ◌<◌, ◌≤◌, ◌^◌, [], ◌∷◌, length, decimal, ap, false, nat_lt, ◌⊎◌, ◌&&◌, ◌||◌, eqb, min, zero, ◌*◌}
+use Rattle.std.proofs.Common.{◌≡◌, ℕ, ◌==◌, true, arith, ◌+◌, suc, ◌∙◌, ◌/◌, ◌%◌, ◌<◌, ◌≤◌, ◌^◌, [], ◌∷◌, length, decimal, ap, false, nat_lt, ◌⊎◌, ◌&&◌, ◌||◌, eqb, min, zero, ◌*◌, nat_le, ◌≢◌, ◌-◌, max, Bool, refl}
 use Rattle.std.proofs.lemmas.Bool.Decides.{nat_tests}
 use Rattle.std.proofs.lemmas.Fmt.{decimal_step, decimal_digit}
 use Rattle.std.proofs.lemmas.List.{length-append}
+use Rattle.std.proofs.Math.Nat.{mod-add-mod}
 
 pub eq-itself : (m : ℕ) → (m == m) ≡ true
 eq-itself m = grind arith
@@ -55,3 +56,46 @@ min-right m n l = grind (arith, l)
 pub below_times-positive : (d p k : ℕ) → k < d * p → 0 < p
 below_times-positive d zero k l = let e : d * 0 ≡ 0 = omega arith in absurd (omega (arith, l, e))
 below_times-positive d (suc p) k l = omega arith
+
+pub most : (a b : ℕ) → a ≤ b → nat_le a b ≡ true
+most a b h = grind (arith, nat_tests)
+
+pub same_or_above : (p k : ℕ) → p ≤ k → (k ≡ p) ⊎ (p + 1 ≤ k)
+same_or_above p k l = grind arith
+
+pub less : (a b : ℕ) → nat_lt a b ≡ true → a < b
+less a b h = grind (arith, nat_tests)
+
+pub at-most : (a b : ℕ) → nat_le a b ≡ true → a ≤ b
+at-most a b h = grind (arith, nat_tests)
+
+pub same_or_other : (m n : ℕ) → ((m ≡ n) × ((m == n) ≡ true)) ⊎ ((m ≢ n) × ((m == n) ≡ false))
+same_or_other m n = grind arith
+
+pub wrap_down : (a m d : ℕ) → d < m → (a % m + m - d) % m ≡ (a + m - d) % m
+wrap_down a m d h =
+    let p : a % m + m - d ≡ a % m + (m - d) = omega arith in
+    let q : a + (m - d) ≡ a + m - d = omega arith in
+    ap (λ n. n % m) p ∙ mod-add-mod a m (m - d) ∙ ap (λ n. n % m) q
+
+pub max_assoc : (x y z : ℕ) → max (max x y) z ≡ max x (max y z)
+max_assoc x y z = omega arith
+
+pub differ : (a b : ℕ) → b < a → (a == b) ≡ false
+differ a b h = grind arith
+
+pub differ_above : (a b : ℕ) → a < b → (a == b) ≡ false
+differ_above a b h = grind arith
+
+pub below_or_from : (k i : ℕ) → (k < i) ⊎ (i ≤ k)
+below_or_from k i = grind arith
+
+pub not-number : (a b : ℕ) → (a ≡ b → ⊥) → (a == b) ≡ false
+not-number a b differ = go (a == b) refl
+  where
+    go : (t : Bool) → (a == b) ≡ t → t ≡ false
+    go true e = absurd (differ (eq-same a b e))
+    go false e = refl
+
+pub fits : (b k : ℕ) → nat_le b k ≡ false → k < b
+fits b k e = grind (arith, nat_tests)

@@ -1,6 +1,7 @@
 -- Lemmas on optional values.
-use Rattle.std.proofs.Common.{◌≡◌, ℕ, Option, None, Some, refl, false, is_some, true, IfSome, subst}
-use Rattle.std.specs.Option.{option_or}
+use Rattle.std.proofs.Common.{◌≡◌, ℕ, Option, None, Some, refl, false, is_some, true, IfSome, subst, IsSome}
+use Rattle.std.specs.Option.{option_or, option_copied}
+use Rattle.std.specs.Borrow.{Bor}
 
 pub option_or-none : (o : Option ℕ) → o ≡ option_or o None
 option_or-none None = refl
@@ -25,3 +26,11 @@ if_some-map (Some x) P Q f h = f x h
 pub is_some-false : {X : Type 0} (o : Option X) → is_some o ≡ false → o ≡ None
 is_some-false None e = refl
 is_some-false (Some x) e = cc e
+
+pub some_is : {A : Type 0} (o : Option A) → IsSome o → (x : A) × (o ≡ Some x)
+some_is None h = cc h
+some_is (Some x) h = (x, refl)
+
+pub some_copied : {X : Type 0} (o : Option (Bor X)) → is_some (option_copied o) ≡ is_some o
+some_copied None = refl
+some_copied (Some x) = refl

@@ -13,8 +13,8 @@ use Rattle.rb_model.specs.Kept.{Done, of_field}
 use Rattle.rb_model.specs.Items.{Access, NoAccess, Read, Write, Now, ItemValues, shows, slots_of}
 use Rattle.rb_model.specs.Machine.{of_view, slot_bits, software, uses_up, view_gate}
 use Rattle.rb_machine.specs.declared.sight.FieldState.{FieldState}
-use Rattle.rb_machine.specs.declared.scene.Mark.{Mark}
-use Rattle.rb_machine.specs.Scene.{AreMarks, mark_at, no_mark}
+use Rattle.rb_machine.specs.declared.scene.Strobes.{Strobes}
+use Rattle.rb_machine.specs.Scene.{AreStrobes, mark_at, no_mark}
 use Rattle.rb_machine.specs.Slots.{access_state, read_mark, read_state, touched, touched_by, width_at, write_mark, write_state}
 
 or_assoc : (a b c : Bool) → ((a || b) || c) ≡ (a || (b || c))
@@ -110,8 +110,8 @@ slots_at : (ws : List Word) (i : ℕ) (w : Word) → slice_get ws i ≡ Some w �
 slots_at ws i w e = ap (λ o. option_map_or (λ w. w.slots) o []) e
 
 -- the marks of a read, and of a write
-pub read_marks : (b : Block) (i : ℕ) (w : Word) (cleared marks : List Mark) → slice_get b.reads i ≡ Some w → ((k : ℕ) → mark_at cleared k ≡ no_mark)
-    → ((k : ℕ) → mark_at marks k ≡ touched_by b k read_mark (mark_at cleared k) w.slots) → AreMarks b (Read i) marks
+pub read_marks : (b : Block) (i : ℕ) (w : Word) (cleared marks : List Strobes) → slice_get b.reads i ≡ Some w → ((k : ℕ) → mark_at cleared k ≡ no_mark)
+    → ((k : ℕ) → mark_at marks k ≡ touched_by b k read_mark (mark_at cleared k) w.slots) → AreStrobes b (Read i) marks
 read_marks b i w cleared marks here none h = record {
   modified = λ k. ap (λ m. m.modified) (at k) ∙ any_touched b k read_mark (λ m. m.modified) (λ w. has_read_effect w.on_read) (λ w s x e. refl) no_mark (slots_of b.reads i);
   accessed = λ k. ap (λ m. m.accessed) (at k) ∙ any_touched b k read_mark (λ m. m.accessed) (λ w. w.reads) (λ w s x e. refl) no_mark (slots_of b.reads i);
@@ -120,8 +120,8 @@ read_marks b i w cleared marks here none h = record {
     at : (k : ℕ) → mark_at marks k ≡ touched_by b k read_mark no_mark (slots_of b.reads i)
     at k = h k ∙ (ap (λ m. touched_by b k read_mark m w.slots) (none k) ∙ ap (touched_by b k read_mark no_mark) (sym (slots_at b.reads i w here)))
 
-pub write_marks : (b : Block) (i d : ℕ) (w : Word) (cleared marks : List Mark) → slice_get b.writes i ≡ Some w → ((k : ℕ) → mark_at cleared k ≡ no_mark)
-    → ((k : ℕ) → mark_at marks k ≡ touched_by b k write_mark (mark_at cleared k) w.slots) → AreMarks b (Write i d) marks
+pub write_marks : (b : Block) (i d : ℕ) (w : Word) (cleared marks : List Strobes) → slice_get b.writes i ≡ Some w → ((k : ℕ) → mark_at cleared k ≡ no_mark)
+    → ((k : ℕ) → mark_at marks k ≡ touched_by b k write_mark (mark_at cleared k) w.slots) → AreStrobes b (Write i d) marks
 write_marks b i d w cleared marks here none h = record {
   modified = λ k. ap (λ m. m.modified) (at k) ∙ any_touched b k write_mark (λ m. m.modified) (λ w. w.writes) (λ w s x e. refl) no_mark (slots_of b.writes i);
   accessed = λ k. ap (λ m. m.accessed) (at k) ∙ any_touched b k write_mark (λ m. m.accessed) (λ w. w.writes) (λ w s x e. refl) no_mark (slots_of b.writes i);

@@ -18,6 +18,7 @@ use Rattle.rb_machine.specs.declared.bus.Access.{Access}
 use Rattle.rb_machine.specs.declared.bus.Access.TheVariants as access
 use Rattle.rb_machine.specs.declared.bus.Transfer.{Transfer}
 use Rattle.rb_machine.specs.Transfers.{IsThere, IsTransfer, access_seen}
+use Rattle.plain_lemmas.proofs.Numbers.{differ, differ_above}
 
 last_or_before : (i j : ℕ) → i < suc j → (i ≡ j) ⊎ (i < j)
 last_or_before i j l = grind arith
@@ -44,12 +45,6 @@ never_falls xs h i j l m = by (same_or_below i j l)
     by : (i ≡ j) ⊎ (i < j) → get_or xs i 0 ≤ get_or xs j 0
     by (inl e) = let q : get_or xs i 0 ≡ get_or xs j 0 = ap (λ n. get_or xs n 0) e in omega (arith, q)
     by (inr k) = omega (arith, rises xs h i j k m)
-
-differ : (a b : ℕ) → b < a → (a == b) ≡ false
-differ a b h = grind arith
-
-differ_above : (a b : ℕ) → a < b → (a == b) ≡ false
-differ_above a b h = grind arith
 
 equal : (a b : ℕ) → b ≡ a → (a == b) ≡ true
 equal a b h = grind arith

@@ -4,6 +4,7 @@ use Rattle.std.proofs.Math.ListN.{set}
 use Rattle.std.proofs.lemmas.Option.{get_or_from_slice_get, same_Some, slice_get_within}
 use Rattle.rb_model.specs.declared.block.Field.{Field}
 use Rattle.rb_machine.specs.Quiet.{AreNextBusy, IsNextBusy, is_quiet, rests}
+use Rattle.plain_lemmas.proofs.Numbers.{same_or_above}
 
 -- past the last place there is none
 pub none_left : (fields : List Field) (n : ℕ) → n ≡ length fields → IsNextBusy fields n n
@@ -12,9 +13,6 @@ none_left fields n e = record {
   quiet = λ m f from to here. absurd (omega (arith, from, to));
   busy = λ f here. let low : n < length fields = slice_get_within fields n f here in absurd (omega (arith, low, e));
 }
-
-same_or_above : (i m : ℕ) → i ≤ m → (m ≡ i) ⊎ (i + 1 ≤ m)
-same_or_above i m l = grind arith
 
 -- one place lower
 pub quiet_below : (fields : List Field) (i j : ℕ) (f : Field) → slice_get fields i ≡ Some f → is_quiet f ≡ true → IsNextBusy fields (i + 1) j → IsNextBusy fields i j

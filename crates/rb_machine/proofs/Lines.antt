@@ -15,10 +15,7 @@ use Rattle.block_plan.specs.Plan.{IsPlaceOf, IsPlanOf, members_of}
 use Rattle.block_plan.proofs.Interrupts.{member_listed}
 use Rattle.rb_machine.specs.Scene.{raises_line}
 use Rattle.std.proofs.lemmas.Option.{get_or_from_slice_get, slice_get_past, slice_get_read}
-
-or_true : (a b : Bool) → b ≡ true → (a || b) ≡ true
-or_true true b h = refl
-or_true false b h = h
+use Rattle.plain_lemmas.proofs.Bools.{or-true_right as or_true}
 
 module _ {X : Type 0} (P : ℕ × X → Bool) where
   any_from : (n m : ℕ) (xs : List X) (k : ℕ) → n + k ≡ m → option_map_or (λ f. P (m, f)) (slice_get xs k) false ≡ true → list_any P (enumerate_from n xs) ≡ true

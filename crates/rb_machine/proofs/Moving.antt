@@ -9,16 +9,11 @@ use Rattle.rb_model.specs.Machine.{is_asserted}
 use Rattle.rb_model.specs.Run.{pins_of}
 use Rattle.rb_machine.specs.declared.sight.FieldState.{FieldState}
 use Rattle.rb_machine.specs.declared.sight.FieldNow.{FieldNow}
-use Rattle.rb_machine.specs.declared.scene.Scene.{Scene}
+use Rattle.rb_machine.specs.declared.scene.EdgeState.{EdgeState}
 use Rattle.rb_machine.specs.Moves.{ended_state, kept_state, next_state, reset_state, started_state}
 use Rattle.rb_machine.specs.Scene.{IsAt, no_state, now_in, state_at}
 use Rattle.rb_machine.specs.Table.{values_of}
-
-same_or_below : (k i : ℕ) → k < i + 1 → (k ≡ i) ⊎ (k < i)
-same_or_below k i l = grind arith
-
-below_or_from : (k i : ℕ) → (k < i) ⊎ (i ≤ k)
-below_or_from k i = grind arith
+use Rattle.plain_lemmas.proofs.Numbers.{below_next-same_or as same_or_below, below_or_from}
 
 -- one field more
 pub moved_more : (b : Block) (g : ℕ → Field → FieldState) (states : List FieldState) (i : ℕ) (y : FieldState) → i < length states → ((f : Field) → slice_get b.fields i ≡ Some f → y ≡ g i f)
@@ -58,7 +53,7 @@ pub moved_all : (b : Block) (g : ℕ → Field → FieldState) (states : List Fi
 moved_all b g states i past h k f here = let low : k < length b.fields = slice_get_within b.fields k f here in h k f (omega (arith, low, past)) here
 
 -- by what the field finds
-module _ (s : Scene) (values : List ℕ) (k : ℕ) (at : FieldNow) (is : IsAt s values k at) (f : Field) (here : slice_get s.block.now.fields k ≡ Some f) where
+module _ (s : EdgeState) (values : List ℕ) (k : ℕ) (at : FieldNow) (is : IsAt s values k at) (f : Field) (here : slice_get s.block.now.fields k ≡ Some f) where
   same_field : at.field.now ≡ f
   same_field = same_Some at.field.now f (sym is.here ∙ here)
 

@@ -15,6 +15,7 @@ use Rattle.rb_model.specs.declared.block.Signal.{Signal}
 use Rattle.rb_model.specs.Protocol.{Bus, bus_of}
 use Rattle.block_plan.specs.declared.plan.BusPlaces.{BusPlaces}
 use Rattle.block_plan.specs.Plan.{AreBusPlaces, IsPlaceOf}
+use Rattle.plain_lemmas.proofs.Numbers.{below_or_from as below_or_past}
 
 -- a pin that there isn't
 absent : (ps : List Pin) (xs name : List ℕ) → ((k : ℕ) (p : Pin) → slice_get ps k ≡ Some p → p.name ≡ name → ⊥) → by_name ps xs name ≡ 0
@@ -28,9 +29,6 @@ past_zero : (xs : List ℕ) (k : ℕ) → length xs ≤ k → get_or xs k 0 ≡ 
 past_zero [] k l = refl
 past_zero (x ∷ xs) zero l = absurd (omega (arith, l))
 past_zero (x ∷ xs) (suc k) l = past_zero xs k (omega (arith, l))
-
-below_or_past : (k n : ℕ) → (k < n) ⊎ (n ≤ k)
-below_or_past k n = grind arith
 
 -- the number of the pin of a name is that at its place, and 0 where there is no such pin
 pub place_at : (b : Block) → IsSound b → (name : List ℕ) (place : ℕ) → IsPlaceOf b name place → (x : List ℕ) → length x ≡ length (input_pins b) → pins_of b x name ≡ get_or x place 0

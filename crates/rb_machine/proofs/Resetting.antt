@@ -1,5 +1,5 @@
 -- Which resets are asserted.
-use Rattle.std.proofs.Common.{◌≡◌, ◌∙◌, ℕ, ◌+◌, ◌<◌, Bool, true, false, Some, List, slice_get, sym, ap, subst, arith, refl, inl, inr, ◌⊎◌}
+use Rattle.std.proofs.Common.{◌≡◌, ◌∙◌, ℕ, ◌+◌, ◌<◌, Bool, true, false, Some, List, slice_get, sym, ap, subst, refl, inl, inr, ◌⊎◌}
 use Rattle.std.specs.Prelude.{Contains}
 use Rattle.std.specs.List.{list_any}
 use Rattle.std.proofs.lemmas.List.Folds.{list_any_at}
@@ -10,6 +10,7 @@ use Rattle.rb_model.specs.declared.block.Block.{Block}
 use Rattle.rb_model.specs.declared.block.Field.{Field}
 use Rattle.rb_model.specs.Machine.{is_asserted}
 use Rattle.rb_machine.specs.Resets.{AreWays, NoneReset}
+use Rattle.plain_lemmas.proofs.Numbers.{below_next-same_or as same_or_below}
 
 -- a test that no element passes
 pub fails : {X : Type 0} (p : X → Bool) (xs : List X) (x : X) → list_any p xs ≡ false → Contains xs x → p x ≡ false
@@ -22,9 +23,6 @@ fails p xs x none (j, low, is) = by (p x) refl
 -- where no reset is asserted in any of the ways, no field is under reset
 pub none_reset : (b : Block) (p : Values) (ways : List ResetBy) → AreWays b.fields ways → list_any (is_asserted b p) ways ≡ false → NoneReset b p
 none_reset b p ways are none k f here = fails (is_asserted b p) ways f.reset_by none (are k f here)
-
-same_or_below : (k i : ℕ) → k < i + 1 → (k ≡ i) ⊎ (k < i)
-same_or_below k i l = grind arith
 
 -- the ways of one field more
 pub ways_more : (fields : List Field) (i : ℕ) (g : Field) (old new : List ResetBy) → slice_get fields i ≡ Some g → Contains new g.reset_by → ((r : ResetBy) → Contains old r → Contains new r)

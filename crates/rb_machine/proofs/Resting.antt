@@ -31,6 +31,7 @@ use Rattle.rb_machine.specs.Slots.{access_state}
 use Rattle.std.proofs.lemmas.Option.{get_or_from_slice_get, slice_get_within}
 use Rattle.rb_machine.proofs.Resetting.{fails}
 use Rattle.rb_machine.proofs.Accessing.{software_done, software_last, software_value}
+use Rattle.plain_lemmas.proofs.Bools.{if-same as if_same, or-true as or_true}
 
 none_of : {X : Type 0} (o : Option X) → not (is_some o) ≡ true → o ≡ None
 none_of None h = refl
@@ -139,10 +140,6 @@ unused b n v k none (Write i d) = none_once b k none (λ w. acts w (view_gate n 
 either : (c : Bool) (y z : ℕ) → y ≡ z → (if c then y else z) ≡ z
 either true y z e = e
 either false y z e = refl
-
-or_true : (c : Bool) → (c || true) ≡ true
-or_true true = refl
-or_true false = refl
 
 or_else : (c : Bool) (y z : ℕ) → y ≡ z → (if c then z else y) ≡ z
 or_else true y z e = refl
@@ -325,9 +322,6 @@ next_kept b n v left states h k f here =
     ap (kept_state f) e ∙ (kept_twice f (reset_state f (is_asserted b n.pins f.reset_by) (ended_state n v k f (left k f))) ∙ sym e)
 
 -- nor is anything kept of nothing
-if_same : (c : Bool) (x : ℕ) → (if c then x else x) ≡ x
-if_same true x = refl
-if_same false x = refl
 
 pub none_kept : (f : Field) → kept_state f no_state ≡ no_state
 none_kept f = same_state _ _ (if_same (is_storage f.class) 0) (if_same (keeps_last f.latch) 0) (if_same f.once 0)

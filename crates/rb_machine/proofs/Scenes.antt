@@ -17,9 +17,9 @@ use Rattle.rb_model.proofs.Eachs.{Each-from_zero}
 use Rattle.rb_model.specs.SoundField.{FieldIsSoundIn}
 use Rattle.block_plan.specs.declared.plan.FieldPlaces.{FieldPlaces}
 use Rattle.rb_machine.specs.declared.sight.FieldNow.{FieldNow}
-use Rattle.rb_machine.specs.declared.scene.Scene.{Scene}
+use Rattle.rb_machine.specs.declared.scene.EdgeState.{EdgeState}
 use Rattle.block_plan.specs.Plan.{AreFieldPlaces, IsGatePlace, IsPlaceOf}
-use Rattle.rb_machine.specs.Scene.{IsAt, IsScene, map_of, now_in, state_at}
+use Rattle.rb_machine.specs.Scene.{IsAt, IsEdgeState, map_of, now_in, state_at}
 use Rattle.rb_machine.specs.Sight.{GateSees}
 use Rattle.rb_machine.proofs.Placing.{place_at}
 use Rattle.rb_model.specs.Sound.{IsSound}
@@ -33,7 +33,7 @@ gate_seen b sound n x e l gate.Always high low path place h = tt
 gate_seen b sound n x e l (gate.High from) high low path place h = rw e (place_at b sound (high ++ path) place h x l)
 gate_seen b sound n x e l (gate.Low from) high low path place h = rw e (place_at b sound (low ++ path) place h x l)
 
-pub is_at : (s : Scene) (values : List ℕ) (k : ℕ) (f : FieldNow) → IsScene s → slice_get s.block.now.fields k ≡ Some f.field.now
+pub is_at : (s : EdgeState) (values : List ℕ) (k : ℕ) (f : FieldNow) → IsEdgeState s → slice_get s.block.now.fields k ≡ Some f.field.now
     → slice_get s.plan.now.fields.items k ≡ Some f.places.now → state_at s.held.now.fields.items k ≡ f.state → f.pins.now ≡ s.pins.now → f.table.now ≡ values → IsAt s values k f
 is_at s values k f scene here placed state pins table =
     let b = s.block.now in
@@ -68,7 +68,7 @@ pub has_places : (b : Block) (ps : List FieldPlaces) (k : ℕ) (f : Field) → (
 has_places b ps k f h here past = let (places, there, are) = h k f here in let e : None ≡ Some places = sym (slice_get_past ps k past) ∙ there in cc
 
 -- the values of a field's items that are made from its pins
-module _ (s : Scene) (values : List ℕ) (k : ℕ) (f : FieldNow) (at : IsAt s values k f) (a : Access) (r : ℕ) where
+module _ (s : EdgeState) (values : List ℕ) (k : ℕ) (f : FieldNow) (at : IsAt s values k f) (a : Access) (r : ℕ) where
   pub made_field : r ≡ class_value (now_in s a) (values_of f.table.now) f.field.now.class k f.field.now → r ≡ made s.block.now (now_in s a) (values_of values) (item.Field k)
   made_field is = is ∙ (ap (λ t. class_value (now_in s a) (values_of t) f.field.now.class k f.field.now) at.table ∙ sym (ap (λ o. option_map_or (λ g. class_value (now_in s a) (values_of values) g.class k g) o 0) at.here))
 

@@ -1,5 +1,5 @@
 -- What slots in turn make of what there is of each field.
-use Rattle.std.proofs.Common.{◌≡◌, ◌≢◌, ℕ, ◌+◌, ◌-◌, ◌*◌, ◌^◌, bit_or, ◌<◌, ◌≤◌, ◌==◌, true, false, if◌then◌else◌, Some, List, [], ◌∷◌, ◌++◌, length, fold, take, slice_get, get_or, refl, sym, ap, ◌∙◌, subst, arith, get_or-set_other, get_or-set_same, inl, inr, ◌⊎◌}
+use Rattle.std.proofs.Common.{◌≡◌, ◌≢◌, ℕ, ◌+◌, ◌-◌, ◌*◌, ◌^◌, bit_or, ◌<◌, ◌≤◌, ◌==◌, if◌then◌else◌, Some, List, [], ◌∷◌, ◌++◌, length, fold, take, slice_get, get_or, refl, sym, ap, ◌∙◌, subst, arith, get_or-set_other, get_or-set_same, inl, inr, ◌⊎◌}
 use Rattle.std.proofs.Math.ListN.{set}
 use Rattle.std.specs.Option.{option_map_or}
 use Rattle.std.proofs.lemmas.List.{take_more, take_all}
@@ -19,17 +19,12 @@ use Rattle.rb_model.specs.Items.{Now, ItemValues}
 use Rattle.rb_model.specs.Kept.{Done}
 use Rattle.rb_model.specs.Machine.{slot_value, view_gate}
 use Rattle.rb_machine.specs.Slots.{read_state, touched, touched_by, width_at, write_state, written_by}
-
-pub fold-push : {A X : Type 0} (f : A → X → A) (a : A) (xs : List X) (x : X) → fold f a (xs ++ x ∷ []) ≡ f (fold f a xs) x
-fold-push f a [] x = refl
-fold-push f a (y ∷ xs) x = fold-push f (f a y) xs x
+use Rattle.plain_lemmas.proofs.Numbers.{same_or_other}
+use Rattle.plain_lemmas.proofs.Lists.{fold-push}
 
 -- a fold over one more element
 pub fold_more : {A X : Type 0} (f : A → X → A) (a : A) (xs : List X) (i : ℕ) (d : X) → i < length xs → fold f a (take (i + 1) xs) ≡ f (fold f a (take i xs)) (get_or xs i d)
 fold_more f a xs i d l = ap (fold f a) (take_more xs i d l) ∙ fold-push f a (take i xs) (get_or xs i d)
-
-same_or_other : (m n : ℕ) → ((m ≡ n) × ((m == n) ≡ true)) ⊎ ((m ≢ n) × ((m == n) ≡ false))
-same_or_other m n = grind arith
 
 -- what a word's slot is
 pub record SlotFits (b : Block) (s : Slot) (w : View) : Type 0 where

@@ -12,8 +12,8 @@ use Rattle.rb_model.specs.Items.{Access, Now, ItemValues, reaches, raises, is_on
 use Rattle.rb_machine.specs.declared.sight.FieldState.{FieldState}
 use Rattle.rb_machine.specs.declared.sight.FieldNow.{FieldNow}
 use Rattle.rb_machine.specs.declared.scene.Held.{Held}
-use Rattle.rb_machine.specs.declared.scene.Mark.{Mark}
-use Rattle.rb_machine.specs.declared.scene.Scene.{Scene}
+use Rattle.rb_machine.specs.declared.scene.Strobes.{Strobes}
+use Rattle.rb_machine.specs.declared.scene.EdgeState.{EdgeState}
 use Rattle.block_plan.specs.Plan.{IsPlanOf}
 use Rattle.rb_machine.specs.Moves.{kept_state}
 use Rattle.rb_machine.specs.Quiet.{AreNextBusy, brief_of}
@@ -37,14 +37,14 @@ map_of h Data = h.«data»
 map_of h Error = bit_of h.error
 
 -- what software does to a field that there isn't
-abbrev pub no_mark : Mark
+abbrev pub no_mark : Strobes
 no_mark = record { modified = false; accessed = false }
 
-abbrev pub mark_at : List Mark → ℕ → Mark
+abbrev pub mark_at : List Strobes → ℕ → Strobes
 mark_at marks k = get_or marks k no_mark
 
 -- the marks of an access
-pub record AreMarks (b : Block) (a : Access) (marks : List Mark) : Type 0 where
+pub record AreStrobes (b : Block) (a : Access) (marks : List Strobes) : Type 0 where
   pub modified : (k : ℕ) → (mark_at marks k).modified ≡ reaches b a k (λ w. has_read_effect w.on_read) (λ w. w.writes)
   pub accessed : (k : ℕ) → (mark_at marks k).accessed ≡ reaches b a k (λ w. w.reads) (λ w. w.writes)
 
@@ -53,11 +53,11 @@ abbrev pub HoldsKept : List Field → List FieldState → Type 0
 HoldsKept fields states = (k : ℕ) (f : Field) → slice_get fields k ≡ Some f → kept_state f (state_at states k) ≡ state_at states k
 
 -- what an access finds
-abbrev pub now_in : Scene → Access → Now
+abbrev pub now_in : EdgeState → Access → Now
 now_in s a = record { access = a; pins = pins_of s.block.now s.pins.now; kept = map_of s.held.now }
 
 -- a scene of a sound block
-pub record IsScene (s : Scene) : Type 0 where
+pub record IsEdgeState (s : EdgeState) : Type 0 where
   pub sound : IsSound s.block.now
   pub planned : IsPlanOf s.block.now s.plan.now
   pub pins : length s.pins.now ≡ length (input_pins s.block.now)
@@ -68,7 +68,7 @@ pub record IsScene (s : Scene) : Type 0 where
   pub calm : s.is_reset ≡ false → NoneReset s.block.now (pins_of s.block.now s.pins.now)
 
 -- a field at an edge
-pub record IsAt (s : Scene) (values : List ℕ) (k : ℕ) (f : FieldNow) : Type 0 where
+pub record IsAt (s : EdgeState) (values : List ℕ) (k : ℕ) (f : FieldNow) : Type 0 where
   pub here : slice_get s.block.now.fields k ≡ Some f.field.now
   pub table : f.table.now ≡ values
   pub wide : f.field.now.width ≤ 64

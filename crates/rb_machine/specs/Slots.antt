@@ -9,7 +9,7 @@ use Rattle.rb_model.specs.Effects.{acts, after_read, after_write, has_read_effec
 use Rattle.rb_model.specs.Items.{Access, NoAccess, Read, Write, Now, ItemValues, slots_of}
 use Rattle.rb_model.specs.Machine.{slot_bits, view_gate}
 use Rattle.rb_machine.specs.declared.sight.FieldState.{FieldState}
-use Rattle.rb_machine.specs.declared.scene.Mark.{Mark}
+use Rattle.rb_machine.specs.declared.scene.Strobes.{Strobes}
 
 abbrev pub no_slot : Slot
 no_slot = record { view = 0; low = 0; from = 0; bits = 0 }
@@ -22,10 +22,10 @@ touched b k g x s = option_map_or (λ w. if w.field == k then g w s x else x) (s
 abbrev pub touched_by : {X : Type 0} → Block → ℕ → (View → Slot → X → X) → X → List Slot → X
 touched_by b k g x ss = fold (touched b k g) x ss
 
-abbrev pub read_mark : View → Slot → Mark → Mark
+abbrev pub read_mark : View → Slot → Strobes → Strobes
 read_mark w s m = record { modified = m.modified || has_read_effect w.on_read; accessed = m.accessed || w.reads }
 
-abbrev pub write_mark : View → Slot → Mark → Mark
+abbrev pub write_mark : View → Slot → Strobes → Strobes
 write_mark w s m = record { modified = m.modified || w.writes; accessed = m.accessed || w.writes }
 
 abbrev pub width_at : Block → ℕ → ℕ

@@ -16,7 +16,7 @@ use crate::bus::{BusOuts, Transfer, bus_at, commit, hold, outs_shown, transfer_o
 use crate::moves::{answer, mark_access, move_fields};
 use crate::quiet::{Brief, briefs, busy_places};
 use crate::reset::{reset_ways, some_asserted};
-use crate::scene::{Held, Mark, Scene};
+use crate::scene::{EdgeState, Held, Strobes};
 use crate::sight::FieldState;
 use crate::table::item_value;
 use block_plan::{Outlet, Plan, table_len, wanted, wanted_items};
@@ -35,7 +35,7 @@ pub struct Machine<'b> {
     next: Vec<usize>,
     held: Held,
     pins: Vec<u64>,
-    marks: Vec<Mark>,
+    marks: Vec<Strobes>,
     table: Vec<u64>,
     states: Vec<FieldState>,
 }
@@ -137,7 +137,7 @@ impl<'b> Machine<'b> {
             last: 0,
             done: 0,
         };
-        let mark = Mark {
+        let mark = Strobes {
             modified: false,
             accessed: false,
         };
@@ -184,7 +184,7 @@ impl<'b> Machine<'b> {
         );
         let transfer = vector.transfer;
         mark_access(block, transfer.access, &mut self.marks);
-        let scene = Scene {
+        let scene = EdgeState {
             block,
             plan: &self.plan,
             pins: &self.pins,

@@ -7,24 +7,24 @@ ghost use Rattle.rb_model.specs.Run.{pins_of};
 ghost use Rattle.rb_model.specs.Sound.{IsSound};
 ghost use Rattle.rb_machine.specs.Moves.{next_state, started_state};
 ghost use Rattle.rb_machine.specs.Quiet.{rests};
-ghost use Rattle.rb_machine.specs.Scene.{AreMarks, IsScene, no_mark, now_in, mark_at, state_at};
+ghost use Rattle.rb_machine.specs.Scene.{AreStrobes, IsEdgeState, no_mark, now_in, mark_at, state_at};
 ghost use Rattle.rb_machine.specs.Slots.{access_state};
 ghost use Rattle.rb_machine.specs.Table.{values_of};
 ghost use Rattle.rb_machine.specs.Transfers.{IsThere, access_seen};
 
 use crate::bus::Access;
 use crate::reset::{is_asserted, kept_state, reset_state};
-use crate::scene::{Mark, Scene};
+use crate::scene::{EdgeState, Strobes};
 use crate::sight::FieldState;
 use crate::slots::{mark_read, mark_write, read_states, word_value, write_states};
 use rb_model::{Block, Field};
 
 /// Takes all marks away.
-fn clear(marks: &mut [Mark])
+fn clear(marks: &mut [Strobes])
     ensures { (k : ℕ) → mark_at marks.new k ≡ no_mark }
 {
     for mark in marks.iter_mut() {
-        *mark = Mark {
+        *mark = Strobes {
             modified: false,
             accessed: false,
         };
@@ -32,11 +32,11 @@ fn clear(marks: &mut [Mark])
 }
 
 /// Marks the fields that an access reaches.
-pub(crate) fn mark_access(block: &Block, access: Access, marks: &mut [Mark])
+pub(crate) fn mark_access(block: &Block, access: Access, marks: &mut [Strobes])
     requires sound { IsSound block.now }
     requires there { IsThere block.now access }
     requires sized { length marks.old ≡ length block.now.fields }
-    ensures { AreMarks block.now (access_seen access) marks.new }
+    ensures { AreStrobes block.now (access_seen access) marks.new }
 {
     clear(marks);
     match access {
@@ -60,8 +60,8 @@ pub(crate) fn answer(block: &Block, table: &[u64], access: Access) -> u64
 }
 
 /// What software makes of what the fields keep.
-fn software(scene: &Scene, table: &[u64], access: Access, states: &mut [FieldState])
-    requires scene { IsScene scene.now }
+fn software(scene: &EdgeState, table: &[u64], access: Access, states: &mut [FieldState])
+    requires scene { IsEdgeState scene.now }
     requires there { IsThere scene.now.block.now access }
     requires sized { length states.old ≡ length scene.now.block.now.fields }
     ensures { (k : ℕ) → state_at states.new k
@@ -78,8 +78,8 @@ fn software(scene: &Scene, table: &[u64], access: Access, states: &mut [FieldSta
 }
 
 /// What the field of a number has before software: its value, or what hardware makes of it where software comes last.
-fn started(scene: &Scene, table: &[u64], number: usize) -> FieldState
-    requires scene { IsScene scene.now }
+fn started(scene: &EdgeState, table: &[u64], number: usize) -> FieldState
+    requires scene { IsEdgeState scene.now }
     ensures { (f : Field) → slice_get scene.now.block.now.fields number ≡ Some f
         → result ≡ started_state (now_in scene.now NoAccess) (values_of table.now) number f (state_at scene.now.held.now.fields.items number) }
 {
@@ -94,8 +94,8 @@ fn started(scene: &Scene, table: &[u64], number: usize) -> FieldState
 }
 
 /// Whether a field is under reset.
-fn is_under_reset(scene: &Scene, field: &Field) -> bool
-    requires scene { IsScene scene.now }
+fn is_under_reset(scene: &EdgeState, field: &Field) -> bool
+    requires scene { IsEdgeState scene.now }
     ensures { (k : ℕ) → slice_get scene.now.block.now.fields k ≡ Some field.now
         → result ≡ spec.is_asserted scene.now.block.now (pins_of scene.now.block.now scene.now.pins.now) field.now.reset_by }
 {
@@ -106,8 +106,8 @@ fn is_under_reset(scene: &Scene, field: &Field) -> bool
 }
 
 /// What the field of a number keeps after the edge, of what software left.
-fn next(scene: &Scene, table: &[u64], number: usize, state: FieldState) -> FieldState
-    requires scene { IsScene scene.now }
+fn next(scene: &EdgeState, table: &[u64], number: usize, state: FieldState) -> FieldState
+    requires scene { IsEdgeState scene.now }
     ensures { (f : Field) → slice_get scene.now.block.now.fields number ≡ Some f
         → result ≡ next_state scene.now.block.now (now_in scene.now NoAccess) (values_of table.now) number f state }
 {
@@ -121,8 +121,8 @@ fn next(scene: &Scene, table: &[u64], number: usize, state: FieldState) -> Field
 }
 
 /// What each field has before software. One that rests has what it held.
-fn start(scene: &Scene, table: &[u64], states: &mut [FieldState])
-    requires scene { IsScene scene.now }
+fn start(scene: &EdgeState, table: &[u64], states: &mut [FieldState])
+    requires scene { IsEdgeState scene.now }
     requires sized { length states.old ≡ length scene.now.block.now.fields }
     ensures { (k : ℕ) (f : Field) → slice_get scene.now.block.now.fields k ≡ Some f
         → state_at states.new k ≡ (if rests scene.now.is_reset f then state_at states.old k
@@ -136,8 +136,8 @@ fn start(scene: &Scene, table: &[u64], states: &mut [FieldState])
 }
 
 /// What each field keeps after the edge, of what software left. One that rests keeps all of it.
-fn finish(scene: &Scene, table: &[u64], states: &mut [FieldState])
-    requires scene { IsScene scene.now }
+fn finish(scene: &EdgeState, table: &[u64], states: &mut [FieldState])
+    requires scene { IsEdgeState scene.now }
     requires sized { length states.old ≡ length scene.now.block.now.fields }
     ensures { (k : ℕ) (f : Field) → slice_get scene.now.block.now.fields k ≡ Some f
         → state_at states.new k ≡ (if rests scene.now.is_reset f then state_at states.old k
@@ -151,8 +151,13 @@ fn finish(scene: &Scene, table: &[u64], states: &mut [FieldState])
 }
 
 /// What each field keeps after the edge. Where no field is under reset, `states` comes with what the fields hold.
-pub(crate) fn move_fields(scene: &Scene, table: &[u64], access: Access, states: &mut [FieldState])
-    requires scene { IsScene scene.now }
+pub(crate) fn move_fields(
+    scene: &EdgeState,
+    table: &[u64],
+    access: Access,
+    states: &mut [FieldState],
+)
+    requires scene { IsEdgeState scene.now }
     requires there { IsThere scene.now.block.now access }
     requires sized { length states.old ≡ length scene.now.block.now.fields }
     requires held { scene.now.is_reset ≡ false → states.old ≡ scene.now.held.now.fields.items }

@@ -21,7 +21,7 @@ pub(crate) struct Held {
 
 /// Whether an access modifies a field, and whether it reads or writes it.
 #[derive(Clone, Copy)]
-pub(crate) struct Mark {
+pub(crate) struct Strobes {
     pub modified: bool,
     pub accessed: bool,
 }
@@ -29,18 +29,18 @@ pub(crate) struct Mark {
 /// A block at an edge, with the pins, what it holds, the marks of the access, what is looked at of each field, for each place the
 /// next whose field isn't quiet, and whether some reset of a field is asserted.
 #[derive(Clone, Copy)]
-pub(crate) struct Scene<'a> {
+pub(crate) struct EdgeState<'a> {
     pub block: &'a Block,
     pub plan: &'a Plan,
     pub pins: &'a [u64],
     pub held: &'a Held,
-    pub marks: &'a [Mark],
+    pub marks: &'a [Strobes],
     pub briefs: &'a [Brief],
     pub next: &'a [usize],
     pub is_reset: bool,
 }
 
-impl<'a> Scene<'a> {
+impl<'a> EdgeState<'a> {
     ghost use Rattle.std.specs.Prelude.{◌≡◌, ◌<◌, ◌≤◌, ℕ, true, false, None, Some, Contains, MatchOption, length, slice_get};
     ghost use Rattle.block_plan.specs.Plan.{members_of};
     ghost use Rattle.std.specs.List.{enumerate_from, list_any};
@@ -56,11 +56,11 @@ impl<'a> Scene<'a> {
     ghost use Rattle.rb_model.specs.declared.block.Field.{Field};
     ghost use Rattle.rb_model.specs.Kept.{Val, is_storage};
     ghost use Rattle.rb_machine.specs.Quiet.{brief_of, rests};
-    ghost use Rattle.rb_machine.specs.Scene.{AreMarks, IsAt, IsScene, map_of, mark_at, now_in, raises_line};
+    ghost use Rattle.rb_machine.specs.Scene.{AreStrobes, IsAt, IsEdgeState, map_of, mark_at, now_in, raises_line};
 
     /// The field of a number, if there is one.
     pub fn at(&self, table: &'a [u64], number: usize) -> Option<FieldNow<'a>>
-        requires { IsScene self.now }
+        requires { IsEdgeState self.now }
         ensures { MatchOption result (slice_get self.now.block.now.fields number ≡ None) (IsAt self.now table.now number) }
     {
         let block = self.block;
@@ -78,7 +78,7 @@ impl<'a> Scene<'a> {
 
     /// What is looked at of the field of a number, if there is one.
     fn brief(&self, number: usize) -> Option<Brief>
-        requires { IsScene self.now }
+        requires { IsEdgeState self.now }
         ensures { result ≡ option_map brief_of (slice_get self.now.block.now.fields number) }
     {
         match self.briefs.get(number) {
@@ -89,7 +89,7 @@ impl<'a> Scene<'a> {
 
     /// Whether the field of a number keeps a value.
     fn stores(&self, number: u32) -> bool
-        requires { IsScene self.now }
+        requires { IsEdgeState self.now }
         ensures { result ≡ option_map_or (λ f. is_storage f.class) (slice_get self.now.block.now.fields number) false }
     {
         match self.brief(number as usize) {
@@ -100,7 +100,7 @@ impl<'a> Scene<'a> {
 
     /// The first place from a place on whose field doesn't rest, or one past all fields.
     pub fn awake_from(&self, number: usize) -> usize
-        requires { IsScene self.now }
+        requires { IsEdgeState self.now }
         ensures onward { number ≤ result }
         ensures rest { (k : ℕ) (f : Field) → number ≤ k → k < result → slice_get self.now.block.now.fields k ≡ Some f → rests self.now.is_reset f ≡ true }
         ensures awake { (f : Field) → slice_get self.now.block.now.fields result ≡ Some f → rests self.now.is_reset f ≡ false }
@@ -115,12 +115,12 @@ impl<'a> Scene<'a> {
     }
 
     /// What the access does to the field of a number.
-    fn mark(&self, number: u32) -> Mark
+    fn mark(&self, number: u32) -> Strobes
         ensures { result ≡ mark_at self.now.marks.now number }
     {
         match self.marks.get(number as usize) {
             Some(mark) => *mark,
-            None => Mark {
+            None => Strobes {
                 modified: false,
                 accessed: false,
             },
@@ -129,7 +129,7 @@ impl<'a> Scene<'a> {
 
     /// Whether a field raises the line intr of a register, or its line halt.
     fn raises(&self, table: &[u64], number: u32, reg: u32, halt: bool) -> bool
-        requires { IsScene self.now }
+        requires { IsEdgeState self.now }
         ensures { result ≡ option_map_or (λ f. raises_line (values_of table.now) halt reg (number, f)) (slice_get self.now.block.now.fields number) false }
     {
         match self.at(table, number as usize) {
@@ -150,7 +150,7 @@ impl<'a> Scene<'a> {
 
     /// Whether a field raises the line intr of a register, or its line halt.
     fn is_raised(&self, table: &[u64], reg: u32, halt: bool) -> bool
-        requires { IsScene self.now }
+        requires { IsEdgeState self.now }
         ensures { result ≡ list_any (raises_line (values_of table.now) halt reg) (enumerate_from 0 self.now.block.now.fields) }
     {
         for number in self.members(reg) {
@@ -173,7 +173,7 @@ impl<'a> Scene<'a> {
 
     /// The value that the field of a number has at the edge, by its class.
     fn class_value(&self, table: &[u64], number: u32) -> u64
-        requires { IsScene self.now }
+        requires { IsEdgeState self.now }
         ensures { (a : Access) → result ≡ spec.made self.now.block.now (now_in self.now a) (values_of table.now) (RefItem.Field number) }
     {
         match self.at(table, number as usize) {
@@ -184,7 +184,7 @@ impl<'a> Scene<'a> {
 
     /// The value that the field of a number has at the edge. The field itself is looked at only where it keeps none.
     fn field_value(&self, table: &[u64], number: u32) -> u64
-        requires { IsScene self.now }
+        requires { IsEdgeState self.now }
         ensures { (a : Access) → result ≡ spec.made self.now.block.now (now_in self.now a) (values_of table.now) (RefItem.Field number) }
     {
         if self.stores(number) {
@@ -195,7 +195,7 @@ impl<'a> Scene<'a> {
 
     /// Whether all bits of the field of a number are 1.
     fn all_ones(&self, table: &[u64], number: u32) -> u64
-        requires { IsScene self.now }
+        requires { IsEdgeState self.now }
         ensures { (a : Access) → result ≡ spec.made self.now.block.now (now_in self.now a) (values_of table.now) (RefItem.Anded number) }
     {
         match self.brief(number as usize) {
@@ -208,7 +208,7 @@ impl<'a> Scene<'a> {
 
     /// Whether the counter of a number has reached its threshold above.
     fn incr_threshold(&self, table: &[u64], number: u32) -> u64
-        requires { IsScene self.now }
+        requires { IsEdgeState self.now }
         ensures { (a : Access) → result ≡ spec.made self.now.block.now (now_in self.now a) (values_of table.now) (RefItem.IncrThreshold number) }
     {
         match self.at(table, number as usize) {
@@ -219,7 +219,7 @@ impl<'a> Scene<'a> {
 
     /// Whether the counter of a number has reached its threshold below.
     fn decr_threshold(&self, table: &[u64], number: u32) -> u64
-        requires { IsScene self.now }
+        requires { IsEdgeState self.now }
         ensures { (a : Access) → result ≡ spec.made self.now.block.now (now_in self.now a) (values_of table.now) (RefItem.DecrThreshold number) }
     {
         match self.at(table, number as usize) {
@@ -230,7 +230,7 @@ impl<'a> Scene<'a> {
 
     /// Whether the counter of a number leaves its width upwards.
     fn overflow(&self, table: &[u64], number: u32) -> u64
-        requires { IsScene self.now }
+        requires { IsEdgeState self.now }
         ensures { (a : Access) → result ≡ spec.made self.now.block.now (now_in self.now a) (values_of table.now) (RefItem.Overflow number) }
     {
         match self.at(table, number as usize) {
@@ -241,7 +241,7 @@ impl<'a> Scene<'a> {
 
     /// Whether the counter of a number goes below 0.
     fn underflow(&self, table: &[u64], number: u32) -> u64
-        requires { IsScene self.now }
+        requires { IsEdgeState self.now }
         ensures { (a : Access) → result ≡ spec.made self.now.block.now (now_in self.now a) (values_of table.now) (RefItem.Underflow number) }
     {
         match self.at(table, number as usize) {
@@ -252,8 +252,8 @@ impl<'a> Scene<'a> {
 
     /// What an item is made of the others' values.
     fn made(&self, table: &[u64], item: RefItem) -> u64
-        requires { IsScene self.now }
-        ensures { (a : Access) → AreMarks self.now.block.now a self.now.marks.now
+        requires { IsEdgeState self.now }
+        ensures { (a : Access) → AreStrobes self.now.block.now a self.now.marks.now
             → result ≡ spec.made self.now.block.now (now_in self.now a) (values_of table.now) item }
     {
         match item {
@@ -277,11 +277,11 @@ impl<'a> Scene<'a> {
 
     /// Computes the values of items, each behind those that it refers to. What is in the table of others is no matter.
     pub fn settle(&self, order: &[RefItem], table: &mut [u64])
-        requires scene { IsScene self.now }
+        requires scene { IsEdgeState self.now }
         requires ordered { IsOrdered self.now.block.now order.now }
         requires own { (k : ℕ) (i : RefItem) → slice_get order.now k ≡ Some i → Contains (items self.now.block.now) i }
         requires room { (k : ℕ) (i : RefItem) → slice_get order.now k ≡ Some i → places.item_place i < length table.old }
-        ensures { (a : Access) (v : ItemValues) → AreMarks self.now.block.now a self.now.marks.now → AreItemValues self.now.block.now (now_in self.now a) v
+        ensures { (a : Access) (v : ItemValues) → AreStrobes self.now.block.now a self.now.marks.now → AreItemValues self.now.block.now (now_in self.now a) v
             → (i : RefItem) → Contains order.now i → values_of table.new i ≡ v i }
     {
         for item in order {

@@ -5,13 +5,13 @@ ghost use Rattle.rb_model.specs.declared.kinds.RefItem.TheVariants as item;
 ghost use Rattle.rb_model.specs.Items as items;
 ghost use Rattle.rb_model.specs.Machine as spec;
 ghost use Rattle.rb_model.specs.Sound.{IsSound, WordIsSound};
-ghost use Rattle.rb_machine.specs.Scene.{IsScene, mark_at, now_in, state_at};
+ghost use Rattle.rb_machine.specs.Scene.{IsEdgeState, mark_at, now_in, state_at};
 ghost use Rattle.rb_machine.specs.Slots as slots;
 ghost use Rattle.rb_machine.specs.Slots.{read_state, touched_by, width_at, write_state, written_by};
 ghost use Rattle.rb_model.specs.declared.block.Slot.{Slot};
 ghost use Rattle.rb_machine.specs.Table.{values_of};
 
-use crate::scene::{Mark, Scene};
+use crate::scene::{EdgeState, Strobes};
 use crate::sight::{FieldState, gated};
 use crate::table::{item_value, number_at};
 use rb_effects::{acts, after_read, after_write, has_read_effect};
@@ -55,27 +55,27 @@ fn placed_bits(slot: Slot, value: u64) -> u64
 }
 
 /// The mark of a field, where a read reaches a view of it.
-fn read_mark(view: &View, mark: Mark) -> Mark
+fn read_mark(view: &View, mark: Strobes) -> Strobes
     ensures { (s : Slot) → result ≡ slots.read_mark view.now s mark }
 {
-    Mark {
+    Strobes {
         modified: mark.modified || has_read_effect(view.on_read),
         accessed: mark.accessed || view.reads,
     }
 }
 
 /// The mark of a field, where a write reaches a view of it.
-fn write_mark(view: &View, mark: Mark) -> Mark
+fn write_mark(view: &View, mark: Strobes) -> Strobes
     ensures { (s : Slot) → result ≡ slots.write_mark view.now s mark }
 {
-    Mark {
+    Strobes {
         modified: mark.modified || view.writes,
         accessed: mark.accessed || view.writes,
     }
 }
 
 /// Marks the fields that a read of a word reaches.
-pub(crate) fn mark_read(block: &Block, word: &Word, marks: &mut [Mark])
+pub(crate) fn mark_read(block: &Block, word: &Word, marks: &mut [Strobes])
     requires sound { IsSound block.now }
     requires word { WordIsSound block.now word.now }
     requires sized { length marks.old ≡ length block.now.fields }
@@ -89,7 +89,7 @@ pub(crate) fn mark_read(block: &Block, word: &Word, marks: &mut [Mark])
 }
 
 /// Marks the fields that a write of a word reaches.
-pub(crate) fn mark_write(block: &Block, word: &Word, marks: &mut [Mark])
+pub(crate) fn mark_write(block: &Block, word: &Word, marks: &mut [Strobes])
     requires sound { IsSound block.now }
     requires word { WordIsSound block.now word.now }
     requires sized { length marks.old ≡ length block.now.fields }
@@ -172,8 +172,8 @@ fn written_state(
 }
 
 /// The value at the gate of the view of a number.
-fn view_gate(scene: &Scene, table: &[u64], number: u32, view: &View) -> u64
-    requires scene { IsScene scene.now }
+fn view_gate(scene: &EdgeState, table: &[u64], number: u32, view: &View) -> u64
+    requires scene { IsEdgeState scene.now }
     requires there { slice_get scene.now.block.now.views number ≡ Some view.now }
     ensures { result ≡ spec.view_gate (now_in scene.now items.NoAccess) (values_of table.now) view.now }
 {
@@ -183,13 +183,13 @@ fn view_gate(scene: &Scene, table: &[u64], number: u32, view: &View) -> u64
 
 /// What a write of a word makes of what the fields keep.
 pub(crate) fn write_states(
-    scene: &Scene,
+    scene: &EdgeState,
     table: &[u64],
     word: &Word,
     bits: u64,
     states: &mut [FieldState],
 )
-    requires scene { IsScene scene.now }
+    requires scene { IsEdgeState scene.now }
     requires word { WordIsSound scene.now.block.now word.now }
     requires sized { length states.old ≡ length scene.now.block.now.fields }
     ensures { (k : ℕ) → state_at states.new k

@@ -20,7 +20,8 @@ use Rattle.rdl_values.specs.Top.{root, is_addrmap, is_wanted, top_use, top_named
 use Rattle.rdl_values.specs.Uses.{Seen, Use}
 use Rattle.rdl_values.specs.Views.{item_is}
 use Rattle.rdl_values.proofs.Clean.{Somewhere, nearest_is, unreversed}
-use Rattle.rdl_values.proofs.Given.{each-append, each-imp, IsChildOf, IsAtRoot, held, given-all, children-given, signals-given}
+use Rattle.rdl_values.proofs.Given.{IsChildOf, IsAtRoot, held, given-all, children-given, signals-given}
+use Rattle.plain_lemmas.proofs.Lists.{each-append, each-imp}
 use Rattle.rdl_values.proofs.Numbered.{At, Deep, bottom, lower, empty_of_none}
 use Rattle.rdl_layers.specs.Fields.{is_a}
 use Rattle.rdl_addr.specs.Layout.{Mode, regalign, Group, group, grouped, has_address, mode_in, groups, stride, starts, start, end, elements_from, offsets, size_of, access_of, Placed, placed_from, layout}

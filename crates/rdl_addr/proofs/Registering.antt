@@ -1,6 +1,6 @@
 -- The rules on registers, by numbers, are those on the layout.
 use Rattle.std.specs.List.{list_any}
-use Rattle.std.proofs.Common.{◌≡◌, ◌∙◌, suc, ◌+◌, Bool, not, ◌&&◌, ◌||◌, ◌==◌, ◌%◌, ◌/◌, ◌^◌, List, [], ◌∷◌, ◌++◌, length, map, flat_map, ltb, refl, ap, sym}
+use Rattle.std.proofs.Common.{◌≡◌, ◌∙◌, suc, ◌+◌, not, ◌&&◌, ◌||◌, ◌==◌, ◌%◌, ◌/◌, ◌^◌, List, [], ◌∷◌, ◌++◌, length, map, flat_map, ltb, refl, ap, sym}
 use Rattle.std.proofs.lemmas.List.{map-append}
 use Rattle.rb_base.specs.declared.place.Place.{Place}
 use Rattle.rdl_base.specs.declared.rule.Rule.TheVariants as rules
@@ -15,6 +15,7 @@ use Rattle.rdl_addr.specs.Rules.{Footprint, footprint, overlaps, overlaps_of, cl
 use Rattle.rdl_layout.specs.Registers.{claim_of, misaligned, too_large}
 use Rattle.rdl_addr.specs.Registers.{AreRegistersOf, side_of}
 use Rattle.rdl_layout.specs.declared.register.Register.{Register}
+use Rattle.plain_lemmas.proofs.Lists.{any-map}
 
 -- lists that are mapped
 
@@ -25,10 +26,6 @@ standing-map f before (x ∷ xs) = ap (λ l. (map f before, f x) ∷ l) (ap (λ 
 flat-map-map : {X Y Z : Type 0} (g : Y → List Z) (f : X → Y) (xs : List X) → flat_map g (map f xs) ≡ flat_map (λ x. g (f x)) xs
 flat-map-map g f [] = refl
 flat-map-map g f (x ∷ xs) = ap (λ l. g (f x) ++ l) (flat-map-map g f xs)
-
-any-map : {X Y : Type 0} (p : Y → Bool) (f : X → Y) (xs : List X) → list_any p (map f xs) ≡ list_any (λ x. p (f x)) xs
-any-map p f [] = refl
-any-map p f (x ∷ xs) = ap (λ b. p (f x) || b) (any-map p f xs)
 
 -- a register's bytes, from its footprint
 claim_from : Place × Footprint → Claim

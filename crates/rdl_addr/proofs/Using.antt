@@ -13,16 +13,13 @@ use Rattle.rdl_values.specs.Uses.{Seen, Use, form_of, parent_of, uses, uses_of_i
 use Rattle.rdl_values.specs.Values.{Around}
 use Rattle.rdl_values.specs.Views as view
 use Rattle.rdl_values.specs.Views.{ItemIs, item_is}
-use Rattle.rdl_values.proofs.Given.{each-imp, each-flat_map, given-all}
+use Rattle.rdl_values.proofs.Given.{given-all}
+use Rattle.plain_lemmas.proofs.Lists.{each-append as both, each-flat_map, each-imp}
 use Rattle.rdl_addr.specs.Texts.{IsText}
 
 -- a use comes from a text
 abbrev pub IsUsed : Around → Use → Type 0
 IsUsed env u = (i : Inst) × (u.inst ≡ Some i) × (u.form ≡ form_of i) × (u.dims ≡ i.dims.now) × (around u.scope ≡ env)
-
-both : {X : Type 0} (P : X → Type 0) (xs ys : List X) → AllByRecursion P xs → AllByRecursion P ys → AllByRecursion P (xs ++ ys)
-both P [] ys h g = g
-both P (x ∷ xs) ys h g = (h.0, both P xs ys h.1 g)
 
 of-insts : (scope : Scope) (alias : Option Name) (place : Place) (c : Option Closure) (is : Insts) → AllByRecursion (IsUsed (around scope)) (uses_of_insts scope alias place c is)
 of-insts scope alias place c is = go is.list.now

@@ -7,7 +7,7 @@ pub mod Parts
 pub mod Registers
 pub mod Rounding
 pub mod Rules
-pub mod Spots
+pub mod Areas
 pub mod Tables
 pub mod TextReadings
 pub mod Texts

@@ -12,7 +12,7 @@ pub use laws::{
     fields_have_bits, instances_have_texts, layout_covers, parts_are_groups, readings_agree,
     registers_are_placed, rounding_is_least,
 };
-pub use map::{Map, Spot};
+pub use map::{Area, Map};
 pub use mode::mode_inside;
 pub use settings::{changes, gives, number, takes};
 pub use sharing::register_side;

@@ -3,14 +3,14 @@
 ghost use Rattle.std.specs.Prelude.{◌≡◌, ℕ, length};
 ghost use Rattle.rdl_values.specs.Elaborated.{nodes_of};
 ghost use Rattle.rdl_addr.specs.Answers.{AreBitsAt, HasAddressAt, IsAddressAt, IsFieldAt, IsSizeAt};
-ghost use Rattle.rdl_addr.specs.Spots.{bits_at, spot_at};
+ghost use Rattle.rdl_addr.specs.Areas.{bits_at, area_at};
 
 use rdl_tree::Elab;
 use std::marker::Model;
 
 /// Where a register or container stands, in bytes.
 #[derive(Clone, Copy)]
-pub struct Spot {
+pub struct Area {
     pub address: u64,
     pub size: u64,
 }
@@ -20,7 +20,7 @@ pub struct Spot {
 pub struct Map<'a> {
     elab: Elab<'a>,
     /// For each node where it stands, 0 where it has no address.
-    spots: Vec<Spot>,
+    areas: Vec<Area>,
     /// For each node its high and its low bit, 0 where it is no field.
     bits: Vec<(u8, u8)>,
 }
@@ -47,15 +47,15 @@ impl<'a> Model for Map<'a> {
 
 impl<'a> Map<'a> {
     /// The map of a tree from its tables: for each node where it stands, and for each node its high and its low bit.
-    pub fn of_tables(elab: Elab<'a>, spots: Vec<Spot>, bits: Vec<(u8, u8)>) -> Map<'a>
-        requires all_placed { length spots.items ≡ length (nodes_of elab) }
-        requires addresses { (k : ℕ) → HasAddressAt elab k → IsAddressAt elab k (spot_at spots.items k).address }
-        requires sizes { (k : ℕ) → HasAddressAt elab k → IsSizeAt elab k (spot_at spots.items k).size }
+    pub fn of_tables(elab: Elab<'a>, areas: Vec<Area>, bits: Vec<(u8, u8)>) -> Map<'a>
+        requires all_placed { length areas.items ≡ length (nodes_of elab) }
+        requires addresses { (k : ℕ) → HasAddressAt elab k → IsAddressAt elab k (area_at areas.items k).address }
+        requires sizes { (k : ℕ) → HasAddressAt elab k → IsSizeAt elab k (area_at areas.items k).size }
         requires all_fields { length bits.items ≡ length (nodes_of elab) }
         requires fields { (k : ℕ) → IsFieldAt elab k → AreBitsAt elab k (bits_at bits.items k) }
         ensures { result ≡ elab.entry }
     {
-        Map { elab, spots, bits }
+        Map { elab, areas, bits }
     }
 
     /// The address of a register or container, in bytes (SystemRDL 2.0, 5.1.2.2).
@@ -63,7 +63,7 @@ impl<'a> Map<'a> {
         requires { HasAddressAt self.now node }
         ensures { IsAddressAt self.now node result }
     {
-        self.spots[node as usize].address
+        self.areas[node as usize].address
     }
 
     /// The size of a register or container, in bytes: from its address to the end of what ends last in it.
@@ -71,7 +71,7 @@ impl<'a> Map<'a> {
         requires { HasAddressAt self.now node }
         ensures { IsSizeAt self.now node result }
     {
-        self.spots[node as usize].size
+        self.areas[node as usize].size
     }
 
     /// The high and the low bit of a field in its register (SystemRDL 2.0, 9.1).

@@ -9,7 +9,7 @@ use Rattle.rdl_values.specs.Parts.{is_empty}
 use Rattle.rdl_layers.specs.Judged.{sound}
 use Rattle.rdl_layers.specs.Meanings.{Assignment}
 use Rattle.rdl_assignments.specs.Layers.{AreGiven}
-use Rattle.rdl_assignments.specs.declared.set.Given.{Given}
+use Rattle.rdl_assignments.specs.declared.set.ValidAssignment.{ValidAssignment}
 
 standing_from-append : {A : Type 0} (before xs ys : List A) → standing_from before (xs ++ ys) ≡ standing_from before xs ++ standing_from (before ++ xs) ys
 standing_from-append before [] ys = ap (λ b. standing_from b ys) (sym (append-nil before))
@@ -22,19 +22,19 @@ sound-append f xs ys =
     ∙ ap (map (λ (x : List Assignment × Assignment). x.1)) (filter-append (λ x. is_empty (f x)) (standing xs) (standing_from xs ys))
     ∙ map-append (λ (x : List Assignment × Assignment). x.1) (filter (λ x. is_empty (f x)) (standing xs)) (filter (λ x. is_empty (f x)) (standing_from xs ys))
 
-pub given-length : (body : ℕ) (gs : List Given) (as' : List Assignment) → AreGiven body gs as' → length gs ≡ length as'
+pub given-length : (body : ℕ) (gs : List ValidAssignment) (as' : List Assignment) → AreGiven body gs as' → length gs ≡ length as'
 given-length body [] [] h = refl
 given-length body (g ∷ gs) (a ∷ as') h = ap suc (given-length body gs as' h.1)
 given-length body [] (a ∷ as') h = absurd h
 given-length body (g ∷ gs) [] h = absurd h
 
-given-front : (body : ℕ) (gs : List Given) (as' bs : List Assignment) → AreGiven body gs (as' ++ bs) → AreGiven body (take (length as') gs) as'
+given-front : (body : ℕ) (gs : List ValidAssignment) (as' bs : List Assignment) → AreGiven body gs (as' ++ bs) → AreGiven body (take (length as') gs) as'
 given-front body gs [] bs h = tt
 given-front body (g ∷ gs) (a ∷ as') bs h = (h.0, given-front body gs as' bs h.1)
 given-front body [] (a ∷ as') bs h = absurd h
 
 -- the same of what the items of a body assign, up to a place
-pub given_behind : {I : Type 0} (f : List Assignment × Assignment → List Fault) (body : ℕ) (gs : List Given) (g : List I × I → List Assignment) (xs : List I) (p n : ℕ) → AreGiven body gs (sound f (flat_map g (standing xs))) → n ≡ length (sound f (flat_map g (standing (take p xs))))
+pub given_behind : {I : Type 0} (f : List Assignment × Assignment → List Fault) (body : ℕ) (gs : List ValidAssignment) (g : List I × I → List Assignment) (xs : List I) (p n : ℕ) → AreGiven body gs (sound f (flat_map g (standing xs))) → n ≡ length (sound f (flat_map g (standing (take p xs))))
     → AreGiven body (take n gs) (sound f (flat_map g (standing (take p xs))))
 given_behind f body gs g xs p n h e =
     let items : xs ≡ take p xs ++ drop p xs = sym (take-append-drop p xs) in

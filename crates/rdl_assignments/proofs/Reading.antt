@@ -16,13 +16,13 @@ use Rattle.rdl_layers.specs.Judged.{all_failures, failures_of, props_of, sound}
 use Rattle.rdl_layers.specs.Meanings.{Assignment, prop_of}
 use Rattle.rdl_assignments.specs.Layers.{AreGiven, IsGiven, IsLayer}
 use Rattle.rdl_assignments.specs.Taken.{AreTaken}
-use Rattle.rdl_assignments.specs.declared.set.Given.{Given}
+use Rattle.rdl_assignments.specs.declared.set.ValidAssignment.{ValidAssignment}
 use Rattle.rdl_assignments.specs.declared.layer.Layer.{Layer}
 
 pub props-push : (as' : List Assignment) (a : Assignment) → props_of (as' ++ (a ∷ [])) ≡ props_of as' ++ option_to_list (prop_of a)
 props-push as' a = flat_map-append (λ (b : Assignment). option_to_list (prop_of b)) as' (a ∷ []) ∙ ap (λ ps. props_of as' ++ ps) (append-nil (option_to_list (prop_of a)))
 
-pub given-append : (body : ℕ) (gs hs : List Given) (as' bs : List Assignment) → AreGiven body gs as' → AreGiven body hs bs → AreGiven body (gs ++ hs) (as' ++ bs)
+pub given-append : (body : ℕ) (gs hs : List ValidAssignment) (as' bs : List Assignment) → AreGiven body gs as' → AreGiven body hs bs → AreGiven body (gs ++ hs) (as' ++ bs)
 given-append body [] hs [] bs h k = k
 given-append body (g ∷ gs) hs (a ∷ as') bs h k = (h.0, given-append body gs hs as' bs h.1 k)
 given-append body [] hs (a ∷ as') bs h k = absurd h
@@ -47,14 +47,14 @@ sound-push f as' a =
     last true = refl
     last false = refl
 
-one_given : (body : ℕ) (o : Option Given) (a : Assignment) (b : Bool) → is_some o ≡ b → ((g : Given) → o ≡ Some g → IsGiven body g a) → AreGiven body (option_to_list o) (cond b (a ∷ []) [])
+one_given : (body : ℕ) (o : Option ValidAssignment) (a : Assignment) (b : Bool) → is_some o ≡ b → ((g : ValidAssignment) → o ≡ Some g → IsGiven body g a) → AreGiven body (option_to_list o) (cond b (a ∷ []) [])
 one_given body None a true e h = cc
 one_given body None a false e h = tt
 one_given body (Some g) a true e h = (h g refl, tt)
 one_given body (Some g) a false e h = cc
 
-pub layer_more : (legal : Prop → Bool) (body : ℕ) (old new : Layer) (start before after : List Fault) (as' : List Assignment) (a : Assignment) (o : Option Given) → IsLayer legal body old start before as' → IsNoted (failures_of legal (as', a)) (is_some o) before after
-    → AreTaken new.taken (props_of (as' ++ (a ∷ []))) → new.given.items ≡ old.given.items ++ option_to_list o → ((g : Given) → o ≡ Some g → IsGiven body g a) → IsLayer legal body new start after (as' ++ (a ∷ []))
+pub layer_more : (legal : Prop → Bool) (body : ℕ) (old new : Layer) (start before after : List Fault) (as' : List Assignment) (a : Assignment) (o : Option ValidAssignment) → IsLayer legal body old start before as' → IsNoted (failures_of legal (as', a)) (is_some o) before after
+    → AreTaken new.taken (props_of (as' ++ (a ∷ []))) → new.given.items ≡ old.given.items ++ option_to_list o → ((g : ValidAssignment) → o ≡ Some g → IsGiven body g a) → IsLayer legal body new start after (as' ++ (a ∷ []))
 layer_more legal body old new start before after as' a o h noted taken pushed is = record {
   taken = taken;
   given = subst (AreGiven body new.given.items) (sym (sound-push (failures_of legal) as' a)) (subst (λ gs. AreGiven body gs (sound (failures_of legal) as' ++ cond (is_empty (failures_of legal (as', a))) (a ∷ []) [])) (sym pushed) (given-append body old.given.items (option_to_list o) (sound (failures_of legal) as') _ h.given (one_given body o a _ noted.none is)));

@@ -7,7 +7,7 @@ use Rattle.rdl_props.specs.Same.{same_prop}
 use Rattle.rdl_props.specs.declared.prop.Prop.{Prop}
 use Rattle.rdl_props.specs.contracts.prop.Prop as of_prop
 use Rattle.rdl_assignments.specs.Taken.{AreTaken}
-use Rattle.rdl_assignments.specs.declared.taken.Taken.{Taken}
+use Rattle.rdl_assignments.specs.declared.taken.AssignedProps.{AssignedProps}
 
 same_prop-is : (p q : Prop) → same_prop p q ≡ true → p ≡ q
 same_prop-is p q e = same_true of_prop.the_type tt p q e
@@ -25,7 +25,7 @@ passes f p (q ∷ qs) there e = go (same_prop p q) refl there (λ h. passes f p 
         or-true true b h = refl
         or-true false b h = h
 
-pub taken_again : (t : Taken) (earlier : List Prop) (p : Prop) → AreTaken t earlier → list_any (same_prop p) t.props.items ≡ true → AreTaken t (earlier ++ (p ∷ []))
+pub taken_again : (t : AssignedProps) (earlier : List Prop) (p : Prop) → AreTaken t earlier → list_any (same_prop p) t.props.items ≡ true → AreTaken t (earlier ++ (p ∷ []))
 taken_again t earlier p h there = record { same = λ f. go f (f p) refl }
   where
     end : (f : Prop → Bool) → list_any f (earlier ++ (p ∷ [])) ≡ (list_any f t.props.items || (f p || false))

@@ -4,11 +4,11 @@ use Rattle.rdl_values.specs.Bodies.{Body, Layer}
 use Rattle.rdl_layers.specs.Assignments.{defaults_before}
 use Rattle.rdl_layers.specs.Judged.{anywhere, failures_of, sound}
 use Rattle.rdl_assignments.specs.Layers.{AreGiven}
-use Rattle.rdl_assignments.specs.declared.set.Given.{Given}
+use Rattle.rdl_assignments.specs.declared.set.ValidAssignment.{ValidAssignment}
 use Rattle.rdl_assignments.specs.declared.defaults.Defaults.{Defaults}
 
 -- those before the item of a position
-abbrev pub before_in : Defaults → ℕ → List Given
+abbrev pub before_in : Defaults → ℕ → List ValidAssignment
 before_in d p = take (slice_index_or d.counts.items p 0) d.given.items
 
 -- a body as it is seen from behind all of its items

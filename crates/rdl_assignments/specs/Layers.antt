@@ -7,17 +7,17 @@ use Rattle.rdl_layers.specs.Judged.{all_failures, failures_of, props_of, sound}
 use Rattle.rdl_layers.specs.Meanings.{Assignment, meaning, prop_of}
 use Rattle.rdl_assignments.specs.Meant.{StandsIn, meaning_in}
 use Rattle.rdl_assignments.specs.Taken.{AreTaken}
-use Rattle.rdl_assignments.specs.declared.set.Given.{Given}
+use Rattle.rdl_assignments.specs.declared.set.ValidAssignment.{ValidAssignment}
 use Rattle.rdl_assignments.specs.declared.layer.Layer.{Layer}
 
 -- The property of an assignment and what it gives, in the body of this number.
-pub record IsGiven (body : ℕ) (g : Given) (a : Assignment) : Type 0 where
+pub record IsGiven (body : ℕ) (g : ValidAssignment) (a : Assignment) : Type 0 where
   pub prop : prop_of a ≡ Some g.prop
   pub value : meaning g.prop a ≡ Ok (meaning_in a.scope g.setting)
   pub stands : StandsIn body g.setting
 
 -- one by one
-abbrev pub AreGiven : ℕ → List Given → List Assignment → Type 0
+abbrev pub AreGiven : ℕ → List ValidAssignment → List Assignment → Type 0
 AreGiven body [] [] = Unit {0}
 AreGiven body (g ∷ gs) (a ∷ as') = IsGiven body g a × AreGiven body gs as'
 AreGiven body _ _ = ⊥

@@ -14,7 +14,7 @@ ghost use Rattle.rdl_assignments.specs.Layers.{IsLayer};
 
 use crate::allowed::Allowed;
 use crate::layer::Layer;
-use crate::set::Given;
+use crate::set::ValidAssignment;
 use rb_base::NoMemory;
 use rdl_failures::Failures;
 use rdl_tree::Item;
@@ -24,7 +24,7 @@ use std::alloc::Global;
 /// The defaults of a body that fail no rule, in text order, and how many of them stand before each item.
 #[derive(Drop)]
 pub struct Defaults<'a> {
-    given: Vec<Given<'a>>,
+    given: Vec<ValidAssignment<'a>>,
     counts: Vec<usize>,
 }
 
@@ -43,7 +43,7 @@ impl<'a> Defaults<'a> {
     }
 
     /// Those that stand before the item of a position, and all of them before the position behind the last.
-    pub fn before(&self, position: usize) -> &[Given<'a>]
+    pub fn before(&self, position: usize) -> &[ValidAssignment<'a>]
         ensures { result.now ≡ before_in self.now position }
     {
         let count = self.count(position);

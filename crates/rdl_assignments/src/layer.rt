@@ -3,8 +3,8 @@
 ghost use Rattle.std.specs.Prelude.{◌≡◌, ◌++◌, OnOk, option_to_list};
 
 use crate::allowed::Allowed;
-use crate::set::{Given, judge_set};
-use crate::taken::Taken;
+use crate::set::{ValidAssignment, judge_set};
+use crate::taken::AssignedProps;
 use rb_base::NoMemory;
 use rdl_failures::Failures;
 use rdl_tree::Set;
@@ -12,7 +12,10 @@ use rdl_values::Chain;
 use std::alloc::Global;
 
 // Puts an assignment behind the others, if it gives something.
-fn push<'a>(list: &mut Vec<Given<'a>>, given: Option<Given<'a>>) -> Result<(), NoMemory>
+fn push<'a>(
+    list: &mut Vec<ValidAssignment<'a>>,
+    given: Option<ValidAssignment<'a>>,
+) -> Result<(), NoMemory>
     ensures { OnOk result (list.new.items ≡ list.old.items ++ option_to_list given.entry) }
 {
     match given {
@@ -27,8 +30,8 @@ fn push<'a>(list: &mut Vec<Given<'a>>, given: Option<Given<'a>>) -> Result<(), N
 /// The assignments of one layer: the properties that they assign, and what those give that fail no rule, in text order.
 #[derive(Drop)]
 pub struct Layer<'a> {
-    pub(crate) taken: Taken,
-    pub given: Vec<Given<'a>>,
+    pub(crate) taken: AssignedProps,
+    pub given: Vec<ValidAssignment<'a>>,
 }
 
 impl<'a> Layer<'a> {
@@ -46,7 +49,7 @@ impl<'a> Layer<'a> {
         ensures { (legal : Prop → Bool) (body : ℕ) (start : List Fault) → IsLayer legal body result start start [] }
     {
         Layer {
-            taken: Taken::new(alloc),
+            taken: AssignedProps::new(alloc),
             given: Vec::new(alloc),
         }
     }

@@ -25,5 +25,5 @@ pub use layer::Layer;
 pub use locals::judge_locals;
 pub use meaning::meaning_of;
 pub use moving::{moved, settings_say};
-pub use set::Given;
-pub use taken::Taken;
+pub use set::ValidAssignment;
+pub use taken::AssignedProps;

@@ -14,7 +14,7 @@ ghost use Rattle.rdl_assignments.specs.Layers.{AreGiven, IsLayer};
 
 use crate::allowed::Allowed;
 use crate::layer::Layer;
-use crate::set::Given;
+use crate::set::ValidAssignment;
 use rb_base::NoMemory;
 use rdl_failures::Failures;
 use rdl_tree::{Item, Kind};
@@ -48,7 +48,7 @@ pub fn judge_locals<'a>(
     body: u32,
     visible: &Chain<'_, '_, '_, 'a>,
     failures: &mut Failures,
-) -> Result<Vec<Given<'a>>, NoMemory>
+) -> Result<Vec<ValidAssignment<'a>>, NoMemory>
     ensures noted { OnOk result ((b : Body) → b.items ≡ items.now → IsShown visible.now (b.names ∷ around b.outer) → failures.new ≡ with_all (all_failures (failures_of (λ p. is_legal p kind)) (locals b)) failures.old) }
     ensures given { IfOk result (λ r. (b : Body) → b.items ≡ items.now → IsShown visible.now (b.names ∷ around b.outer) → AreGiven body r.items (sound (failures_of (λ p. is_legal p kind)) (locals b))) }
 {

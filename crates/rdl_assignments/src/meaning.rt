@@ -19,7 +19,7 @@ use rdl_base::Fault;
 use rdl_failures::value_seen;
 use rdl_layers::Setting;
 use rdl_props::{Form, Prop, takes};
-use rdl_tree::{Expr, Given, Name, Path, Set, Value};
+use rdl_tree::{Assigned, Expr, Name, Path, Set, Value};
 use rdl_values::Chain;
 
 // A path, whose indices have values.
@@ -76,7 +76,7 @@ fn expr_in<'a>(
 // What is written.
 fn written_in<'a>(
     form: Form,
-    value: &Given<'a>,
+    value: &Assigned<'a>,
     place: Place,
     body: u32,
     visible: &Chain<'_, '_, '_, 'a>,
@@ -85,15 +85,15 @@ fn written_in<'a>(
     ensures stands { IfOk result (StandsIn body) }
 {
     match value {
-        Given::Expr(expr) => expr_in(form, expr, place, body, visible),
-        Given::Word(word) => or_bad_value(word_in(form, *word), place),
+        Assigned::Expr(expr) => expr_in(form, expr, place, body, visible),
+        Assigned::Word(word) => or_bad_value(word_in(form, *word), place),
     }
 }
 
 // What is given, which is true where nothing is written.
 fn given_in<'a>(
     form: Form,
-    value: &Option<Given<'a>>,
+    value: &Option<Assigned<'a>>,
     place: Place,
     body: u32,
     visible: &Chain<'_, '_, '_, 'a>,
@@ -111,7 +111,7 @@ fn given_in<'a>(
 fn edge_in<'a>(
     form: Form,
     edge: Edge,
-    value: &Option<Given<'a>>,
+    value: &Option<Assigned<'a>>,
     place: Place,
 ) -> Result<Setting<'a>, Fault>
     ensures outcome { (scope : Scope) → outcome_in scope result ≡ meanings.from_edge form place edge value.now }

@@ -13,7 +13,7 @@ ghost use Rattle.rdl_assignments.specs.Taken.{AreTaken};
 
 use crate::allowed::Allowed;
 use crate::meaning::meaning_of;
-use crate::taken::Taken;
+use crate::taken::AssignedProps;
 use rb_base::NoMemory;
 use rdl_base::Rule;
 use rdl_failures::Failures;
@@ -24,7 +24,7 @@ use rdl_values::Chain;
 
 /// An assignment that fails no rule: its property, and what it gives.
 #[derive(Clone, Copy)]
-pub struct Given<'a> {
+pub struct ValidAssignment<'a> {
     pub prop: Prop,
     pub setting: Setting<'a>,
 }
@@ -55,7 +55,7 @@ fn judge_known<'a>(
     allowed: Allowed,
     body: u32,
     visible: &Chain<'_, '_, '_, 'a>,
-    taken: &Taken,
+    taken: &AssignedProps,
     failures: &mut Failures,
 ) -> Result<Option<Setting<'a>>, NoMemory>
     ensures noted { IfOk result (λ r. (earlier : List Assignment) (scope : Scope) → prop_of (record { set_ = set.now; scope = scope }) ≡ Some prop → IsShown visible.now (around scope) → AreTaken taken.now (props_of earlier)
@@ -70,12 +70,12 @@ fn judge_known<'a>(
 }
 
 // What an assignment of the property gives.
-fn given_by<'a>(prop: Prop, setting: Option<Setting<'a>>) -> Option<Given<'a>>
+fn given_by<'a>(prop: Prop, setting: Option<Setting<'a>>) -> Option<ValidAssignment<'a>>
     ensures some { is_some result ≡ is_some setting.entry }
     ensures same { IfSome result (λ g. (g.prop ≡ prop) × (setting.entry ≡ Some g.setting)) }
 {
     match setting {
-        Some(setting) => Some(Given { prop, setting }),
+        Some(setting) => Some(ValidAssignment { prop, setting }),
         None => None,
     }
 }
@@ -87,9 +87,9 @@ pub(crate) fn judge_set<'a>(
     allowed: Allowed,
     body: u32,
     visible: &Chain<'_, '_, '_, 'a>,
-    taken: &mut Taken,
+    taken: &mut AssignedProps,
     failures: &mut Failures,
-) -> Result<Option<Given<'a>>, NoMemory>
+) -> Result<Option<ValidAssignment<'a>>, NoMemory>
     ensures noted { IfOk result (λ r. (earlier : List Assignment) (scope : Scope) → IsShown visible.now (around scope) → AreTaken taken.old (props_of earlier)
         → IsNoted (failures_of (is_allowed allowed) (earlier, record { set_ = set.now; scope = scope })) (is_some r) failures.old failures.new) }
     ensures taken { OnOk result ((earlier : List Assignment) (scope : Scope) → AreTaken taken.old (props_of earlier) → AreTaken taken.new (props_of (earlier ++ (record { set_ = set.now; scope = scope } ∷ [])))) }

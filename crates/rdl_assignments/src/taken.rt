@@ -9,11 +9,11 @@ use std::alloc::Global;
 
 /// The properties that the assignments of one layer assign, as far as they have been read, each once.
 #[derive(Drop)]
-pub struct Taken {
+pub struct AssignedProps {
     props: Vec<Prop>,
 }
 
-impl Taken {
+impl AssignedProps {
     ghost use Rattle.std.specs.Prelude.{◌≡◌, [], ◌∷◌, ◌++◌, List, not, ◌&&◌, IfOk, OnOk};
     ghost use Rattle.std.specs.List.{list_any};
     ghost use Rattle.rdl_props.specs.Same.{same_prop};
@@ -27,7 +27,7 @@ impl Taken {
     pub fn new(alloc: Global) -> Self
         ensures { AreTaken result [] }
     {
-        Taken {
+        AssignedProps {
             props: Vec::new(alloc),
         }
     }

@@ -14,16 +14,16 @@ use Rattle.rdl_refs.specs.Follows.{item_number, parent}
 use Rattle.rdl_refs.specs.Items.{Item, whats}
 use Rattle.rdl_bind.specs.Given.{NameItems}
 use Rattle.rdl_bind.specs.Numbered.{AreNumbers}
-use Rattle.rdl_ref_items.specs.Marks.{AreMarks}
+use Rattle.rdl_ref_items.specs.InterruptOutputs.{AreInterruptOutputs}
 use Rattle.rdl_members.specs.Covered.{AreOverViews}
 use Rattle.rdl_fields.specs.Touched.{touches}
-use Rattle.rdl_bind.specs.declared.known.Known.{Known}
+use Rattle.rdl_bind.specs.declared.known.BoundTree.{BoundTree}
 
 -- The tree is clean, and these are its rows, its marks, the fields that software touches, its items and what its settings name.
-pub record IsKnown (k : Known) : Type 0 where
+pub record IsBoundTree (k : BoundTree) : Type 0 where
   pub clean : IsClean k.props.now
   pub rows_ : AreRows k.props.now k.rows.now
-  pub marks_ : AreMarks k.props.now k.marks.now
+  pub marks_ : AreInterruptOutputs k.props.now k.marks.now
   pub touched_ : AreOverViews k.props.now touches k.touched.now
   pub numbers_ : AreNumbers k.props.now k.numbers.now
   pub sized : length k.targets.now ≡ k.props.now.count

@@ -6,10 +6,10 @@ use Rattle.rdl_values.specs.Lineages.{lineages_of}
 use Rattle.rdl_refs.specs.Follows.{edges_of}
 use Rattle.rdl_bind.specs.Numbered.{AreNumbers}
 use Rattle.rdl_bind.specs.Targeted.{AreTargets}
-use Rattle.rdl_bind.specs.declared.tables.Tables.{Tables}
+use Rattle.rdl_bind.specs.declared.tables.ItemTables.{ItemTables}
 
 -- All items and their numbers, what each refers to, and what the settings of each node name.
-pub record AreMade (e : Elab) (x : Tables) : Type 0 where
+pub record AreMade (e : Elab) (x : ItemTables) : Type 0 where
   pub numbers_ : AreNumbers e x.numbers
   pub refer : lists x.edges.items ≡ edges_of (lineages_of e)
   pub within : AreWithin (lists x.edges.items)

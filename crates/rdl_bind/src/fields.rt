@@ -5,18 +5,18 @@ ghost use Rattle.rdl_props.specs.declared.prop.Prop.TheVariants as properties;
 ghost use Rattle.rdl_values.specs.Lineages.{lineages_of};
 ghost use Rattle.rdl_refs.specs.Follows.{given_items, is_in_alias};
 ghost use Rattle.rdl_refs.specs.Items.{Item};
-ghost use Rattle.rdl_bind.specs.Known.{IsItem, IsKnown, is_of_wire, numbers_of};
+ghost use Rattle.rdl_bind.specs.Known.{IsItem, IsBoundTree, is_of_wire, numbers_of};
 
 use crate::given_items::add_given;
-use crate::known::{Known, targets_of};
+use crate::known::{BoundTree, targets_of};
 use rb_base::NoMemory;
 use rdl_fields::is_wire;
 use rdl_props::Prop;
 use rdl_refs::ItemOf;
 
 /// Whether an item's node is a field that is a wire.
-fn is_wire_field(known: Known<'_, '_>, item: ItemOf) -> bool
-    requires known { IsKnown known }
+fn is_wire_field(known: BoundTree<'_, '_>, item: ItemOf) -> bool
+    requires known { IsBoundTree known }
     requires item { (i : Item) × IsItem known.props.now i item }
     ensures { (i : Item) → IsItem known.entry.props.now i item → is_in_alias i ≡ false → result ≡ is_of_wire (lineages_of known.entry.props.now) i }
 {
@@ -30,11 +30,11 @@ fn is_wire_field(known: Known<'_, '_>, item: ItemOf) -> bool
 
 /// Adds the number of the item that passes through a wire.
 pub(crate) fn add_wire(
-    known: Known<'_, '_>,
+    known: BoundTree<'_, '_>,
     item: ItemOf,
     list: &mut Vec<usize>,
 ) -> Result<(), NoMemory>
-    requires known { IsKnown known }
+    requires known { IsBoundTree known }
     requires item { (i : Item) × IsItem known.props.now i item }
     ensures { OnOk result ((i : Item) → IsItem known.entry.props.now i item → is_in_alias i ≡ false
         → list.new.items ≡ list.old.items ++ numbers_of known.entry.props.now (cond (is_of_wire (lineages_of known.entry.props.now) i) (given_items (lineages_of known.entry.props.now) i.node (properties.Next ∷ [])) [])) }

@@ -9,7 +9,7 @@ ghost use Rattle.rdl_values.specs.Elaborated.{nodes_of};
 ghost use Rattle.rdl_values.specs.Instances.{Instance, kind_of};
 ghost use Rattle.rdl_values.specs.Lineages.{lineages_of};
 ghost use Rattle.rdl_values.specs.Parts.{is_unit};
-ghost use Rattle.rdl_bind.specs.Known.{IsKnown, numbers_of};
+ghost use Rattle.rdl_bind.specs.Known.{IsBoundTree, numbers_of};
 
 use crate::given_items::add_given;
 use crate::numbering::Numbers;
@@ -17,16 +17,16 @@ use rb_base::NoMemory;
 use rdl_layers::Props;
 use rdl_nodes::Row;
 use rdl_props::Prop;
-use rdl_ref_items::Mark;
+use rdl_ref_items::InterruptOutputs;
 use rdl_refs::{ItemOf, Target, What};
 
 /// What is known of a tree: its settings, its nodes, the marks of its registers, for each field whether software touches it through one
 /// of its views, the numbers of its items, and for each node the items that its settings name.
 #[derive(Clone, Copy)]
-pub struct Known<'t, 'a> {
+pub struct BoundTree<'t, 'a> {
     pub props: &'t Props<'a>,
     pub rows: &'t [Row<'a>],
-    pub marks: &'t [Mark],
+    pub marks: &'t [InterruptOutputs],
     pub touched: &'t [bool],
     pub numbers: &'t Numbers,
     pub targets: &'t [Vec<Target>],
@@ -42,11 +42,11 @@ pub(crate) fn targets_of(targets: &[Vec<Target>], node: u32) -> &[Target]
 
 /// Adds the number of the value of a field or signal.
 pub(crate) fn add_value(
-    known: Known<'_, '_>,
+    known: BoundTree<'_, '_>,
     node: u32,
     list: &mut Vec<usize>,
 ) -> Result<(), NoMemory>
-    requires known { IsKnown known }
+    requires known { IsBoundTree known }
     requires node { (n : Instance) × (slice_get (nodes_of known.props.now) node ≡ Some n) × (is_unit (kind_of n) ≡ true) }
     ensures { OnOk result ((i : Item) → slice_get (nodes_of known.entry.props.now) node ≡ Some i.node → i.what ≡ whats.Value → list.new.items ≡ list.old.items ++ numbers_of known.entry.props.now (i ∷ [])) }
 {
@@ -61,12 +61,12 @@ pub(crate) fn add_value(
 
 /// Adds the number of the value of a field, and those of the items that some of its settings name.
 pub(crate) fn add_with(
-    known: Known<'_, '_>,
+    known: BoundTree<'_, '_>,
     node: u32,
     props: &[Prop],
     list: &mut Vec<usize>,
 ) -> Result<(), NoMemory>
-    requires known { IsKnown known }
+    requires known { IsBoundTree known }
     requires node { (f : Instance) × (slice_get (nodes_of known.props.now) node ≡ Some f) × (is_unit (kind_of f) ≡ true) }
     ensures { OnOk result ((i : Item) → slice_get (nodes_of known.entry.props.now) node ≡ Some i.node → i.what ≡ whats.Value
         → list.new.items ≡ list.old.items ++ numbers_of known.entry.props.now (i ∷ given_items (lineages_of known.entry.props.now) i.node props.now)) }

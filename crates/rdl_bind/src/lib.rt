@@ -14,7 +14,7 @@ mod tables;
 mod target_table;
 
 pub use given_items::add_given;
-pub use known::Known;
+pub use known::BoundTree;
 pub use numbering::{Numbers, item_numbers};
 pub use reference_table::edges;
 pub use references::bind;

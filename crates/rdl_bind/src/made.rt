@@ -4,11 +4,11 @@ ghost use Rattle.std.specs.Prelude.{◌≡◌, ◌++◌, IfOk, OnOk, false};
 ghost use Rattle.rdl_values.specs.Lineages.{lineages_of};
 ghost use Rattle.rdl_refs.specs.Follows.{is_in_alias as in_alias, made_from, refers_to};
 ghost use Rattle.rdl_refs.specs.Items.{Item};
-ghost use Rattle.rdl_bind.specs.Known.{IsItem, IsKnown, numbers_of};
+ghost use Rattle.rdl_bind.specs.Known.{IsItem, IsBoundTree, numbers_of};
 
 use crate::fields::add_wire;
 use crate::given_items::add_given;
-use crate::known::{Known, add_value, add_with, targets_of};
+use crate::known::{BoundTree, add_value, add_with, targets_of};
 use crate::registers::add_fields;
 use rb_base::NoMemory;
 use rdl_props::Prop;
@@ -29,8 +29,8 @@ static INCR_THRESHOLD: [Prop; 1] = [Prop::Incrthreshold];
 static DECR_THRESHOLD: [Prop; 1] = [Prop::Decrthreshold];
 
 /// Adds the numbers of the items that one is made from, where it isn't in an alias.
-fn add_made(known: Known<'_, '_>, item: ItemOf, list: &mut Vec<usize>) -> Result<(), NoMemory>
-    requires known { IsKnown known }
+fn add_made(known: BoundTree<'_, '_>, item: ItemOf, list: &mut Vec<usize>) -> Result<(), NoMemory>
+    requires known { IsBoundTree known }
     requires item { (i : Item) × IsItem known.props.now i item }
     ensures { OnOk result ((i : Item) → IsItem known.entry.props.now i item → in_alias i ≡ false → list.new.items ≡ list.old.items ++ numbers_of known.entry.props.now (made_from (lineages_of known.entry.props.now) i)) }
 {
@@ -60,10 +60,10 @@ fn add_made(known: Known<'_, '_>, item: ItemOf, list: &mut Vec<usize>) -> Result
 /// The numbers of the items that one refers to.
 pub(crate) fn edges_from(
     alloc: Global,
-    known: Known<'_, '_>,
+    known: BoundTree<'_, '_>,
     item: ItemOf,
 ) -> Result<Vec<usize>, NoMemory>
-    requires known { IsKnown known }
+    requires known { IsBoundTree known }
     requires item { (i : Item) × IsItem known.props.now i item }
     ensures { IfOk result (λ list. (i : Item) → IsItem known.entry.props.now i item → list.items ≡ numbers_of known.entry.props.now (refers_to (lineages_of known.entry.props.now) i)) }
 {

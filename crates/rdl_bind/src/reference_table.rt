@@ -4,9 +4,9 @@ ghost use Rattle.std.specs.Prelude.{◌≡◌, IfOk};
 ghost use Rattle.topological_order.specs.Levels.{AreWithin, lists};
 ghost use Rattle.rdl_values.specs.Lineages.{lineages_of};
 ghost use Rattle.rdl_refs.specs.Follows.{edges_of};
-ghost use Rattle.rdl_bind.specs.Known.{IsKnown};
+ghost use Rattle.rdl_bind.specs.Known.{IsBoundTree};
 
-use crate::known::Known;
+use crate::known::BoundTree;
 use crate::made::edges_from;
 use rb_base::NoMemory;
 use rdl_refs::ItemOf;
@@ -15,10 +15,10 @@ use std::alloc::Global;
 /// What each of all items refers to.
 fn edges_from_all(
     alloc: Global,
-    known: Known<'_, '_>,
+    known: BoundTree<'_, '_>,
     items: &[ItemOf],
 ) -> Result<Vec<Vec<usize>>, NoMemory>
-    requires known { IsKnown known }
+    requires known { IsBoundTree known }
     requires items { items.now ≡ known.numbers.now.items.items }
     ensures { IfOk result (λ v. lists v.items ≡ edges_of (lineages_of known.entry.props.now)) }
 {
@@ -32,8 +32,8 @@ fn edges_from_all(
 
 /// For each item of a tree the numbers of the items that it refers to, in the order of all items. The only error is want of memory.
 /// Takes time in proportion to the number of items and of what they refer to.
-pub fn edges(alloc: Global, known: Known<'_, '_>) -> Result<Vec<Vec<usize>>, NoMemory>
-    requires { IsKnown known }
+pub fn edges(alloc: Global, known: BoundTree<'_, '_>) -> Result<Vec<Vec<usize>>, NoMemory>
+    requires { IsBoundTree known }
     ensures edges { IfOk result (λ v. lists v.items ≡ edges_of (lineages_of known.entry.props.now)) }
     ensures within { IfOk result (λ v. AreWithin (lists v.items)) }
 {

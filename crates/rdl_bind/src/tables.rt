@@ -9,7 +9,7 @@ ghost use Rattle.rdl_bind.specs.Targeted.{AreListed};
 ghost use Rattle.rdl_fields.specs.Touched.{touches};
 ghost use Rattle.rdl_bind.specs.Made.{AreMade};
 
-use crate::known::Known;
+use crate::known::BoundTree;
 use crate::numbering::{Numbers, item_numbers};
 use crate::reference_table::edges;
 use crate::target_table::ref_targets;
@@ -20,13 +20,13 @@ use rdl_members::{any_view, members_of};
 use rdl_nodes::Row;
 use rdl_ref_items::marks;
 use rdl_refs::Target;
-use rdl_resolve::{Known as Seen, NamedItem, NamedItems, named_items, outers_of};
+use rdl_resolve::{NamedItem, NamedItems, NamedTree, named_items, outers_of};
 use rdl_tree::Elab;
 use std::alloc::Global;
 
 /// The items of a tree with their numbers, what each refers to, and for each node the items that its settings name.
 #[derive(Drop)]
-pub(crate) struct Tables {
+pub(crate) struct ItemTables {
     pub numbers: Numbers,
     pub edges: Vec<Vec<usize>>,
     pub targets: Vec<Vec<Target>>,
@@ -46,7 +46,7 @@ pub(crate) fn named<'a>(
 {
     let members = members_of(alloc, elab, rows)?;
     let outers = outers_of(alloc, elab, rows)?;
-    let known = Seen {
+    let known = NamedTree {
         elab,
         rows,
         members: &members,
@@ -78,7 +78,7 @@ pub(crate) fn tables_of<'a>(
     props: &Props<'a>,
     rows: &[Row<'a>],
     items: &[Vec<NamedItem>],
-) -> Result<Tables, NoMemory>
+) -> Result<ItemTables, NoMemory>
     requires clean { IsClean elab.now }
     requires tree { props.now ≡ elab.now }
     requires rows { AreRows elab.now rows.now }
@@ -89,7 +89,7 @@ pub(crate) fn tables_of<'a>(
     let targets = ref_targets(alloc, elab, &numbers, items)?;
     let marks = marks(alloc, props, rows)?;
     let touched = touched(alloc, elab, props, rows)?;
-    let known = Known {
+    let known = BoundTree {
         props,
         rows,
         marks: &marks,
@@ -98,7 +98,7 @@ pub(crate) fn tables_of<'a>(
         targets: &targets,
     };
     let edges = edges(alloc, known)?;
-    Ok(Tables {
+    Ok(ItemTables {
         numbers,
         edges,
         targets,

@@ -26,7 +26,7 @@ use Rattle.rdl_addr.proofs.Covers.{address_by_kind, covers}
 use Rattle.rdl_sizes.specs.Levels.{levels, mode_under}
 use Rattle.rdl_sizes.proofs.Facts.{node-at}
 use Rattle.rdl_sizes.proofs.Settled.{reg-accesswidth, reg-regwidth}
-use Rattle.rdl_sizes.specs.Addresses.{IsSpot}
+use Rattle.rdl_sizes.specs.Addresses.{IsArea}
 use Rattle.rdl_bits.specs.Failing.{registers_of}
 use Rattle.rdl_bits.specs.Found.{AreFound, AreRegistersTo, AreRegisters, IsFound, IsNumbersOf, is_register}
 use Rattle.rdl_bits.proofs.Filtered.{apart-kept, filter-all, filter-next, kept-in, twice}
@@ -63,7 +63,7 @@ module _ (e : Elab) where
       let first : p.node ≡ l.node = cc same in
       let rest : map (λ p. p.node) ps ≡ map (λ l. l.node) ls = cc same in
       let f = h.0 in
-      let one = unique all_placed f.spot p placed-apart (in-from all_placed f.spot f.among) (among p (inl refl)) (f.node_ ∙ sym first) in
+      let one = unique all_placed f.area p placed-apart (in-from all_placed f.area f.among) (among p (inl refl)) (f.node_ ∙ sym first) in
       (subst (IsRegisterOf r) one f.is, one-by-one rs ls ps h.1 rest (λ q i. among q (inr i)))
 
   nodes-placed : map (λ p. p.node) (registers_of e) ≡ map (λ l. l.node) (filter is_register (lineages_of e))
@@ -111,23 +111,23 @@ module _ (e : Elab) (k : ℕ) (l : Lineage) (here : slice_get (lineages_of e) k 
     found = subst (AreFound e old) (sym (filter-next is_register (lineages_of e) k l here ∙ (ap (λ b. filter is_register (take k (lineages_of e)) ++ cond b (l ∷ []) []) unlike ∙ none-behind (filter is_register (take k (lineages_of e)))))) before.found;
   }
 
-  module _ (reg : is_register l ≡ true) (at : ℕ) (spot : IsSpot e l at) (r : Register) (is : IsNumbersOf r l.node at) where
+  module _ (reg : is_register l ≡ true) (at : ℕ) (area : IsArea e l at) (r : Register) (is : IsNumbersOf r l.node at) where
     abbrev here_placed : Placed
     here_placed = record { node = l.node; address = at; size = number_at l.node prop.Regwidth / 8 }
 
     in-layout : Contains (layout (Some (top_name e)) e.source.now) here_placed
-    unfolding IsSpot
+    unfolding IsArea
     in-layout =
         let down = levels-down l.node l.ancestors (few (Some (top_name e)) e.source.now k l here) in
         let mode = mode_under l.ancestors in
         let j = levels (l.node ∷ l.ancestors) in
         let size : size_of (suc j) mode l.node ≡ number_at l.node prop.Regwidth / 8 = ap (λ b. cond b (number_at l.node prop.Regwidth / 8) (greatest_end (mode_in mode l.node) (groups j mode l.node))) reg in
         let head : In (placed_from (suc j) mode at l.node) here_placed = inl (λ i. record { node = l.node; address = at; size = size i }) in
-        spot here_placed (subst (λ n. Contains (placed_from n mode at l.node) here_placed) (sym down) (in-to (placed_from (suc j) mode at l.node) here_placed head))
+        area here_placed (subst (λ n. Contains (placed_from n mode at l.node) here_placed) (sym down) (in-to (placed_from (suc j) mode at l.node) here_placed head))
 
     is-found : IsFound e r l.node
     is-found = record {
-      spot = here_placed;
+      area = here_placed;
       among = in-layout;
       node_ = refl;
       is = record { place_ = is.place_; address_ = is.address_; size_ = is.size_; regwidth_ = is.regwidth_; accesswidth_ = is.accesswidth_; side_ = is.side_ };

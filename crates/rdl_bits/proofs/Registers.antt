@@ -25,7 +25,7 @@ use Rattle.rdl_addr.specs.Bits as bits
 use Rattle.rdl_addr.specs.Bits.{Bits, bits_of}
 use Rattle.rdl_addr.specs.Fields.{AllAreBitsOf, AreFieldsOf}
 use Rattle.rdl_addr.specs.Rules.{of_bits}
-use Rattle.rdl_addr.specs.Spots.{bits_at}
+use Rattle.rdl_addr.specs.Areas.{bits_at}
 use Rattle.rdl_addr.proofs.Fielding.{all-bits, same-faults}
 use Rattle.rdl_nodes.proofs.Members.{In, get-made, get-read, get-within, in-either, in-from, in-left, in-place, in-right, in-to, map-in}
 use Rattle.rdl_nodes.proofs.Order.{behind, once}

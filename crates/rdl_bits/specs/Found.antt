@@ -27,10 +27,10 @@ pub record IsNumbersOf (r : Register) (n : Instance) (address : ℕ) : Type 0 wh
 
 -- A register stands where the layout has a node.
 pub record IsFound (e : Elab) (r : Register) (n : Instance) : Type 0 where
-  pub spot : Placed
-  pub among : Contains (layout (Some (top_name e)) e.source.now) spot
-  pub node_ : spot.node ≡ n
-  pub is : IsRegisterOf r spot
+  pub area : Placed
+  pub among : Contains (layout (Some (top_name e)) e.source.now) area
+  pub node_ : area.node ≡ n
+  pub is : IsRegisterOf r area
 
 -- one by one
 abbrev pub AreFound : Elab → List Register → List Lineage → Type 0

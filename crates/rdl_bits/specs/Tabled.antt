@@ -9,7 +9,7 @@ use Rattle.rdl_values.specs.Lineages.{Lineage, child_of, lineages_of}
 use Rattle.rdl_layers.specs.Fields.{is_a}
 use Rattle.rdl_addr.specs.Bits.{Bits, bits_of}
 use Rattle.rdl_addr.specs.Rules.{of_bits}
-use Rattle.rdl_addr.specs.Spots.{bits_at}
+use Rattle.rdl_addr.specs.Areas.{bits_at}
 use Rattle.rdl_bits.specs.declared.table.BitTable.{BitTable}
 use Rattle.rdl_bits.specs.Written.{narrow}
 

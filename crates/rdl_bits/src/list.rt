@@ -8,7 +8,7 @@ ghost use Rattle.rdl_layers.specs.Answers.{IsSettled};
 ghost use Rattle.rdl_nodes.specs.declared.table.Row.{Row as AnyRow};
 ghost use Rattle.rdl_nodes.specs.Rows.{AreRows, IsRow};
 ghost use Rattle.rdl_addr.specs.Layout.{has_address};
-ghost use Rattle.rdl_sizes.specs.Addresses.{AreAddresses, IsSpot};
+ghost use Rattle.rdl_sizes.specs.Addresses.{AreAddresses, IsArea};
 ghost use Rattle.rdl_bits.specs.Found.{AreRegisters, AreRegistersTo};
 
 use crate::one::numbers_of;
@@ -39,7 +39,7 @@ fn add_register(
     requires clean { IsClean props.now }
     requires settled { IsSettled props.now }
     requires row { (l : Lineage) × (slice_get (lineages_of props.now) (out-Node node.now).id ≡ Some l) × (x : AnyRow) × (x.node.now ≡ node.now) × IsRow props.now (lineages_of props.now) (out-Node node.now).id x l
-        × (has_address l.node ≡ true → IsSpot props.now l address) }
+        × (has_address l.node ≡ true → IsArea props.now l address) }
     requires before { AreRegistersTo props.now (out-Node node.now).id registers.old.items }
     ensures { OnOk result (AreRegistersTo props.now ((out-Node node.now).id + 1) registers.new.items) }
 {

@@ -9,7 +9,7 @@ ghost use Rattle.rdl_values.specs.Lineages.{Lineage};
 ghost use Rattle.rdl_layers.specs.Fields.{is_a};
 ghost use Rattle.rdl_tree.specs.Kinds.{same_kind};
 ghost use Rattle.rdl_nodes.specs.Rows.{AreInside};
-ghost use Rattle.rdl_addr.specs.Spots.{bits_at};
+ghost use Rattle.rdl_addr.specs.Areas.{bits_at};
 ghost use Rattle.rdl_bits.specs.Written as written;
 
 use rdl_layout::FieldBits;

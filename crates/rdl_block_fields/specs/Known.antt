@@ -13,10 +13,10 @@ use Rattle.rdl_block_numbers.specs.Numbers.{AreOwn}
 use Rattle.rdl_rules.specs.Fields.{reset_by, shown_of}
 use Rattle.rdl_rules.specs.Numbers.{Numbered}
 use Rattle.rdl_block_fields.specs.declared.facts.FieldFacts.{FieldFacts}
-use Rattle.rdl_block_fields.specs.declared.feeding.Known.{Known}
+use Rattle.rdl_block_fields.specs.declared.feeding.NumberedTree.{NumberedTree}
 
 -- The tree is clean, and the references, the rows and the numbers are its own.
-pub record IsKnown (k : Known) : Type 0 where
+pub record IsNumberedTree (k : NumberedTree) : Type 0 where
   pub clean : IsClean k.props.now
   pub refs_ : k.refs.now ≡ k.props.now
   pub rows_ : AreRows k.props.now k.rows.now

@@ -7,10 +7,10 @@ ghost use Rattle.rdl_values.specs.Lineages.{Lineage, lineages_of};
 ghost use Rattle.rdl_rules.specs.Fields as fields;
 ghost use Rattle.rdl_rules.specs.Numbers.{Numbered};
 ghost use Rattle.rdl_feeds.specs.Narrow.{AreNarrow};
-ghost use Rattle.rdl_block_fields.specs.Known.{AreFieldFacts, IsKnown};
+ghost use Rattle.rdl_block_fields.specs.Known.{AreFieldFacts, IsNumberedTree};
 
 use crate::classes::class;
-use crate::feeding::{Known, count_of, feed_of, gate_of, mask_of, source_of};
+use crate::feeding::{NumberedTree, count_of, feed_of, gate_of, mask_of, source_of};
 use rb_base::Text;
 use rb_model::{Field, ResetBy, Shows};
 use rdl_field_kinds::{hardware_first, latch, reset_value};
@@ -31,8 +31,8 @@ pub struct FieldFacts {
 }
 
 /// The field of this number in the block, where these are the facts of it.
-pub fn field(known: Known<'_, '_>, node: u32, facts: FieldFacts) -> Field
-    requires known { IsKnown known }
+pub fn field(known: NumberedTree<'_, '_>, node: u32, facts: FieldFacts) -> Field
+    requires known { IsNumberedTree known }
     requires node { node < known.props.now.count }
     requires width { facts.width ≤ 64 }
     requires narrow { (n : Instance) → slice_get (nodes_of known.props.now) node ≡ Some n → AreNarrow n }

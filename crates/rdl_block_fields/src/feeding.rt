@@ -8,7 +8,7 @@ ghost use Rattle.rdl_layers.specs.Fields as settings;
 ghost use Rattle.rdl_layers.specs.Phase4.{width_of};
 ghost use Rattle.rdl_rules.specs.Feeds as feeds;
 ghost use Rattle.rdl_feeds.specs.Narrow.{AreNarrow};
-ghost use Rattle.rdl_block_fields.specs.Known.{IsKnown};
+ghost use Rattle.rdl_block_fields.specs.Known.{IsNumberedTree};
 
 use rb_model::{Count, Feed, Gate, Mask, RefItem};
 use rdl_block_numbers::ref_item;
@@ -21,7 +21,7 @@ use rdl_refs::Refs;
 
 /// A tree: its settings, its references, its rows, and the numbers of its nodes in the lists of their kinds.
 #[derive(Clone, Copy)]
-pub struct Known<'t, 'a> {
+pub struct NumberedTree<'t, 'a> {
     pub props: &'t Props<'a>,
     pub refs: &'t Refs<'a>,
     pub rows: &'t [Row<'a>],
@@ -29,8 +29,8 @@ pub struct Known<'t, 'a> {
 }
 
 /// The item that a property names.
-fn item_of(known: Known<'_, '_>, node: u32, prop: Prop) -> Option<RefItem>
-    requires known { IsKnown known }
+fn item_of(known: NumberedTree<'_, '_>, node: u32, prop: Prop) -> Option<RefItem>
+    requires known { IsNumberedTree known }
     requires node { node < known.props.now.count }
     ensures { (n : Instance) → slice_get (nodes_of known.entry.props.now) node ≡ Some n → result ≡ feeds.item_at (lineages_of known.entry.props.now) n prop }
 {
@@ -38,8 +38,8 @@ fn item_of(known: Known<'_, '_>, node: u32, prop: Prop) -> Option<RefItem>
 }
 
 /// What feeds a property.
-pub(crate) fn feed_of(known: Known<'_, '_>, node: u32, prop: Prop) -> Feed
-    requires known { IsKnown known }
+pub(crate) fn feed_of(known: NumberedTree<'_, '_>, node: u32, prop: Prop) -> Feed
+    requires known { IsNumberedTree known }
     requires node { node < known.props.now.count }
     ensures { (n : Instance) → slice_get (nodes_of known.entry.props.now) node ≡ Some n → result ≡ feeds.feed_at (lineages_of known.entry.props.now) n prop }
 {
@@ -48,8 +48,8 @@ pub(crate) fn feed_of(known: Known<'_, '_>, node: u32, prop: Prop) -> Feed
 }
 
 /// What lets an effect through, by a property that does where it is 1, and one that does where it is 0.
-pub(crate) fn gate_of(known: Known<'_, '_>, node: u32, high: Prop, low: Prop) -> Gate
-    requires known { IsKnown known }
+pub(crate) fn gate_of(known: NumberedTree<'_, '_>, node: u32, high: Prop, low: Prop) -> Gate
+    requires known { IsNumberedTree known }
     requires node { node < known.props.now.count }
     ensures { (n : Instance) → slice_get (nodes_of known.entry.props.now) node ≡ Some n → result ≡ feeds.gate_at (lineages_of known.entry.props.now) n high low }
 {
@@ -59,8 +59,8 @@ pub(crate) fn gate_of(known: Known<'_, '_>, node: u32, high: Prop, low: Prop) ->
 }
 
 /// Which bits count, by a property that lets bits through, and one that takes them.
-pub(crate) fn mask_of(known: Known<'_, '_>, node: u32, enable: Prop, masked: Prop) -> Mask
-    requires known { IsKnown known }
+pub(crate) fn mask_of(known: NumberedTree<'_, '_>, node: u32, enable: Prop, masked: Prop) -> Mask
+    requires known { IsNumberedTree known }
     requires node { node < known.props.now.count }
     ensures { (n : Instance) → slice_get (nodes_of known.entry.props.now) node ≡ Some n → result ≡ feeds.mask_at (lineages_of known.entry.props.now) n enable masked }
 {
@@ -68,8 +68,8 @@ pub(crate) fn mask_of(known: Known<'_, '_>, node: u32, enable: Prop, masked: Pro
 }
 
 /// What a field loads.
-pub(crate) fn source_of(known: Known<'_, '_>, node: u32) -> Feed
-    requires known { IsKnown known }
+pub(crate) fn source_of(known: NumberedTree<'_, '_>, node: u32) -> Feed
+    requires known { IsNumberedTree known }
     requires node { node < known.props.now.count }
     ensures { (n : Instance) → slice_get (nodes_of known.entry.props.now) node ≡ Some n → result ≡ feeds.source_of (lineages_of known.entry.props.now) n }
 {
@@ -78,8 +78,8 @@ pub(crate) fn source_of(known: Known<'_, '_>, node: u32) -> Feed
 }
 
 /// How a field of this width in bits counts, if it is a counter.
-pub(crate) fn count_of(known: Known<'_, '_>, node: u32, width: u8) -> Option<Count>
-    requires known { IsKnown known }
+pub(crate) fn count_of(known: NumberedTree<'_, '_>, node: u32, width: u8) -> Option<Count>
+    requires known { IsNumberedTree known }
     requires node { node < known.props.now.count }
     requires width { width ≤ 64 }
     requires narrow { (n : Instance) → slice_get (nodes_of known.props.now) node ≡ Some n → AreNarrow n }

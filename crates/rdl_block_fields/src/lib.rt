@@ -8,5 +8,5 @@ mod views;
 
 pub use classes::class;
 pub use facts::{FieldFacts, field};
-pub use feeding::Known;
+pub use feeding::NumberedTree;
 pub use views::view;

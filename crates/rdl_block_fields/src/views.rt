@@ -8,9 +8,9 @@ ghost use Rattle.rdl_values.specs.Uses.{path_text};
 ghost use Rattle.rdl_layers.specs.Fields as settings;
 ghost use Rattle.rdl_rules.specs.Fields as fields;
 ghost use Rattle.rdl_rules.specs.Numbers.{all_fields};
-ghost use Rattle.rdl_block_fields.specs.Known.{IsKnown};
+ghost use Rattle.rdl_block_fields.specs.Known.{IsNumberedTree};
 
-use crate::feeding::{Known, gate_of};
+use crate::feeding::{NumberedTree, gate_of};
 use rb_base::Text;
 use rb_model::View;
 use rdl_base::Keyword;
@@ -42,8 +42,8 @@ fn writes(props: &Props<'_>, node: u32) -> bool
 }
 
 /// The view that the field of this number is, with its path's text, of the field of another number in the block: in an alias or not.
-pub fn view(known: Known<'_, '_>, node: u32, path: Text, field: u32, is_alias: bool) -> View
-    requires known { IsKnown known }
+pub fn view(known: NumberedTree<'_, '_>, node: u32, path: Text, field: u32, is_alias: bool) -> View
+    requires known { IsNumberedTree known }
     requires node { node < known.props.now.count }
     ensures { (r v : Instance) → slice_get (nodes_of known.entry.props.now) node ≡ Some v → path ≡ path_text v.path
         → field ≡ fields.first_number (fields.viewed (nodes_in (lineages_of known.entry.props.now)) r v) (all_fields (nodes_in (lineages_of known.entry.props.now))) → is_alias ≡ settings.is_alias r → result ≡ fields.view_of (lineages_of known.entry.props.now) r v }

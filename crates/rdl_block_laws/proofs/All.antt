@@ -30,7 +30,8 @@ use Rattle.rdl_values.specs.Lineages.{Lineage, lineages_of}
 use Rattle.rdl_values.specs.NoNode.{is_reg}
 use Rattle.rdl_values.specs.Uses.{Seen}
 use Rattle.rdl_values.specs.Verdict.{IsListOf}
-use Rattle.rdl_values.proofs.Given.{IsAtRoot, IsChildOf, children-given, each-append, each-imp, signals-given}
+use Rattle.rdl_values.proofs.Given.{IsAtRoot, IsChildOf, children-given, signals-given}
+use Rattle.plain_lemmas.proofs.Lists.{each-append, each-imp}
 use Rattle.rdl_nodes.proofs.Apart.{Apart, apart-append, apart-flat_map, pairs}
 use Rattle.rdl_nodes.proofs.Lineages.{all_nodes}
 use Rattle.rdl_nodes.proofs.Paths.{nodes_apart}

@@ -1,7 +1,7 @@
 -- What references lead to has what they mean.
 use Rattle.std.proofs.Common.{◌≡◌, ◌∙◌, ◌⊎◌, inl, inr, ℕ, Bool, true, false, not, ◌&&◌, ◌||◌, cond, bytes_eq, codes, List, [], ◌∷◌, map, flat_map, filter, take, Option, None, Some, option_to_list, Contains, refl, sym, ap, subst}
 use Rattle.std.specs.List.{AllByRecursion, list_any}
-use Rattle.plain_lemmas.proofs.Lists.{each-filter}
+use Rattle.plain_lemmas.proofs.Lists.{each-filter, each-flat_map, each-imp}
 use Rattle.plain_lemmas.proofs.Bools.{or-neither as or-none, or-true_right as or-more, true-of_not as not-false}
 use Rattle.rb_base.specs.declared.place.Place.{Place}
 use Rattle.rdl_tree.specs.Kinds.{same_kind}
@@ -20,7 +20,7 @@ use Rattle.rdl_values.specs.Instances.{Instance, children, kind_of, nodes, signa
 use Rattle.rdl_values.specs.Lineages.{Lineage, child_of, children_in, lineages}
 use Rattle.rdl_values.specs.NoNode.{holds, is_signal, may_hold}
 use Rattle.rdl_values.specs.Views.{steps_of}
-use Rattle.rdl_values.proofs.Given.{IsChildOf, IsAtRoot, children-given, each-flat_map, each-imp, held, signals-given}
+use Rattle.rdl_values.proofs.Given.{IsChildOf, IsAtRoot, children-given, held, signals-given}
 use Rattle.rdl_nodes.proofs.Lineages.{all_nodes}
 use Rattle.rdl_nodes.proofs.Members.{In, each-in, flat-in, in-flat, in-map, in-to, map-in, place-in, in-place}
 use Rattle.rdl_nodes.proofs.Order.{behind}

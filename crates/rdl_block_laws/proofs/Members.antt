@@ -1,7 +1,7 @@
 -- Which items of a source its block has, and that different items are different there.
 use Rattle.std.proofs.Common.{◌≡◌, ◌∙◌, ◌≢◌, inl, inr, ℕ, ◌<◌, Bool, true, false, not, ◌&&◌, ◌||◌, List, [], ◌∷◌, Option, Some, slice_get, slice_index_or, Contains, refl, sym, ap, subst, arith}
 use Rattle.std.specs.List.{list_any}
-use Rattle.plain_lemmas.proofs.Bools.{and-both_true as and-yes, or-neither as or-none, or-true_right as or-more, true-of_not as not-false}
+use Rattle.plain_lemmas.proofs.Bools.{and-both_true as and-yes, or-left as or-first, or-neither as or-none, or-true_right as or-more, true-of_not as not-false}
 use Rattle.rb_model.specs.declared.block.Block.{Block}
 use Rattle.rdl_tree.specs.Kinds.{same_kind}
 use Rattle.rdl_props.specs.declared.prop.Prop.TheVariants as prop
@@ -42,10 +42,6 @@ use Rattle.rdl_block_laws.proofs.Places.{field-number, register-number}
 -- an item that is there, and is no alias's
 abbrev pub IsThere : Item → Type 0
 IsThere i = (is_missing i || is_in_alias i) ≡ false
-
-or-first : (a c : Bool) → a ≡ true → (a || c) ≡ true
-or-first true c x = refl
-or-first false c x = cc x
 
 pub is-signal : (n : Instance) → kind_of n ≡ kind.Signal → is_a kind.Signal n ≡ true
 is-signal n e = ap (same_kind kind.Signal) e

@@ -2,7 +2,7 @@
 use Rattle.std.proofs.Common.{◌≡◌, ◌∙◌, inl, inr, ℕ, zero, suc, ◌+◌, ◌<◌, ◌==◌, Bool, true, false, not, ◌&&◌, ◌||◌, cond, List, [], ◌∷◌, map, filter, flat_map, length, Some, slice_get, refl, subst, arith}
 use Rattle.std.specs.List.{list_any}
 use Rattle.std.proofs.lemmas.List.Folds.{list_any-append}
-use Rattle.plain_lemmas.proofs.Numbers.{eq-itself as same-number}
+use Rattle.plain_lemmas.proofs.Numbers.{differ as later-number, differ_above as other-number, eq-itself as same-number}
 use Rattle.rdl_tree.specs.declared.item.Source.{Source}
 use Rattle.rdl_values.specs.Instances.{Instance}
 use Rattle.rdl_values.specs.Lineages.{Lineage}
@@ -11,12 +11,6 @@ use Rattle.rdl_layers.specs.Fields.{fields_of, is_alias}
 use Rattle.rb_model.specs.declared.block.Field.{Field}
 use Rattle.rdl_rules.specs.Fields.{field_of}
 use Rattle.rdl_rules.specs.Numbers.{Numbered, numbered_from}
-
-other-number : (n k : ℕ) → n < k → (n == k) ≡ false
-other-number n k l = grind (arith, l)
-
-later-number : (n k : ℕ) → k < n → (n == k) ≡ false
-later-number n k l = grind (arith, l)
 
 module _ (s : Source) (all : List Lineage) (p : Field → Bool) (q : Instance → Bool) where
   abbrev of-number : ℕ → Field → Bool

@@ -11,7 +11,7 @@ use Rattle.rdl_values.specs.Lineages.{Lineage, lineages_of}
 use Rattle.rdl_values.specs.Parts.{is_unit}
 use Rattle.rdl_nodes.proofs.Members.{In, in-from, in-to, place-in}
 use Rattle.rdl_sizes.proofs.Facts.{lineage-at}
-use Rattle.rdl_values.proofs.Given.{each-append, each-imp}
+use Rattle.plain_lemmas.proofs.Lists.{each-append, each-imp}
 use Rattle.std.proofs.lemmas.List.Sorted.{Contains-permutation}
 use Rattle.rdl_refs.specs.Answers.{AreItems, AreItemsOf, IsItemOf}
 use Rattle.rdl_refs.specs.declared.item.ItemOf.{ItemOf}

@@ -2,7 +2,7 @@
 use Rattle.std.specs.Prelude.{◌≡◌}
 use Rattle.rdl_values.specs.Elaboration.{IsClean}
 use Rattle.rdl_nodes.specs.Rows.{AreRows}
-use Rattle.rdl_ref_items.specs.Marks.{AreMarks}
+use Rattle.rdl_ref_items.specs.InterruptOutputs.{AreInterruptOutputs}
 use Rattle.rdl_block_numbers.specs.Numbers.{AreOwn}
 use Rattle.rdl_block_lists.specs.declared.items.Listed.{Listed}
 
@@ -11,5 +11,5 @@ pub record IsListed (k : Listed) : Type 0 where
   pub clean : IsClean k.props.now
   pub refs_ : k.refs.now ≡ k.props.now
   pub rows_ : AreRows k.props.now k.rows.now
-  pub marks_ : AreMarks k.props.now k.marks.now
+  pub marks_ : AreInterruptOutputs k.props.now k.marks.now
   pub own_ : AreOwn k.props.now k.own.now

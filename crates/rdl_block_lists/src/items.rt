@@ -14,7 +14,7 @@ use rb_base::NoMemory;
 use rb_model::RefItem;
 use rdl_layers::Props;
 use rdl_nodes::Row;
-use rdl_ref_items::{Mark, is_in_alias, is_missing};
+use rdl_ref_items::{InterruptOutputs, is_in_alias, is_missing};
 use rdl_refs::{ItemOf, Refs};
 use std::alloc::Global;
 
@@ -24,7 +24,7 @@ pub struct Listed<'t, 'a> {
     pub props: &'t Props<'a>,
     pub refs: &'t Refs<'a>,
     pub rows: &'t [Row<'a>],
-    pub marks: &'t [Mark],
+    pub marks: &'t [InterruptOutputs],
     pub own: &'t [u32],
 }
 

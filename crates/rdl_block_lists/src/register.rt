@@ -10,12 +10,12 @@ ghost use Rattle.rdl_layers.specs.Fields.{fields_of, is_a};
 ghost use Rattle.rdl_block_numbers.specs.Numbers.{AreViewed};
 ghost use Rattle.rdl_block_numbers.specs.Texts.{AreTexts};
 ghost use Rattle.rdl_rules.specs.Fields as fields;
-ghost use Rattle.rdl_block_fields.specs.Known.{IsKnown};
+ghost use Rattle.rdl_block_fields.specs.Known.{IsNumberedTree};
 ghost use Rattle.rdl_block_lists.specs.Standing.{IsRowOf};
 
 use rb_base::{NoMemory, Text, copy_of};
 use rb_model::View;
-use rdl_block_fields::{Known, view};
+use rdl_block_fields::{NumberedTree, view};
 use rdl_fields::primary;
 use rdl_nodes::Row;
 use rdl_tree::Node;
@@ -24,14 +24,14 @@ use std::alloc::Global;
 /// Adds a node, where it is a field, in a register that is an alias or not. The only error is want of memory.
 fn add_view(
     alloc: Global,
-    known: Known<'_, '_>,
+    known: NumberedTree<'_, '_>,
     viewed: &[u32],
     texts: &[Text],
     node: &Node<'_>,
     is_alias: bool,
     list: &mut Vec<View>,
 ) -> Result<(), NoMemory>
-    requires known { IsKnown known }
+    requires known { IsNumberedTree known }
     requires viewed { AreViewed known.props.now viewed.now }
     requires texts { AreTexts known.props.now texts.now }
     requires node { (out-Node node.now).id < known.props.now.count }
@@ -50,13 +50,13 @@ fn add_view(
 /// Adds the fields of the register of a row. The only error is want of memory.
 pub(crate) fn add_views(
     alloc: Global,
-    known: Known<'_, '_>,
+    known: NumberedTree<'_, '_>,
     viewed: &[u32],
     texts: &[Text],
     row: &Row<'_>,
     list: &mut Vec<View>,
 ) -> Result<(), NoMemory>
-    requires known { IsKnown known }
+    requires known { IsNumberedTree known }
     requires viewed { AreViewed known.props.now viewed.now }
     requires texts { AreTexts known.props.now texts.now }
     requires row { (l : Lineage) × IsRowOf known.props.now row.now l }

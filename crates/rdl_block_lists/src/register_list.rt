@@ -7,7 +7,7 @@ ghost use Rattle.rdl_tree.specs.Kinds.{same_kind};
 ghost use Rattle.rdl_values.specs.Elaborated.{nodes_of};
 ghost use Rattle.rdl_values.specs.Elaboration.{IsClean};
 ghost use Rattle.rdl_nodes.specs.Rows.{AreRows};
-ghost use Rattle.rdl_ref_items.specs.Marks.{AreMarks};
+ghost use Rattle.rdl_ref_items.specs.InterruptOutputs.{AreInterruptOutputs};
 ghost use Rattle.rdl_rules.specs.Block as blocks;
 ghost use Rattle.rdl_rules.specs.Numbers.{registers};
 ghost use Rattle.rdl_block_numbers.specs.Texts.{AreTexts};
@@ -17,7 +17,7 @@ use rb_base::{NoMemory, Text, copy_of};
 use rb_model::{Reg, Regs};
 use rdl_fields::primary;
 use rdl_nodes::Row;
-use rdl_ref_items::Mark;
+use rdl_ref_items::InterruptOutputs;
 use rdl_tree::{Elab, Kind};
 use std::alloc::Global;
 
@@ -26,7 +26,7 @@ fn add_register(
     alloc: Global,
     kind: Kind,
     is_alias: bool,
-    mark: Mark,
+    mark: InterruptOutputs,
     text: &Text,
     list: &mut Vec<Reg>,
 ) -> Result<(), NoMemory>
@@ -52,12 +52,12 @@ pub fn regs(
     alloc: Global,
     elab: &Elab<'_>,
     rows: &[Row<'_>],
-    marks: &[Mark],
+    marks: &[InterruptOutputs],
     texts: &[Text],
 ) -> Result<Regs, NoMemory>
     requires clean { IsClean elab.now }
     requires rows { AreRows elab.now rows.now }
-    requires marks { AreMarks elab.now marks.now }
+    requires marks { AreInterruptOutputs elab.now marks.now }
     requires texts { AreTexts elab.now texts.now }
     requires halts { DoHalt elab.now }
     ensures { IfOk result (λ list. list ≡ map blocks.reg_of (registers (nodes_of elab.now))) }

@@ -8,26 +8,26 @@ ghost use Rattle.rdl_block_numbers.specs.Numbers.{AreViewed};
 ghost use Rattle.rdl_block_numbers.specs.Texts.{AreTexts};
 ghost use Rattle.rdl_rules.specs.Block as blocks;
 ghost use Rattle.rdl_rules.specs.Fields.{view_of};
-ghost use Rattle.rdl_block_fields.specs.Known.{IsKnown};
+ghost use Rattle.rdl_block_fields.specs.Known.{IsNumberedTree};
 ghost use Rattle.rdl_block_lists.specs.Standing.{IsRowOf};
 
 use crate::register::add_views;
 use rb_base::{NoMemory, Text};
 use rb_model::View;
-use rdl_block_fields::Known;
+use rdl_block_fields::NumberedTree;
 use rdl_nodes::Row;
 use std::alloc::Global;
 
 /// Adds the fields of a node, where it is a register. The only error is want of memory.
 fn add_register(
     alloc: Global,
-    known: Known<'_, '_>,
+    known: NumberedTree<'_, '_>,
     viewed: &[u32],
     texts: &[Text],
     row: &Row<'_>,
     list: &mut Vec<View>,
 ) -> Result<(), NoMemory>
-    requires known { IsKnown known }
+    requires known { IsNumberedTree known }
     requires viewed { AreViewed known.props.now viewed.now }
     requires texts { AreTexts known.props.now texts.now }
     requires row { (l : Lineage) × IsRowOf known.props.now row.now l }
@@ -44,11 +44,11 @@ fn add_register(
 /// of all nodes. The only error is want of memory. Takes time in proportion to the number of nodes.
 pub fn views(
     alloc: Global,
-    known: Known<'_, '_>,
+    known: NumberedTree<'_, '_>,
     viewed: &[u32],
     texts: &[Text],
 ) -> Result<Vec<View>, NoMemory>
-    requires known { IsKnown known }
+    requires known { IsNumberedTree known }
     requires viewed { AreViewed known.props.now viewed.now }
     requires texts { AreTexts known.props.now texts.now }
     ensures { IfOk result (λ vs. vs.items ≡ blocks.views (lineages_of known.entry.props.now)) }

@@ -3,7 +3,7 @@ use Rattle.std.proofs.Common.{◌≡◌, ◌∙◌, ℕ, zero, suc, Bool, true, 
 use Rattle.std.specs.List.{AllByRecursion}
 use Rattle.std.proofs.lemmas.List.{map-append}
 use Rattle.plain_lemmas.proofs.Bools.{and-left as both}
-use Rattle.plain_lemmas.proofs.Lists.{filter-append as filter-join}
+use Rattle.plain_lemmas.proofs.Lists.{each-imp, filter-append as filter-join}
 use Rattle.rdl_tree.specs.declared.item.Kind.{Kind}
 use Rattle.rdl_tree.specs.declared.item.Kind.TheVariants as kind
 use Rattle.rdl_tree.specs.declared.item.Source.{Source}
@@ -11,7 +11,7 @@ use Rattle.rdl_tree.specs.Kinds.{same_kind}
 use Rattle.rdl_values.specs.Instances.{Instance, children, kind_of, most_names, nodes, signals, top_of, with_below}
 use Rattle.rdl_values.specs.Lineages.{Lineage, alone, lineages, lineages_below}
 use Rattle.rdl_values.specs.NoNode.{holds, is_signal, may_hold}
-use Rattle.rdl_values.proofs.Given.{IsAtRoot, IsChildOf, children-given, each-imp, held, signals-given}
+use Rattle.rdl_values.proofs.Given.{IsAtRoot, IsChildOf, children-given, held, signals-given}
 use Rattle.rdl_values.proofs.Numbered.{Deep, bottom, empty_of_none, lower, tops_deep}
 use Rattle.rdl_layers.specs.Fields.{fields_of, is_a, is_alias}
 use Rattle.rdl_rules.specs.Numbers.{all_fields, primaries, registers}

@@ -1,7 +1,7 @@
 -- Fields under their registers and names.
 use Rattle.std.proofs.Common.{◌≡◌, ◌∙◌, ◌⊎◌, inl, inr, ℕ, zero, suc, ◌+◌, ◌<◌, ◌≤◌, Bool, true, false, ◌&&◌, ◌==◌, cond, bytes_eq, List, [], ◌∷◌, ◌++◌, filter, length, take, Option, None, Some, slice_get, slice_index, refl, sym, ap, arith}
 use Rattle.std.specs.Option.{option_or}
-use Rattle.plain_lemmas.proofs.Numbers.{eq-itself as number-itself, eq-same as same-number}
+use Rattle.plain_lemmas.proofs.Numbers.{eq-itself as number-itself, not-number}
 use Rattle.plain_lemmas.proofs.Options.{option_or-none as or-none}
 use Rattle.rdl_tree.specs.declared.item.Kind.{Kind}
 use Rattle.rdl_tree.specs.declared.item.Kind.TheVariants as kind
@@ -124,13 +124,6 @@ all-added e body up n rs inside i past first new k h =
 
 pub no-names : (e : Elab) (t : Names) → ((k : Key) → number_under t k ≡ None) → AreNamesTo e 0 t
 no-names e t h = record { each = λ k n l. absurd (omega (arith, l)); others = λ k l. h k }
-
-not-number : (a b : ℕ) → (a ≡ b → ⊥) → (a == b) ≡ false
-not-number a b differ = go (a == b) refl
-  where
-    go : (t : Bool) → (a == b) ≡ t → t ≡ false
-    go true e = absurd (differ (same-number a b e))
-    go false e = refl
 
 pub one-named : (e : Elab) (at : ℕ) (n : Instance) → slice_get (nodes_of e) at ≡ Some n → (old new : Names) → AreNamesTo e at old → ((k : Key) → number_under new k ≡ option_or (number_under old k) (named (nodes_of e) at n k)) → AreNamesTo e (at + 1) new
 one-named e at n here old new before adds = record {

@@ -2,13 +2,12 @@
 use Rattle.std.proofs.Common.{◌≡◌, ◌∙◌, ◌≢◌, inl, inr, ℕ, suc, ◌+◌, ◌≤◌, true, false, cond, List, [], ◌∷◌, ◌++◌, map, filter, take, length, slice_get, Contains, Some, refl, sym, ap, subst, arith}
 use Rattle.std.specs.List.{AllByRecursion}
 use Rattle.std.proofs.lemmas.List.{map-append}
-use Rattle.plain_lemmas.proofs.Lists.{append-none as none-behind, length-map}
+use Rattle.plain_lemmas.proofs.Lists.{append-none as none-behind, each-append, length-map}
 use Rattle.rdl_tree.specs.declared.item.Kind.TheVariants as kind
 use Rattle.rdl_tree.specs.declared.node.Elab.{Elab}
 use Rattle.rdl_values.specs.Elaborated.{nodes_of, top_name}
 use Rattle.rdl_values.specs.Instances.{Instance}
 use Rattle.rdl_values.specs.Lineages.{Lineage, lineages_of}
-use Rattle.rdl_values.proofs.Given.{each-append}
 use Rattle.rdl_layers.specs.Fields.{fields_of, is_a}
 use Rattle.rdl_nodes.proofs.Apart.{Apart}
 use Rattle.rdl_nodes.proofs.Lineages.{all_nodes}
@@ -24,7 +23,7 @@ use Rattle.rdl_fields.proofs.Lists.{apart-filter, filter-all, filter-in, filter-
 use Rattle.rdl_fields.proofs.Fields.{nodes-are}
 use Rattle.rdl_block_words.proofs.Viewed.{as-many}
 use Rattle.rdl_sound_laws.proofs.Placed.{map-kept, same-registers}
-use Rattle.rdl_block_words.specs.declared.entry.Entry.{Entry}
+use Rattle.rdl_block_words.specs.declared.entry.PlacedRegister.{PlacedRegister}
 use Rattle.rdl_block_words.specs.Entries.{AreEntries, AreEntriesOf, AreEntriesTo, IsEntryAt, IsEntryOf, fields_in, is_register}
 
 -- One more, with its numbers.
@@ -50,13 +49,13 @@ fields-more [] p = omega arith
 fields-more (q ∷ ps) p = let more = fields-more ps p in omega (arith, more)
 
 module _ (e : Elab) where
-  entries-push : (xs : List Entry) (rs : List (Numbered Placed)) (x : Entry) (r : Numbered Placed) → AreEntriesOf e xs rs → IsEntryOf e x r → AreEntriesOf e (xs ++ (x ∷ [])) (rs ++ (r ∷ []))
+  entries-push : (xs : List PlacedRegister) (rs : List (Numbered Placed)) (x : PlacedRegister) (r : Numbered Placed) → AreEntriesOf e xs rs → IsEntryOf e x r → AreEntriesOf e (xs ++ (x ∷ [])) (rs ++ (r ∷ []))
   entries-push [] [] x r h is = (is, tt)
   entries-push [] (s ∷ rs) x r h is = absurd h
   entries-push (y ∷ xs) [] x r h is = absurd h
   entries-push (y ∷ xs) (s ∷ rs) x r h is = (h.0, entries-push xs rs x r h.1 is)
 
-  pub entries-many : (xs : List Entry) (rs : List (Numbered Placed)) → AreEntriesOf e xs rs → length xs ≡ length rs
+  pub entries-many : (xs : List PlacedRegister) (rs : List (Numbered Placed)) → AreEntriesOf e xs rs → length xs ≡ length rs
   entries-many [] [] h = refl
   entries-many [] (r ∷ rs) h = absurd h
   entries-many (x ∷ xs) [] h = absurd h
@@ -95,7 +94,7 @@ module _ (e : Elab) where
       let rest = same-spots ps qs tail all.1 (λ x i. among x (inr i)) in
       (λ i. one i ∷ rest i)
 
-  module _ (k : ℕ) (l : Lineage) (here : slice_get (lineages_of e) k ≡ Some l) (views : ℕ) (old : List Entry) (before : AreEntriesTo e k views old) where
+  module _ (k : ℕ) (l : Lineage) (here : slice_get (lineages_of e) k ≡ Some l) (views : ℕ) (old : List PlacedRegister) (before : AreEntriesTo e k views old) where
     pub passed-by : is_register l ≡ false → AreEntriesTo e (k + 1) views old
     passed-by unlike = record {
       spots = before.spots;
@@ -105,7 +104,7 @@ module _ (e : Elab) where
       views_ = before.views_;
     }
 
-    module _ (reg : is_register l ≡ true) (x : Entry) (at : IsEntryAt e k (length old) views x) where
+    module _ (reg : is_register l ≡ true) (x : PlacedRegister) (at : IsEntryAt e k (length old) views x) where
       own : at.spot.node ≡ l.node
       own = let same : Some at.spot.node ≡ Some l.node = sym at.here.0 ∙ node-at e k l here in cc same
 
@@ -139,7 +138,7 @@ module _ (e : Elab) where
           let more = fields-more before.spots at.spot in
           omega (arith, next, first, many, was, more)
 
-      pub taken-up : (new : List Entry) → new ≡ old ++ (x ∷ []) → AreEntriesTo e (k + 1) x.next_view new
+      pub taken-up : (new : List PlacedRegister) → new ≡ old ++ (x ∷ []) → AreEntriesTo e (k + 1) x.next_view new
       taken-up new pushed = record {
         spots = before.spots ++ (at.spot ∷ []);
         nodes_ = nodes-more;
@@ -149,7 +148,7 @@ module _ (e : Elab) where
         views_ = next-is;
       }
 
-  pub none-yet : (xs : List Entry) → xs ≡ [] → AreEntriesTo e 0 0 xs
+  pub none-yet : (xs : List PlacedRegister) → xs ≡ [] → AreEntriesTo e 0 0 xs
   none-yet xs none = record {
     spots = [];
     nodes_ = refl;
@@ -158,7 +157,7 @@ module _ (e : Elab) where
     views_ = refl;
   }
 
-  pub all-entered : (k views : ℕ) (xs : List Entry) → length (lineages_of e) ≤ k → AreEntriesTo e k views xs → AreEntries e xs
+  pub all-entered : (k views : ℕ) (xs : List PlacedRegister) → length (lineages_of e) ≤ k → AreEntriesTo e k views xs → AreEntries e xs
   all-entered k views xs past h = subst (λ ps. AreEntriesOf e xs (numbered (λ (p : Placed). p.node) ps)) all h.are
     where
       of-lineages : map (λ m. m.node) (filter is_register (take k (lineages_of e))) ≡ filter (is_a kind.Reg) (nodes_of e)

@@ -10,7 +10,7 @@ use Rattle.rdl_rules.specs.Words.{shares_with, words_but, words_of}
 use Rattle.rdl_sizes.proofs.Turns.{drop-at}
 use Rattle.rdl_block_words.specs.declared.access.Access.{Access}
 use Rattle.rdl_block_words.specs.declared.access.Access.TheVariants.{Reads, Writes}
-use Rattle.rdl_block_words.specs.declared.entry.Entry.{Entry}
+use Rattle.rdl_block_words.specs.declared.entry.PlacedRegister.{PlacedRegister}
 use Rattle.rdl_block_words.specs.Access.{is_only, is_taken, only, opposite, words_for}
 use Rattle.rdl_block_words.specs.Entries.{AreEntriesOf, IsEntryOf}
 
@@ -18,7 +18,7 @@ pub same-words : (access : Access) (ps : List Placed) → words_for access ps �
 same-words Reads ps = refl
 same-words Writes ps = refl
 
-pub only-is : (e : Elab) (access : Access) (x : Entry) (r : Numbered Placed) → IsEntryOf e x r → is_only access x ≡ only access r.register.node
+pub only-is : (e : Elab) (access : Access) (x : PlacedRegister) (r : Numbered Placed) → IsEntryOf e x r → is_only access x ≡ only access r.register.node
 only-is e Reads x r h = h.read_only
 only-is e Writes x r h = h.write_only
 
@@ -27,16 +27,16 @@ any-numbered p k v [] = refl
 any-numbered p k v (q ∷ ps) = ap (λ b. p q || b) (any-numbered p (k + 1) (v + length (fields_of q.node)) ps)
 
 module _ (e : Elab) (access : Access) where
-  taken-by : (xs : List Entry) (rs : List (Numbered Placed)) (a : ℕ) → AreEntriesOf e xs rs → is_taken access xs a ≡ list_any (λ r. r.register.address == a && only access r.register.node) rs
+  taken-by : (xs : List PlacedRegister) (rs : List (Numbered Placed)) (a : ℕ) → AreEntriesOf e xs rs → is_taken access xs a ≡ list_any (λ r. r.register.address == a && only access r.register.node) rs
   taken-by [] [] a h = refl
   taken-by [] (r ∷ rs) a h = absurd h
   taken-by (x ∷ xs) [] a h = absurd h
   taken-by (x ∷ xs) (r ∷ rs) a h = (λ i. (h.0.shape_.address_ i == a && only-is e access x r h.0 i) || taken-by xs rs a h.1 i)
 
-  pub taken-shares : (xs : List Entry) (ps : List Placed) (p : Placed) → AreEntriesOf e xs (numbered (λ q. q.node) ps) → is_taken access xs p.address ≡ shares_with (only access) ps p
+  pub taken-shares : (xs : List PlacedRegister) (ps : List Placed) (p : Placed) → AreEntriesOf e xs (numbered (λ q. q.node) ps) → is_taken access xs p.address ≡ shares_with (only access) ps p
   taken-shares xs ps p h = taken-by xs (numbered (λ (q : Placed). q.node) ps) p.address h ∙ any-numbered (λ q. q.address == p.address && only access q.node) 0 0 ps
 
-pub entry-at : (e : Elab) (xs : List Entry) (rs : List (Numbered Placed)) → AreEntriesOf e xs rs → (i : ℕ) (x : Entry) → slice_get xs i ≡ Some x → (r : Numbered Placed) × (slice_get rs i ≡ Some r) × IsEntryOf e x r
+pub entry-at : (e : Elab) (xs : List PlacedRegister) (rs : List (Numbered Placed)) → AreEntriesOf e xs rs → (i : ℕ) (x : PlacedRegister) → slice_get xs i ≡ Some x → (r : Numbered Placed) × (slice_get rs i ≡ Some r) × IsEntryOf e x r
 entry-at e [] rs h i x at = cc at
 entry-at e (y ∷ xs) [] h i x at = absurd h
 entry-at e (y ∷ xs) (r ∷ rs) h zero x at = let same : y ≡ x = cc at in (r, refl, subst (λ z. IsEntryOf e z r) same h.0)
@@ -46,7 +46,7 @@ entry-at e (y ∷ xs) (r ∷ rs) h (suc i) x at = entry-at e xs rs h.1 i x at
 abbrev pub keeps : Access → List Placed → Numbered Placed → Bool
 keeps access ps r = not (only (opposite access) r.register.node && shares_with (only access) ps r.register)
 
-pub kept-by : (e : Elab) (access : Access) (xs : List Entry) (ps : List Placed) (x : Entry) (r : Numbered Placed) → AreEntriesOf e xs (numbered (λ q. q.node) ps) → IsEntryOf e x r → (taken masked : Bool) → taken ≡ is_taken access xs x.shape.address
+pub kept-by : (e : Elab) (access : Access) (xs : List PlacedRegister) (ps : List Placed) (x : PlacedRegister) (r : Numbered Placed) → AreEntriesOf e xs (numbered (λ q. q.node) ps) → IsEntryOf e x r → (taken masked : Bool) → taken ≡ is_taken access xs x.shape.address
     → masked ≡ (is_only (opposite access) x && taken) → keeps access ps r ≡ not masked
 kept-by e access xs ps x r all h taken masked is result =
     sym (ap not (result ∙ (λ i. only-is e (opposite access) x r h i && (is ∙ (ap (is_taken access xs) h.shape_.address_ ∙ taken-shares e access xs ps r.register all)) i)))

@@ -10,7 +10,7 @@ use Rattle.rb_model.specs.declared.block.Word.{Word}
 use Rattle.rdl_rules.specs.Words.{read_words, write_words}
 use Rattle.rdl_block_words.specs.declared.access.Access.{Access}
 use Rattle.rdl_block_words.specs.declared.access.Access.TheVariants.{Reads, Writes}
-use Rattle.rdl_block_words.specs.declared.entry.Entry.{Entry}
+use Rattle.rdl_block_words.specs.declared.entry.PlacedRegister.{PlacedRegister}
 
 -- software only reads, or only writes
 abbrev pub is_read : Side → Bool
@@ -26,7 +26,7 @@ opposite Reads = Writes
 opposite Writes = Reads
 
 -- software does only this with the register of the code
-abbrev pub is_only : Access → Entry → Bool
+abbrev pub is_only : Access → PlacedRegister → Bool
 is_only Reads x = x.is_read_only
 is_only Writes x = x.is_write_only
 
@@ -41,5 +41,5 @@ words_for Reads = read_words
 words_for Writes = write_words
 
 -- one of the registers of the code stands at the address, and software does only this with it
-abbrev pub is_taken : Access → List Entry → ℕ → Bool
+abbrev pub is_taken : Access → List PlacedRegister → ℕ → Bool
 is_taken access xs address = list_any (λ x. x.shape.address == address && is_only access x) xs

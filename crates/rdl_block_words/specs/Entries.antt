@@ -17,10 +17,10 @@ use Rattle.rdl_rules.specs.Numbers.{Numbered, numbered}
 use Rattle.rdl_block_words.specs.declared.word.Shape.{Shape}
 use Rattle.rdl_block_words.specs.Shapes.{Fits, IsShapeOf}
 use Rattle.rdl_fields.specs.Views.{AreViewsOf}
-use Rattle.rdl_block_words.specs.declared.entry.Entry.{Entry}
+use Rattle.rdl_block_words.specs.declared.entry.PlacedRegister.{PlacedRegister}
 
 -- A register of the code is one of the layout, by its number.
-pub record IsEntryOf (e : Elab) (x : Entry) (r : Numbered Placed) : Type 0 where
+pub record IsEntryOf (e : Elab) (x : PlacedRegister) (r : Numbered Placed) : Type 0 where
   pub shape_ : IsShapeOf x.shape r
   pub fits : Fits x.shape
   pub read_only : x.is_read_only ≡ rules.is_read_only r.register.node
@@ -30,7 +30,7 @@ pub record IsEntryOf (e : Elab) (x : Entry) (r : Numbered Placed) : Type 0 where
   pub next : x.next_view ≡ x.shape.first_view + length x.views.items
 
 -- one by one
-abbrev pub AreEntriesOf : Elab → List Entry → List (Numbered Placed) → Type 0
+abbrev pub AreEntriesOf : Elab → List PlacedRegister → List (Numbered Placed) → Type 0
 AreEntriesOf e [] [] = Unit {0}
 AreEntriesOf e (x ∷ xs) (r ∷ rs) = IsEntryOf e x r × AreEntriesOf e xs rs
 AreEntriesOf e _ _ = ⊥
@@ -49,7 +49,7 @@ pub record IsShapeAt (e : Elab) (at number first_view : ℕ) (s : Shape) : Type 
   pub fits : Fits s
 
 -- It is the one of this node, which has this number among the registers, and its first field this one among the views.
-pub record IsEntryAt (e : Elab) (at number first_view : ℕ) (x : Entry) : Type 0 where
+pub record IsEntryAt (e : Elab) (at number first_view : ℕ) (x : PlacedRegister) : Type 0 where
   pub spot : Placed
   pub here : PlacedAt e at spot
   pub is : IsEntryOf e x (record { register = spot; number = number; first_view = first_view })
@@ -63,7 +63,7 @@ abbrev pub is_register : Lineage → Bool
 is_register l = is_a kind.Reg l.node
 
 -- The registers of the code are those among the first nodes, and have so many fields.
-pub record AreEntriesTo (e : Elab) (to views : ℕ) (xs : List Entry) : Type 0 where
+pub record AreEntriesTo (e : Elab) (to views : ℕ) (xs : List PlacedRegister) : Type 0 where
   pub spots : List Placed
   pub nodes_ : map (λ p. p.node) spots ≡ map (λ l. l.node) (filter is_register (take to (lineages_of e)))
   pub among : AllByRecursion (Contains (layout (Some (top_name e)) e.source.now)) spots
@@ -71,5 +71,5 @@ pub record AreEntriesTo (e : Elab) (to views : ℕ) (xs : List Entry) : Type 0 w
   pub views_ : views ≡ fields_in spots
 
 -- they are all registers
-abbrev pub AreEntries : Elab → List Entry → Type 0
+abbrev pub AreEntries : Elab → List PlacedRegister → Type 0
 AreEntries e xs = AreEntriesOf e xs (numbered (λ p. p.node) (rules.registers (Some (top_name e)) e.source.now))

@@ -3,7 +3,7 @@
 ghost use Rattle.std.specs.Prelude.{◌≡◌};
 ghost use Rattle.rdl_block_words.specs.Access as spec;
 
-use crate::entry::Entry;
+use crate::entry::PlacedRegister;
 
 /// What software does at an address.
 #[derive(Clone, Copy, Debug)]
@@ -23,7 +23,7 @@ pub(crate) fn opposite(access: Access) -> Access
 }
 
 /// Whether software does only this with a register.
-pub(crate) fn is_only(entry: &Entry<'_>, access: Access) -> bool
+pub(crate) fn is_only(entry: &PlacedRegister<'_>, access: Access) -> bool
     ensures { result ≡ spec.is_only access entry.now }
 {
     match access {

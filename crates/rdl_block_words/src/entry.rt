@@ -5,7 +5,7 @@ use rdl_fields::View;
 
 /// A register: where it stands, what software does with it, and its fields.
 #[derive(Drop)]
-pub(crate) struct Entry<'a> {
+pub(crate) struct PlacedRegister<'a> {
     pub shape: Shape,
     /// Software reads some field of it, and writes none.
     pub is_read_only: bool,

@@ -12,7 +12,7 @@ ghost use Rattle.rdl_block_words.specs.Access.{is_taken, words_for};
 ghost use Rattle.rdl_block_words.specs.Entries.{AreEntriesOf};
 
 use crate::access::{Access, is_only, opposite};
-use crate::entry::Entry;
+use crate::entry::PlacedRegister;
 use crate::word::add_words;
 use rb_base::NoMemory;
 use rb_model::Word;
@@ -27,7 +27,11 @@ pub struct Words {
 }
 
 /// The addresses of the registers with which software does only this.
-fn taken(alloc: Global, entries: &[Entry<'_>], access: Access) -> Result<BTreeSet<u32>, NoMemory>
+fn taken(
+    alloc: Global,
+    entries: &[PlacedRegister<'_>],
+    access: Access,
+) -> Result<BTreeSet<u32>, NoMemory>
     ensures { IfOk result (λ s. (a : ℕ) → contains nat_cmp s a ≡ is_taken access entries.now a) }
 {
     let mut addresses = BTreeSet::new(alloc);
@@ -40,14 +44,18 @@ fn taken(alloc: Global, entries: &[Entry<'_>], access: Access) -> Result<BTreeSe
 }
 
 /// Whether software doesn't do this with a register, as it does with another one at its address.
-fn is_masked(entry: &Entry<'_>, access: Access, taken: &BTreeSet<u32>) -> bool
+fn is_masked(entry: &PlacedRegister<'_>, access: Access, taken: &BTreeSet<u32>) -> bool
     ensures { result ≡ (spec.is_only (spec.opposite access) entry.now && contains nat_cmp taken.now entry.now.shape.address) }
 {
     is_only(entry, opposite(access)) && taken.contains(&entry.shape.address)
 }
 
 /// The words of all registers with which software does this, register by register.
-fn unordered(alloc: Global, entries: &[Entry<'_>], access: Access) -> Result<Vec<Word>, NoMemory>
+fn unordered(
+    alloc: Global,
+    entries: &[PlacedRegister<'_>],
+    access: Access,
+) -> Result<Vec<Word>, NoMemory>
     requires { (e : AnyElab) × (ps : List Placed) × AreEntriesOf e entries.now (numbered (λ p. p.node) ps) }
     ensures { IfOk result (λ ws. (e : AnyElab) (ps : List Placed) → AreEntriesOf e entries.now (numbered (λ p. p.node) ps) → ws.items ≡ words_for access ps) }
 {
@@ -64,7 +72,7 @@ fn unordered(alloc: Global, entries: &[Entry<'_>], access: Access) -> Result<Vec
 /// The words of all registers with which software does this, by address. The only error is want of memory.
 pub(crate) fn by_address(
     alloc: Global,
-    entries: &[Entry<'_>],
+    entries: &[PlacedRegister<'_>],
     access: Access,
 ) -> Result<Vec<Word>, NoMemory>
     requires { (e : AnyElab) × (ps : List Placed) × AreEntriesOf e entries.now (numbered (λ p. p.node) ps) }

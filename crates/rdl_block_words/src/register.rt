@@ -13,7 +13,7 @@ ghost use Rattle.rdl_addr.specs.Answers.{IsPlaced};
 ghost use Rattle.rdl_block_words.specs.Access as spec;
 ghost use Rattle.rdl_block_words.specs.Entries.{IsEntryAt, IsRegisterRow, IsShapeAt};
 
-use crate::entry::Entry;
+use crate::entry::PlacedRegister;
 use crate::word::Shape;
 use rb_base::NoMemory;
 use rdl_addr::{Map, number, register_side};
@@ -84,7 +84,7 @@ pub(crate) fn entry<'a>(
     row: &Row<'a>,
     at: u32,
     first_view: u32,
-) -> Result<Entry<'a>, NoMemory>
+) -> Result<PlacedRegister<'a>, NoMemory>
     requires clean { IsClean props.now }
     requires settled { IsSettled props.now }
     requires placed { IsPlaced props.now }
@@ -97,7 +97,7 @@ pub(crate) fn entry<'a>(
     let next_view = behind(first_view, views.len())?;
     let shape = shape(props, map, node, at, first_view);
     let side = register_side(props, node.children);
-    Ok(Entry {
+    Ok(PlacedRegister {
         shape,
         is_read_only: is_read(side),
         is_write_only: is_written(side),

@@ -9,7 +9,7 @@ ghost use Rattle.rdl_nodes.specs.Rows.{AreRows, IsRow};
 ghost use Rattle.rdl_addr.specs.Answers.{IsPlaced};
 ghost use Rattle.rdl_block_words.specs.Entries.{AreEntries, AreEntriesTo};
 
-use crate::entry::Entry;
+use crate::entry::PlacedRegister;
 use crate::register::{behind, entry};
 use rb_base::NoMemory;
 use rdl_addr::Map;
@@ -24,7 +24,7 @@ fn add_register<'a>(
     map: &Map<'_>,
     row: &Row<'a>,
     first_view: u32,
-    entries: &mut Vec<Entry<'a>>,
+    entries: &mut Vec<PlacedRegister<'a>>,
 ) -> Result<u32, NoMemory>
     requires clean { IsClean props.now }
     requires settled { IsSettled props.now }
@@ -51,7 +51,7 @@ pub(crate) fn registers<'a>(
     props: &Props<'_>,
     map: &Map<'_>,
     rows: &[Row<'a>],
-) -> Result<Vec<Entry<'a>>, NoMemory>
+) -> Result<Vec<PlacedRegister<'a>>, NoMemory>
     requires clean { IsClean props.now }
     requires settled { IsSettled props.now }
     requires placed { IsPlaced props.now }

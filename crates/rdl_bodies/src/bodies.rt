@@ -35,7 +35,7 @@ pub struct Body<'a> {
 
 /// The value of a parameter, as part of a key.
 #[derive(PartialEq, Eq, Hash, Drop)]
-pub(crate) enum Given<'a> {
+pub(crate) enum ParameterKey<'a> {
     Number(u64),
     Flag(bool),
     Str(&'a [u8]),
@@ -44,10 +44,10 @@ pub(crate) enum Given<'a> {
 /// By what a site is looked up: the nearest body round its definition, how many items of that stand before it, and the values of its
 /// parameters.
 #[derive(PartialEq, Eq, Hash, Drop)]
-pub(crate) struct Key<'a> {
+pub(crate) struct SiteKey<'a> {
     pub outer: Option<usize>,
     pub upto: Option<usize>,
-    pub values: Vec<Given<'a>>,
+    pub values: Vec<ParameterKey<'a>>,
 }
 
 /// The bodies of a source that are open, and the sites of those that may be.
@@ -58,7 +58,7 @@ pub struct Bodies<'a> {
     pub(crate) list: Vec<Body<'a>>,
     pub(crate) sites: Vec<Site<'a>>,
     // Which site to try for a key, and which body for a site.
-    pub(crate) known: IndexMap<Key<'a>, usize>,
+    pub(crate) known: IndexMap<SiteKey<'a>, usize>,
     pub(crate) opened: IndexMap<usize, usize>,
 }
 

@@ -3,7 +3,7 @@
 ghost use Rattle.std.specs.Prelude.{◌≡◌, ℕ, List, Some, map, IfOk, IfSome, OnOk, length, slice_get};
 ghost use Rattle.rdl_base.specs.declared.fault.Fault.{Fault as AnyFault};
 
-use crate::bodies::{Bodies, Given, Key, Site};
+use crate::bodies::{Bodies, ParameterKey, Site, SiteKey};
 use crate::same::{are_equal, are_same};
 use bumpalo::Bump;
 use bumpalo::collections::into_bump_slice;
@@ -12,13 +12,13 @@ use rdl_tree::{Bound, Def, Value};
 use std::alloc::Global;
 
 // The values of some parameters.
-fn values_of<'a>(alloc: Global, bound: &[Bound<'a>]) -> Result<Vec<Given<'a>>, NoMemory> {
+fn values_of<'a>(alloc: Global, bound: &[Bound<'a>]) -> Result<Vec<ParameterKey<'a>>, NoMemory> {
     let mut values = Vec::new(alloc);
     for parameter in bound {
         values.push(match parameter.value {
-            Value::Number(n) => Given::Number(n),
-            Value::Flag(b) => Given::Flag(b),
-            Value::Str(s) => Given::Str(s),
+            Value::Number(n) => ParameterKey::Number(n),
+            Value::Flag(b) => ParameterKey::Flag(b),
+            Value::Str(s) => ParameterKey::Str(s),
         })?;
     }
     Ok(values)
@@ -30,9 +30,9 @@ fn key_of<'a>(
     outer: &[usize],
     uptos: &[usize],
     bound: &[Bound<'a>],
-) -> Result<Key<'a>, NoMemory> {
+) -> Result<SiteKey<'a>, NoMemory> {
     let values = values_of(alloc, bound)?;
-    Ok(Key {
+    Ok(SiteKey {
         outer: outer.first().copied(),
         upto: uptos.first().copied(),
         values,
@@ -75,7 +75,7 @@ impl<'a> Bodies<'a> {
     // The site of a key, where it is this one.
     fn find_site(
         &self,
-        key: &Key<'a>,
+        key: &SiteKey<'a>,
         outer: &[usize],
         uptos: &[usize],
         bound: &[Bound<'a>],
@@ -93,7 +93,7 @@ impl<'a> Bodies<'a> {
     }
 
     // Puts a site behind the others.
-    fn push_site(&mut self, site: Site<'a>, key: Key<'a>) -> Result<(), NoMemory>
+    fn push_site(&mut self, site: Site<'a>, key: SiteKey<'a>) -> Result<(), NoMemory>
         ensures tables { self.new.tables ≡ self.old.tables }
         ensures components { self.new.components ≡ self.old.components }
         ensures list { self.new.list ≡ self.old.list }

@@ -5,7 +5,7 @@ use Rattle.rdl_tree.specs.declared.node.Elab.{Elab}
 use Rattle.rdl_values.specs.Elaborated.{nodes_of}
 use Rattle.rdl_values.specs.Lineages.{lineages_of}
 use Rattle.rdl_values.specs.Verdict.{IsListOf}
-use Rattle.rdl_ref_items.specs.Marks.{AreMarks}
+use Rattle.rdl_ref_items.specs.InterruptOutputs.{AreInterruptOutputs}
 use Rattle.rdl_block_numbers.specs.Numbers.{AreNodeNumbers}
 use Rattle.rdl_block_numbers.specs.Texts.{AreTexts}
 use Rattle.rdl_block_laws.specs.Ordered.{in_turn}
@@ -16,7 +16,7 @@ use Rattle.rdl_rules.specs.Block as blocks
 use Rattle.rdl_rules.specs.Numbers.{all_signals, registers}
 pub use Rattle.rdl_block_laws.specs.Forms.{HaveOneForm}
 use Rattle.rdl_check.specs.declared.lists.Lists.{Lists}
-use Rattle.rdl_check.specs.declared.lists.Tables.{Tables}
+use Rattle.rdl_check.specs.declared.lists.TreeTables.{TreeTables}
 
 -- No rule fails of the tree.
 pub record IsClear (e : Elab) : Type 0 where
@@ -25,10 +25,10 @@ pub record IsClear (e : Elab) : Type 0 where
   pub none : IsListOf (meaning_fails e) []
 
 -- The path texts, the numbers and the marks of its nodes.
-pub record AreTables (e : Elab) (t : Tables) : Type 0 where
+pub record AreTables (e : Elab) (t : TreeTables) : Type 0 where
   pub texts_ : AreTexts e t.texts.items
   pub numbers_ : AreNodeNumbers e t.numbers
-  pub marks_ : AreMarks e t.marks.items
+  pub marks_ : AreInterruptOutputs e t.marks.items
 
 -- The lists are those of its block.
 pub record AreLists (e : Elab) (l : Lists) : Type 0 where

@@ -11,12 +11,12 @@ use crate::lists::{lists_of, order_of, tables_of};
 use rb_base::{NoMemory, Text};
 use rb_model::{Block, Words};
 use rdl_addr::Map;
-use rdl_block_fields::Known;
+use rdl_block_fields::NumberedTree;
 use rdl_block_laws::{order_has_all_items, order_is_the_blocks};
 use rdl_block_words::all_words;
 use rdl_nodes::Row;
 use rdl_refs::Refs;
-use rdl_settle::Settled;
+use rdl_rules::Settled;
 use rdl_tree::Elab;
 use std::alloc::Global;
 
@@ -47,7 +47,7 @@ pub(crate) fn describe<'a>(
     order_is_the_blocks();
     order_has_all_items();
     let tables = tables_of(alloc, elab, &settled.props, rows)?;
-    let known = Known {
+    let known = NumberedTree {
         props: &settled.props,
         refs,
         rows,

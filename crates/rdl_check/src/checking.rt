@@ -14,7 +14,7 @@ use rdl_failures::PhaseError;
 use rdl_meaning_rules::meaning_failures;
 use rdl_nodes::rows;
 use rdl_refs::Refs;
-use rdl_settle::Settled;
+use rdl_rules::Settled;
 use rdl_sound_laws::aliases_have_primaries;
 use rdl_tree::Elab;
 use std::alloc::Global;

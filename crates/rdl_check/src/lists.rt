@@ -3,19 +3,19 @@
 ghost use Rattle.std.specs.Prelude.{◌≡◌, IfOk};
 ghost use Rattle.rdl_rules.specs.Facts.{AreFacts};
 ghost use Rattle.rdl_nodes.specs.Rows.{AreRows};
-ghost use Rattle.rdl_ref_items.specs.Marks.{AreMarks};
-ghost use Rattle.rdl_block_fields.specs.Known.{IsKnown};
+ghost use Rattle.rdl_ref_items.specs.InterruptOutputs.{AreInterruptOutputs};
+ghost use Rattle.rdl_block_fields.specs.Known.{IsNumberedTree};
 ghost use Rattle.rdl_check.specs.Trees.{AreInTurn, AreLists, AreTables, IsClear};
 
 use rb_base::{NoMemory, Text};
 use rb_model::{Fields, Order, Regs, Signals, Views};
-use rdl_block_fields::Known;
+use rdl_block_fields::NumberedTree;
 use rdl_block_lists::{Listed, block_order, regs, signals, views};
 use rdl_block_numbers::{NodeNumbers, node_numbers, path_texts};
 use rdl_field_list::fields;
 use rdl_layers::Props;
 use rdl_nodes::Row;
-use rdl_ref_items::{Mark, marks};
+use rdl_ref_items::{InterruptOutputs, marks};
 use rdl_refs::order;
 use rdl_rules::Fact;
 use rdl_sound_laws::clean_is_faultless;
@@ -24,10 +24,10 @@ use std::alloc::Global;
 
 /// The path texts of nodes, their numbers in the lists of their kinds, and what registers have for others to refer to.
 #[derive(Drop)]
-pub(crate) struct Tables {
+pub(crate) struct TreeTables {
     pub texts: Vec<Text>,
     pub numbers: NodeNumbers,
-    pub marks: Vec<Mark>,
+    pub marks: Vec<InterruptOutputs>,
 }
 
 /// The lists of a block.
@@ -45,7 +45,7 @@ pub(crate) fn tables_of(
     elab: &Elab<'_>,
     props: &Props<'_>,
     rows: &[Row<'_>],
-) -> Result<Tables, NoMemory>
+) -> Result<TreeTables, NoMemory>
     requires clear { IsClear elab.now }
     requires props { props.now ≡ elab.now }
     requires rows { AreRows elab.now rows.now }
@@ -54,7 +54,7 @@ pub(crate) fn tables_of(
     let texts = path_texts(alloc, elab, rows)?;
     let numbers = node_numbers(alloc, elab, rows)?;
     let marks = marks(alloc, props, rows)?;
-    Ok(Tables {
+    Ok(TreeTables {
         texts,
         numbers,
         marks,
@@ -65,13 +65,13 @@ pub(crate) fn tables_of(
 pub(crate) fn lists_of<'a>(
     alloc: Global,
     elab: &Elab<'a>,
-    known: Known<'_, 'a>,
+    known: NumberedTree<'_, 'a>,
     facts: &[Fact],
-    tables: &Tables,
+    tables: &TreeTables,
 ) -> Result<Lists, NoMemory>
     requires clear { IsClear elab.now }
     requires props { known.props.now ≡ elab.now }
-    requires known { IsKnown known }
+    requires known { IsNumberedTree known }
     requires facts { AreFacts elab.now facts.now }
     requires tables { AreTables elab.now tables.now }
     ensures { IfOk result (AreLists elab.now) }
@@ -92,11 +92,11 @@ pub(crate) fn lists_of<'a>(
 /// The items of the block of a tree, each behind those that it refers to.
 pub(crate) fn order_of(
     alloc: Global,
-    known: Known<'_, '_>,
-    marks: &[Mark],
+    known: NumberedTree<'_, '_>,
+    marks: &[InterruptOutputs],
 ) -> Result<Order, NoMemory>
-    requires known { IsKnown known }
-    requires marks { AreMarks known.props.now marks.now }
+    requires known { IsNumberedTree known }
+    requires marks { AreInterruptOutputs known.props.now marks.now }
     ensures { IfOk result (AreInTurn known.entry.props.now) }
 {
     // No circle is left where no rule fails.

@@ -16,7 +16,7 @@ use Rattle.rdl_uses.specs.Given.{TypeUsed, seens}
 use Rattle.rdl_uses.specs.Placed.{IsParent}
 use Rattle.rdl_children.specs.ItemUses.{GivesAll, GivesUses, IsBodyScene, none, without, with_}
 use Rattle.rdl_children.specs.declared.item.ItemUses.{ItemUses}
-use Rattle.rdl_children.specs.declared.item.Scene.{Scene}
+use Rattle.rdl_children.specs.declared.item.Surroundings.{Surroundings}
 use Rattle.rdl_bodies.specs.Kept.{AreBelow, AreKept, Grows}
 use Rattle.rdl_bodies.specs.Sited.{HaveEnvs, IsOpenAs}
 use Rattle.rdl_bodies.specs.declared.bodies.Bodies.{Bodies}
@@ -47,7 +47,7 @@ items_none t y (q ∷ rs) ss failed h f =
 
 -- From the uses that were judged.
 
-module _ (t : Bodies) (y : Body) (b : values.Body) (open_ : IsOpenAs t y b) (s : Scene) (tables : s.tables.now ≡ t.tables.items) (components : s.components.now ≡ t.components.items) (numbers : s.numbers ≡ y.numbers) (outer : s.outer ≡ y.uptos) where
+module _ (t : Bodies) (y : Body) (b : values.Body) (open_ : IsOpenAs t y b) (s : Surroundings) (tables : s.tables.now ≡ t.tables.items) (components : s.components.now ≡ t.components.items) (numbers : s.numbers ≡ y.numbers) (outer : s.outer ≡ y.uptos) where
   all-shown : Shows t.tables.items t.components.items y.numbers.now (length y.items.now ∷ y.uptos.now) (scope_at b b.items)
   all-shown =
       let whole : take (length y.items.now) y.items.now ≡ b.items = take_all (length y.items.now) y.items.now (omega arith) ∙ sym open_.items_are in

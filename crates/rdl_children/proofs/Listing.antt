@@ -16,7 +16,7 @@ use Rattle.rdl_uses.specs.Before.{AreEarlier}
 use Rattle.rdl_uses.specs.declared.earlier.Earlier.{Earlier}
 use Rattle.rdl_children.specs.ItemUses.{GivesAll, GivesItem, IsBodyScene, item_seens, seen_in, without, with_}
 use Rattle.rdl_children.specs.declared.item.ItemUses.{ItemUses}
-use Rattle.rdl_children.specs.declared.item.Scene.{Scene}
+use Rattle.rdl_children.specs.declared.item.Surroundings.{Surroundings}
 
 standing_from-append : {X : Type 0} (before xs ys : List X) → standing_from before (xs ++ ys) ≡ standing_from before xs ++ standing_from (before ++ xs) ys
 standing_from-append before [] ys = ap (λ b. standing_from b ys) (sym (append-nil before))
@@ -30,16 +30,16 @@ abbrev pub seens_in : Parent → List Body → List Use → List Seen
 seens_in p above us = map (seen_in p above) (standing us)
 
 -- What was done for some items of the body.
-pub record DoneItems (s : Scene) (above : List Body) (b : Body) (items : List Item) (e : Earlier) (l0 l1 : List Fault) (list : List ItemUses) : Type 0 where
+pub record DoneItems (s : Surroundings) (above : List Body) (b : Body) (items : List Item) (e : Earlier) (l0 l1 : List Fault) (list : List ItemUses) : Type 0 where
   pub earlier : AreEarlier e (uses_in b items)
   pub noted : l1 ≡ with_all (flat_map of_use (seens_in (parent_of b) above (uses_in b items))) l0
   pub given : GivesAll s list (seens_in (parent_of b) above (uses_in b items))
 
-gives_more : (s : Scene) (position : ℕ) (us : List Use) (rs : List ItemUses) (r : Option ItemUses) (ss all : List Seen) → GivesAll s rs ss → GivesItem s position r us all → GivesAll s (rs ++ option_to_list r) (ss ++ all)
+gives_more : (s : Surroundings) (position : ℕ) (us : List Use) (rs : List ItemUses) (r : Option ItemUses) (ss all : List Seen) → GivesAll s rs ss → GivesItem s position r us all → GivesAll s (rs ++ option_to_list r) (ss ++ all)
 gives_more s position us rs None ss all h g = subst (λ xs. GivesAll s xs (ss ++ all)) (sym (append-nil rs)) (without all h g)
 gives_more s position us rs (Some r) ss all h g = with_ r position us all h g
 
-module _ (s : Scene) (above : List Body) (b : Body) (items : List Item) (scene : IsBodyScene s items b) (k : ℕ) (l : k < length items) where
+module _ (s : Surroundings) (above : List Body) (b : Body) (items : List Item) (scene : IsBodyScene s items b) (k : ℕ) (l : k < length items) where
   abbrev p : Parent
   p = parent_of b
 

@@ -14,7 +14,8 @@ use Rattle.rdl_values.specs.Uses.{Seen, Use, seen, uses, uses_of_insts, uses_of_
 use Rattle.rdl_values.specs.Values.{Around, Names, nearest}
 use Rattle.rdl_values.specs.Views as view
 use Rattle.rdl_values.specs.Views.{ItemIs, item_is}
-use Rattle.rdl_values.proofs.Given.{each-append, each-flat_map, each-map, each-imp}
+use Rattle.rdl_values.proofs.Given.{each-map}
+use Rattle.plain_lemmas.proofs.Lists.{each-append, each-flat_map, each-imp}
 use Rattle.rdl_scopes.specs.declared.components.Components.{Components}
 use Rattle.rdl_scopes.specs.Scopes.{Shows, items_at}
 use Rattle.rdl_bodies.specs.Kept.{AreBelow}

@@ -16,7 +16,7 @@ use Rattle.rdl_uses.specs.Binding.{AreValues}
 use Rattle.rdl_uses.specs.Given.{TypeUsed, given_in, pair_of, seens, use_by}
 use Rattle.rdl_uses.specs.Placed.{IsParent}
 use Rattle.rdl_uses.specs.declared.holder.Parent.{Parent}
-use Rattle.rdl_uses.specs.declared.instances.Given.{Given}
+use Rattle.rdl_uses.specs.declared.instances.SizedInst.{SizedInst}
 use Rattle.rdl_children.specs.declared.item.ItemUses.{ItemUses}
 use Rattle.rdl_bodies.specs.Kept.{AreBelow, AreDistinct, AreKept}
 use Rattle.rdl_bodies.specs.Opened.{IsListed}
@@ -39,14 +39,14 @@ own-push : (P : Child → Type 0) (xs : List Child) (x : Child) → AllByRecursi
 own-push P [] x h p = (p, tt)
 own-push P (y ∷ xs) x h p = (h.0, own-push P xs x h.1 p)
 
-pub given_none : (site : ℕ) (alias : Option Name) (given : List Given) (old : List Child) → AddsGiven site alias (take 0 given) old old
+pub given_none : (site : ℕ) (alias : Option Name) (given : List SizedInst) (old : List Child) → AddsGiven site alias (take 0 given) old old
 given_none site alias given old = ([], sym (append-nil old), record { pairs = none given; own = tt })
   where
-    none : (gs : List Given) → [] ≡ map pair_of (take 0 gs)
+    none : (gs : List SizedInst) → [] ≡ map pair_of (take 0 gs)
     none [] = refl
     none (g ∷ gs) = refl
 
-pub given_more : (site : ℕ) (alias : Option Name) (given : List Given) (k : ℕ) (g : Given) (old now new : List Child) → k < length given → g ≡ get_or given k g → AddsGiven site alias (take k given) old now → AddsOne site alias g now new → AddsGiven site alias (take (k + 1) given) old new
+pub given_more : (site : ℕ) (alias : Option Name) (given : List SizedInst) (k : ℕ) (g : SizedInst) (old now new : List Child) → k < length given → g ≡ get_or given k g → AddsGiven site alias (take k given) old now → AddsOne site alias g now new → AddsGiven site alias (take (k + 1) given) old new
 given_more site alias given k g old now new l at h one =
     let next : take (k + 1) given ≡ take k given ++ (g ∷ []) = take_more given k g l ∙ ap (λ y. take k given ++ (y ∷ [])) (sym at) in (
       h.0 ++ (one.0 ∷ []),
@@ -62,7 +62,7 @@ given_more site alias given k g old now new l at h one =
 pub some_list : (t : Bodies) (y : Body) (r : ItemUses) (us : List Use) (all : List Seen) (i : IsItem t y r us all) → r.uses.given.items ≢ [] → i.list ≢ []
 some_list t y r us all i some e = some (nothing r.uses.given.items (i.pairs ∙ ap (flat_map (given_in i.type)) (i.all_are ∙ ap (seens i.type us) e)))
   where
-    nothing : (gs : List Given) → map pair_of gs ≡ [] → gs ≡ []
+    nothing : (gs : List SizedInst) → map pair_of gs ≡ [] → gs ≡ []
     nothing [] q = refl
     nothing (g ∷ gs) q = cc
 

@@ -23,8 +23,8 @@ use Rattle.rdl_scopes.specs.declared.scopes.Found.{Found}
 use Rattle.rdl_uses.specs.Applied.{IsTypeOf}
 use Rattle.rdl_uses.specs.Given.{TypeUsed, use_by}
 use Rattle.rdl_uses.specs.Unknown.{UnknownType, unknown_by, unknown_seen, unknown_seens}
-use Rattle.rdl_children.specs.ItemUses.{IsScene, chain_of}
-use Rattle.rdl_children.specs.declared.item.Scene.{Scene}
+use Rattle.rdl_children.specs.ItemUses.{AreSurroundings, chain_of}
+use Rattle.rdl_children.specs.declared.item.Surroundings.{Surroundings}
 
 pub shows-alike : (ts : List Names) (cs : List Components) (ks : List ℕ) (p : ℕ) (ps : List ℕ) (scope : Scope) → Shows ts cs ks (p ∷ ps) scope → IsAlike (chained ts ks) (around scope)
 shows-alike ts cs [] p ps scope h = absurd h
@@ -54,7 +54,7 @@ pub uses_unnamed : (i : Item) (alias : Option Name) (of : Name) (is : Insts) (p 
     → uses_of_item scope (item_is i) ≡ map (unknown_by (unnamed alias of is p above scope)) is.list.now
 uses_unnamed i alias of is p above scope e s = ap (uses_of_item scope) e ∙ ap (λ o. uses_of_insts scope alias of.place o is) s
 
-module _ (s : Scene) (position : ℕ) (p : Parent) (above : List Body) (scope : Scope) (h : IsScene s position p scope) where
+module _ (s : Surroundings) (position : ℕ) (p : Parent) (above : List Body) (scope : Scope) (h : AreSurroundings s position p scope) where
   alike : IsAlike (chained s.tables.now s.numbers.now) (around scope)
   alike = shows-alike s.tables.now s.components.now s.numbers.now position s.outer.now scope h.shown
 
@@ -91,5 +91,5 @@ none_given t us (i ∷ is) =
     ap (λ ns. ns ++ flat_map given_by (unknown_seens t (us ++ (unknown_by t i ∷ [])) is)) (gives-none (unknown_seen t (us, unknown_by t i)) refl) ∙ none_given t (us ++ (unknown_by t i ∷ [])) is
 
 -- The definition that was found, under the name that is used.
-pub found_named : (s : Scene) (position : ℕ) (p : Parent) (scope : Scope) (uptos : List ℕ) → IsScene s position p scope → uptos ≡ position ∷ s.outer.now → Shows s.tables.now s.components.now s.numbers.now uptos scope
+pub found_named : (s : Surroundings) (position : ℕ) (p : Parent) (scope : Scope) (uptos : List ℕ) → AreSurroundings s position p scope → uptos ≡ position ∷ s.outer.now → Shows s.tables.now s.components.now s.numbers.now uptos scope
 found_named s position p scope uptos h e = subst (λ us. Shows s.tables.now s.components.now s.numbers.now us scope) (sym e) h.shown

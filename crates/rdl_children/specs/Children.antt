@@ -16,7 +16,7 @@ use Rattle.rdl_failures.specs.Noted.{with_all}
 use Rattle.rdl_uses.specs.Given.{pair_of}
 use Rattle.rdl_uses.specs.Placed.{IsParent}
 use Rattle.rdl_uses.specs.declared.holder.Parent.{Parent}
-use Rattle.rdl_uses.specs.declared.instances.Given.{Given}
+use Rattle.rdl_uses.specs.declared.instances.SizedInst.{SizedInst}
 use Rattle.rdl_bodies.specs.Kept.{AreKept, Grows}
 use Rattle.rdl_bodies.specs.Sited.{IsAt, IsOpenAs}
 use Rattle.rdl_bodies.specs.declared.bodies.Bodies.{Bodies}
@@ -50,16 +50,16 @@ abbrev pub pair_in : Child → Inst × List ℕ
 pair_in x = (x.inst.now, x.dims.now)
 
 -- these are the instances of one site
-pub record AreMade (site : ℕ) (alias : Option Name) (given : List Given) (added : List Child) : Type 0 where
+pub record AreMade (site : ℕ) (alias : Option Name) (given : List SizedInst) (added : List Child) : Type 0 where
   pub pairs : map pair_in added ≡ map pair_of given
   pub own : AllByRecursion (λ x. (x.site ≡ site) × (x.alias ≡ alias)) added
 
 -- One was put behind the others.
-abbrev pub AddsOne : ℕ → Option Name → Given → List Child → List Child → Type 0
+abbrev pub AddsOne : ℕ → Option Name → SizedInst → List Child → List Child → Type 0
 AddsOne site alias one old new = (x : Child) × (new ≡ old ++ (x ∷ [])) × (pair_in x ≡ pair_of one) × (x.site ≡ site) × (x.alias ≡ alias)
 
 -- They were put behind the others.
-abbrev pub AddsGiven : ℕ → Option Name → List Given → List Child → List Child → Type 0
+abbrev pub AddsGiven : ℕ → Option Name → List SizedInst → List Child → List Child → Type 0
 AddsGiven site alias given old new = (added : List Child) × (new ≡ old ++ added) × AreMade site alias given added
 
 -- There is an open body of this number, which stands there.

@@ -14,7 +14,7 @@ use Rattle.rdl_scopes.specs.Scopes.{IsClosureAt, Shows}
 use Rattle.rdl_uses.specs.Given.{TypeUsed, given_in, pair_of, seens, use_by}
 use Rattle.rdl_uses.specs.Placed.{IsParent}
 use Rattle.rdl_children.specs.declared.item.ItemUses.{ItemUses}
-use Rattle.rdl_children.specs.declared.item.Scene.{Scene}
+use Rattle.rdl_children.specs.declared.item.Surroundings.{Surroundings}
 
 -- a use behind others, as it is seen in a body that stands there
 abbrev pub seen_in : Parent → List Body → List Use × Use → Seen
@@ -25,16 +25,16 @@ abbrev pub item_seens : Parent → List Body → List Use → Scope → Item →
 item_seens p above us scope i = map (seen_in p above) (standing_from us (uses_of_item scope (item_is i)))
 
 -- what is visible in it
-abbrev pub chain_of : Scene → Chain
+abbrev pub chain_of : Surroundings → Chain
 chain_of s = record { nearest = None; tables = s.tables; numbers = s.numbers }
 
 -- The scene is that of a place behind so many items of the body.
-pub record IsScene (s : Scene) (position : ℕ) (p : Parent) (scope : Scope) : Type 0 where
+pub record AreSurroundings (s : Surroundings) (position : ℕ) (p : Parent) (scope : Scope) : Type 0 where
   pub shown : Shows s.tables.now s.components.now s.numbers.now (position ∷ s.outer.now) scope
   pub parent_is : IsParent s.parent p
 
 -- The item's uses that give nodes are these, of one definition.
-pub record GivesUses (s : Scene) (position : ℕ) (r : ItemUses) (us : List Use) (all : List Seen) : Type 0 where
+pub record GivesUses (s : Surroundings) (position : ℕ) (r : ItemUses) (us : List Use) (all : List Seen) : Type 0 where
   pub type : TypeUsed
   pub list : List Inst
   pub all_are : all ≡ seens type us list
@@ -44,16 +44,16 @@ pub record GivesUses (s : Scene) (position : ℕ) (r : ItemUses) (us : List Use)
   pub values : list ≢ [] → (i : Inst) → AreValues (bound_of (use_by type i) type.closure) r.uses.binding
 
 -- So are they, if any gives some.
-abbrev pub GivesItem : Scene → ℕ → Option ItemUses → List Use → List Seen → Type 0
+abbrev pub GivesItem : Surroundings → ℕ → Option ItemUses → List Use → List Seen → Type 0
 GivesItem s position r us all = MatchOption r (flat_map given_by all ≡ []) (λ r. GivesUses s position r us all)
 
 -- The scene is that of the whole body, with these items.
-pub record IsBodyScene (s : Scene) (items : List Item) (b : Body) : Type 0 where
+pub record IsBodyScene (s : Surroundings) (items : List Item) (b : Body) : Type 0 where
   pub items_are : b.items ≡ items
-  pub scenes : (i : ℕ) → IsScene s i (parent_of b) (scope_at b (take i items))
+  pub scenes : (i : ℕ) → AreSurroundings s i (parent_of b) (scope_at b (take i items))
 
 -- The uses of some items, one item behind the other: of those of each item either none gives a node, or they are listed.
-pub data GivesAll (s : Scene) : List ItemUses → List Seen → Type 0 where
+pub data GivesAll (s : Surroundings) : List ItemUses → List Seen → Type 0 where
   none : GivesAll s [] []
   without : {rs : List ItemUses} {ss : List Seen} (failed : List Seen) → GivesAll s rs ss → flat_map given_by failed ≡ [] → GivesAll s rs (ss ++ failed)
   with_ : {rs : List ItemUses} {ss : List Seen} (r : ItemUses) (position : ℕ) (us : List Use) (all : List Seen) → GivesAll s rs ss → GivesUses s position r us all → GivesAll s (rs ++ (r ∷ [])) (ss ++ all)

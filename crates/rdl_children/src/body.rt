@@ -8,7 +8,7 @@ ghost use Rattle.rdl_failures.specs.Noted.{with_all};
 ghost use Rattle.rdl_scopes.specs.Scopes.{AreOpen};
 ghost use Rattle.rdl_children.specs.ItemUses.{GivesAll, IsBodyScene};
 
-use crate::item::{ItemUses, Scene, judge_item};
+use crate::item::{ItemUses, Surroundings, judge_item};
 use rb_base::NoMemory;
 use rdl_failures::Failures;
 use rdl_tree::Item;
@@ -32,7 +32,7 @@ fn add<'a>(list: &mut Vec<ItemUses<'a>>, uses: Option<ItemUses<'a>>) -> Result<(
 pub fn judge_items<'a>(
     alloc: Global,
     items: &'a [Item<'a>],
-    scene: &Scene<'_, 'a>,
+    scene: &Surroundings<'_, 'a>,
     failures: &mut Failures,
 ) -> Result<Vec<ItemUses<'a>>, NoMemory>
     requires { AreOpen scene.now.components.now }

@@ -13,7 +13,7 @@ ghost use Rattle.rdl_children.specs.Items.{CanList, Gives, Lists};
 use crate::body::judge_items;
 use crate::child::Child;
 use crate::given::add_uses;
-use crate::item::{ItemUses, Scene};
+use crate::item::{ItemUses, Surroundings};
 use bumpalo::Bump;
 use bumpalo::collections::into_bump_slice;
 use rb_base::NoMemory;
@@ -33,7 +33,7 @@ fn judge<'a>(
     requires { AreKept bodies.now failures.old }
     ensures { IfOk result (λ r. (above : List BodyOf) (b : BodyOf) → IsOpenAs bodies.now body.now b → IsParent parent (parent_of b) → Gives bodies.now body.now failures.old failures.new r.items (seen above b)) }
 {
-    let scene = Scene {
+    let scene = Surroundings {
         components: bodies.components(),
         tables: bodies.tables(),
         numbers: body.numbers,

@@ -11,7 +11,7 @@ use bumpalo::collections::into_bump_slice;
 use rb_base::NoMemory;
 use rdl_bodies::{Bodies, Body};
 use rdl_tree::Name;
-use rdl_uses::{Binding, Given};
+use rdl_uses::{Binding, SizedInst};
 use std::alloc::Global;
 
 // A copy of some dimensions in the arena.
@@ -30,7 +30,7 @@ fn add_one<'a>(
     arena: &'a Bump,
     site: usize,
     alias: Option<Name<'a>>,
-    one: &Given<'a>,
+    one: &SizedInst<'a>,
     list: &mut Vec<Child<'a>, &'a Bump>,
 ) -> Result<(), NoMemory>
     ensures { OnOk result (AddsOne site alias.entry one.now list.old.items list.new.items) }
@@ -50,7 +50,7 @@ fn add_given<'a>(
     arena: &'a Bump,
     site: usize,
     alias: Option<Name<'a>>,
-    given: &[Given<'a>],
+    given: &[SizedInst<'a>],
     list: &mut Vec<Child<'a>, &'a Bump>,
 ) -> Result<(), NoMemory>
     ensures { OnOk result (AddsGiven site alias.entry given.now list.old.items list.new.items) }

@@ -14,7 +14,7 @@ ghost use Rattle.rdl_uses.specs.Binding.{AreValues};
 ghost use Rattle.rdl_uses.specs.Applied.{IsTypeOf};
 ghost use Rattle.rdl_uses.specs.Before.{AreEarlier};
 ghost use Rattle.rdl_uses.specs.Given.{TypeUsed, given_in, pair_of, seens, use_by};
-ghost use Rattle.rdl_children.specs.ItemUses.{GivesItem, IsScene, chain_of, item_seens};
+ghost use Rattle.rdl_children.specs.ItemUses.{GivesItem, AreSurroundings, chain_of, item_seens};
 
 use rb_base::{NoMemory, Place};
 use rdl_failures::Failures;
@@ -27,7 +27,7 @@ use std::alloc::Global;
 /// Where the uses of a body are judged: the components and the tables of all open bodies, the numbers of the body and of those round
 /// it, the nearest first, how many items of those round it stand before it, and where it stands.
 #[derive(Clone, Copy)]
-pub struct Scene<'s, 'a> {
+pub struct Surroundings<'s, 'a> {
     pub components: &'s [Components<'a>],
     pub tables: &'s [Table<'a>],
     pub numbers: &'s [usize],
@@ -63,7 +63,7 @@ fn judge_found<'a>(
     found: Found<'a>,
     alias: Option<Name<'a>>,
     place: Place,
-    scene: &Scene<'_, 'a>,
+    scene: &Surroundings<'_, 'a>,
     earlier: &mut Earlier<'a>,
     failures: &mut Failures,
 ) -> Result<ItemUses<'a>, NoMemory>
@@ -102,14 +102,14 @@ pub fn judge_item<'a>(
     alloc: Global,
     item: &'a Item<'a>,
     position: usize,
-    scene: &Scene<'_, 'a>,
+    scene: &Surroundings<'_, 'a>,
     earlier: &mut Earlier<'a>,
     failures: &mut Failures,
 ) -> Result<Option<ItemUses<'a>>, NoMemory>
     requires { AreOpen scene.now.components.now }
-    ensures earlier { IfOk result (λ r. (p : paths.Parent) (above : List Body) (scope : Scope) (us : List Use) → IsScene scene.now position p scope → AreEarlier earlier.old us → AreEarlier earlier.new (us ++ uses_of_item scope (item_is item.now))) }
-    ensures noted { IfOk result (λ r. (p : paths.Parent) (above : List Body) (scope : Scope) (us : List Use) → IsScene scene.now position p scope → AreEarlier earlier.old us → failures.new ≡ with_all (flat_map of_use (item_seens p above us scope item.now)) failures.old) }
-    ensures given { IfOk result (λ r. (p : paths.Parent) (above : List Body) (scope : Scope) (us : List Use) → IsScene scene.now position p scope → AreEarlier earlier.old us → GivesItem scene.now position r us (item_seens p above us scope item.now)) }
+    ensures earlier { IfOk result (λ r. (p : paths.Parent) (above : List Body) (scope : Scope) (us : List Use) → AreSurroundings scene.now position p scope → AreEarlier earlier.old us → AreEarlier earlier.new (us ++ uses_of_item scope (item_is item.now))) }
+    ensures noted { IfOk result (λ r. (p : paths.Parent) (above : List Body) (scope : Scope) (us : List Use) → AreSurroundings scene.now position p scope → AreEarlier earlier.old us → failures.new ≡ with_all (flat_map of_use (item_seens p above us scope item.now)) failures.old) }
+    ensures given { IfOk result (λ r. (p : paths.Parent) (above : List Body) (scope : Scope) (us : List Use) → AreSurroundings scene.now position p scope → AreEarlier earlier.old us → GivesItem scene.now position r us (item_seens p above us scope item.now)) }
 {
     match item {
         Item::Def(def) => match &def.insts {

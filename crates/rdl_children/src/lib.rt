@@ -10,4 +10,4 @@ mod item;
 pub use body::judge_items;
 pub use child::Child;
 pub use children::judge_children;
-pub use item::{ItemUses, Scene, judge_item};
+pub use item::{ItemUses, Surroundings, judge_item};

@@ -9,7 +9,7 @@ use Rattle.std.proofs.lemmas.List.{map-set, get_or-set_same, get_or-set_other, g
 use Rattle.rdl_props.specs.Same.{same_prop}
 use Rattle.rdl_values.specs.Instances.{Instance}
 use Rattle.rdl_assignments.specs.Layers.{IsGiven}
-use Rattle.rdl_assignments.specs.declared.set.Given.{Given}
+use Rattle.rdl_assignments.specs.declared.set.ValidAssignment.{ValidAssignment}
 use Rattle.rdl_layers.specs.Meanings.{Assignment}
 use Rattle.rdl_layers.specs.Ranks.{is_related}
 use Rattle.rdl_layers.specs.Says.{IsScopeNumber}
@@ -18,22 +18,22 @@ use Rattle.rdl_layers.specs.declared.rank.Rank.{Rank}
 use Rattle.rdl_layers.specs.Tables.{entries_at}
 use Rattle.rdl_merge.specs.Merged.{AreEntries, Tells}
 use Rattle.rdl_dynamic.specs.Pushed.{PushesAll, PushesAt}
-use Rattle.rdl_layers.specs.declared.props.Entry.{Entry}
+use Rattle.rdl_layers.specs.declared.props.PropSetting.{PropSetting}
 
-items-length : (vs : List (Vec Entry Global)) → length (map (λ v. v.items) vs) ≡ length vs
+items-length : (vs : List (Vec PropSetting Global)) → length (map (λ v. v.items) vs) ≡ length vs
 items-length [] = refl
 items-length (v ∷ vs) = ap suc (items-length vs)
 
-pub at-place : (vs : List (Vec Entry Global)) (k : ℕ) (v : Vec Entry Global) → k < length vs → entries_at (slice_set vs k v) k ≡ v.items
-at-place vs k v l = ap (λ es. slice_index_or es k []) (map-set (λ (x : Vec Entry Global). x.items) vs k v) ∙ get_or-set_same (map (λ (x : Vec Entry Global). x.items) vs) k v.items [] (subst (λ n. k < n) (sym (items-length vs)) l)
+pub at-place : (vs : List (Vec PropSetting Global)) (k : ℕ) (v : Vec PropSetting Global) → k < length vs → entries_at (slice_set vs k v) k ≡ v.items
+at-place vs k v l = ap (λ es. slice_index_or es k []) (map-set (λ (x : Vec PropSetting Global). x.items) vs k v) ∙ get_or-set_same (map (λ (x : Vec PropSetting Global). x.items) vs) k v.items [] (subst (λ n. k < n) (sym (items-length vs)) l)
 
-pub elsewhere : (vs : List (Vec Entry Global)) (k j : ℕ) (v : Vec Entry Global) → j ≢ k → entries_at (slice_set vs k v) j ≡ entries_at vs j
-elsewhere vs k j v d = ap (λ es. slice_index_or es j []) (map-set (λ (x : Vec Entry Global). x.items) vs k v) ∙ get_or-set_other (map (λ (x : Vec Entry Global). x.items) vs) k j v.items [] d
+pub elsewhere : (vs : List (Vec PropSetting Global)) (k j : ℕ) (v : Vec PropSetting Global) → j ≢ k → entries_at (slice_set vs k v) j ≡ entries_at vs j
+elsewhere vs k j v d = ap (λ es. slice_index_or es j []) (map-set (λ (x : Vec PropSetting Global). x.items) vs k v) ∙ get_or-set_other (map (λ (x : Vec PropSetting Global). x.items) vs) k j v.items [] d
 
-pub put-here : (all : List Instance) (xs ys : List Applied) (vs : List (Vec Entry Global)) (k : ℕ) (old new d : Vec Entry Global) → k < length vs → old ≡ get_or vs k d → (AreEntries all old.items xs → AreEntries all new.items (xs ++ (ys ++ [])))
+pub put-here : (all : List Instance) (xs ys : List Applied) (vs : List (Vec PropSetting Global)) (k : ℕ) (old new d : Vec PropSetting Global) → k < length vs → old ≡ get_or vs k d → (AreEntries all old.items xs → AreEntries all new.items (xs ++ (ys ++ [])))
     → AreEntries all (entries_at vs k) xs → AreEntries all (entries_at (slice_set vs k new) k) (xs ++ ys)
 put-here all xs ys vs k old new d l e f h =
-    let before : entries_at vs k ≡ old.items = get_or-map (λ (x : Vec Entry Global). x.items) vs k d [] l ∙ ap (λ v. v.items) (sym e) in
+    let before : entries_at vs k ≡ old.items = get_or-map (λ (x : Vec PropSetting Global). x.items) vs k d [] l ∙ ap (λ v. v.items) (sym e) in
     subst (λ es. AreEntries all es (xs ++ ys)) (sym (at-place vs k new l)) (subst (λ zs. AreEntries all new.items (xs ++ zs)) (append-nil ys) (f (subst (λ es. AreEntries all es xs) before h)))
 
 -- What is given twice is given once.
@@ -54,7 +54,7 @@ any-twice f xs ys = list_any-append f (xs ++ ys) ys ∙ ap (λ b. b || list_any 
     twice false true = refl
     twice false false = refl
 
-once : (all : List Instance) (es : List Entry) (xs ys : List Applied) → AreEntries all es ((xs ++ ys) ++ ys) → AreEntries all es (xs ++ ys)
+once : (all : List Instance) (es : List PropSetting) (xs ys : List Applied) → AreEntries all es ((xs ++ ys) ++ ys) → AreEntries all es (xs ++ ys)
 once all es xs ys h = record {
   assigned = λ p. h.assigned p ∙ any-twice (λ a. same_prop p a.candidate.prop) xs ys;
   first = λ p. subst (Tells all (find (λ e. is_related p e.prop) es)) (find-twice (λ a. is_related p a.candidate.prop) xs ys) (h.first p);
@@ -69,10 +69,10 @@ any-push ks k j = list_any-append (λ i. i == j) ks (k ∷ []) ∙ ap (λ b. lis
     or-false true = refl
     or-false false = refl
 
-pub no-push : (g : Given) (body : ℕ) (vs : List (Vec Entry Global)) → PushesAll [] g body vs vs
+pub no-push : (g : ValidAssignment) (body : ℕ) (vs : List (Vec PropSetting Global)) → PushesAll [] g body vs vs
 no-push g body vs = record { same_length = refl; pushed = λ all xs judged a rank j l is at h. subst (AreEntries all (entries_at vs j)) (sym (append-nil xs)) h }
 
-pub push-more : (ks : List ℕ) (k : ℕ) (g : Given) (body : ℕ) (us vs ws : List (Vec Entry Global)) → PushesAll ks g body us vs → PushesAt k g body vs ws → PushesAll (ks ++ (k ∷ [])) g body us ws
+pub push-more : (ks : List ℕ) (k : ℕ) (g : ValidAssignment) (body : ℕ) (us vs ws : List (Vec PropSetting Global)) → PushesAll ks g body us vs → PushesAt k g body vs ws → PushesAll (ks ++ (k ∷ [])) g body us ws
 push-more ks k g body us vs ws h one = record { same_length = one.same_length ∙ h.same_length; pushed = pushed }
   where
     pushed : (all : List Instance) (xs : List Applied) (judged : ℕ) (a : Assignment) (rank : Rank) (j : ℕ) → j < length us → IsGiven judged g a → IsScopeNumber all a.scope body
@@ -101,5 +101,5 @@ push-more ks k g body us vs ws h one = record { same_length = one.same_length �
             same : (k == j) ≡ true → k ≡ j
             same q = grind (arith, nat_tests)
 
-pub push-step : (ks : List ℕ) (i d : ℕ) (g : Given) (body : ℕ) (us vs ws : List (Vec Entry Global)) → i < length ks → PushesAll (take i ks) g body us vs → PushesAt (get_or ks i d) g body vs ws → PushesAll (take (i + 1) ks) g body us ws
+pub push-step : (ks : List ℕ) (i d : ℕ) (g : ValidAssignment) (body : ℕ) (us vs ws : List (Vec PropSetting Global)) → i < length ks → PushesAll (take i ks) g body us vs → PushesAt (get_or ks i d) g body vs ws → PushesAll (take (i + 1) ks) g body us ws
 push-step ks i d g body us vs ws l h one = subst (λ js. PushesAll js g body us ws) (sym (take_more ks i d l)) (push-more (take i ks) (get_or ks i d) g body us vs ws h one)

@@ -24,10 +24,10 @@ use Rattle.rdl_layers.specs.Judged.{all_failures, failures_of_dynamic, sound}
 use Rattle.rdl_layers.specs.Says.{IsScopeNumber}
 use Rattle.rdl_layers.specs.Settings.{Applied, gives}
 use Rattle.rdl_layers.specs.Tables.{entries_at}
-use Rattle.rdl_layers.specs.declared.props.Entry.{Entry}
+use Rattle.rdl_layers.specs.declared.props.PropSetting.{PropSetting}
 use Rattle.rdl_layers.specs.declared.rank.Rank.TheVariants as rank
 use Rattle.rdl_assignments.specs.Layers.{IsGiven}
-use Rattle.rdl_assignments.specs.declared.set.Given.{Given}
+use Rattle.rdl_assignments.specs.declared.set.ValidAssignment.{ValidAssignment}
 use Rattle.rdl_layers.specs.Nested.{nested}
 use Rattle.rdl_dynamic.specs.Written.{AreWritten, parts_of, written_in}
 use Rattle.rdl_dynamic.specs.declared.written.Written.{Written}
@@ -90,11 +90,11 @@ in-body : (e : Elab) (node : ℕ) (n : Instance) (before : List Item) → IsAt (
 in-body e node n before h = (n, node-at (Some (top_name e)) e.source.now node n h, refl)
 
 -- Nothing has been read.
-pub go-none : (e : Elab) (n : Instance) (m : Marks) (es : List (Vec Entry Global)) (fs : List Fault) → AreMarks (lineages_of e) (nested n) m [] → IsGoing e n m es es fs fs []
+pub go-none : (e : Elab) (n : Instance) (m : Marks) (es : List (Vec PropSetting Global)) (fs : List Fault) → AreMarks (lineages_of e) (nested n) m [] → IsGoing e n m es es fs fs []
 go-none e n m es fs h = record { marked = h; noted = refl; same_length = refl; pushed = λ j k xs l at old. subst (AreEntries (nodes_of e) (entries_at es j)) (sym (append-nil xs)) old }
 
 -- One more was judged.
-pub go-more : (e : Elab) (node : ℕ) (n : Instance) (old new : Marks) (first before after : List (Vec Entry Global)) (start s t : List Fault) (read : List Dynamic) (d : Dynamic) (r : Led) (items : List Item)
+pub go-more : (e : Elab) (node : ℕ) (n : Instance) (old new : Marks) (first before after : List (Vec PropSetting Global)) (start s t : List Fault) (read : List Dynamic) (d : Dynamic) (r : Led) (items : List Item)
     → d.assigns.scope ≡ scope_at (body n) items → IsAt (lineages_of e) node n → IsGoing e n old first before start s read → IsLed e node (nested n) read d r new s t
     → length after ≡ length before
     → ((j : ℕ) (m : Instance) (xs : List Applied) → j < length before → IsAt (lineages_of e) j m → AreEntries (nodes_of e) (entries_at before j) xs → AreEntries (nodes_of e) (entries_at after j) (xs ++ one_given (nested n) m d (is_some r.given)))
@@ -113,14 +113,14 @@ go-more e node n old new first before after start s t read d r items scope at h 
     more xs m = ap (λ ys. xs ++ ys) (given-push b m read d ∙ ap (λ c. given_to b m read ++ one_given b m d c) (sym led.noted.none)) ∙ sym (append_assoc xs (given_to b m read) (one_given b m d (is_some r.given)))
 
 -- It gives something at its targets, or nothing.
-pub puts-some : (e : Elab) (node : ℕ) (n : Instance) (before after : List (Vec Entry Global)) (items : List Item) (d : Dynamic) (g : Given) (ks : List ℕ) → d.assigns.scope ≡ scope_at (body n) items → IsAt (lineages_of e) node n → AreAt (lineages_of e) ks (targets (nested n) d) → IsGiven node g d.assigns
+pub puts-some : (e : Elab) (node : ℕ) (n : Instance) (before after : List (Vec PropSetting Global)) (items : List Item) (d : Dynamic) (g : ValidAssignment) (ks : List ℕ) → d.assigns.scope ≡ scope_at (body n) items → IsAt (lineages_of e) node n → AreAt (lineages_of e) ks (targets (nested n) d) → IsGiven node g d.assigns
     → PushesAll ks g node before after
     → (j : ℕ) (m : Instance) (xs : List Applied) → j < length before → IsAt (lineages_of e) j m → AreEntries (nodes_of e) (entries_at before j) xs → AreEntries (nodes_of e) (entries_at after j) (xs ++ one_given (nested n) m d true)
 puts-some e node n before after items d g ks scope at are is h j m xs l there old =
     subst (λ c. AreEntries (nodes_of e) (entries_at after j) (xs ++ cond c (gives (rank.Dynamic (length n.above)) d.assigns) [])) (among-numbers e ks (targets (nested n) d) j m are there)
     (h.pushed (nodes_of e) xs node d.assigns (rank.Dynamic (length n.above)) j l is (subst (λ s. IsScopeNumber (nodes_of e) s node) (sym scope) (in-body e node n items at)) old)
 
-pub puts-none : (e : Elab) (n : Instance) (before : List (Vec Entry Global)) (d : Dynamic) (j : ℕ) (m : Instance) (xs : List Applied) → AreEntries (nodes_of e) (entries_at before j) xs → AreEntries (nodes_of e) (entries_at before j) (xs ++ one_given (nested n) m d false)
+pub puts-none : (e : Elab) (n : Instance) (before : List (Vec PropSetting Global)) (d : Dynamic) (j : ℕ) (m : Instance) (xs : List Applied) → AreEntries (nodes_of e) (entries_at before j) xs → AreEntries (nodes_of e) (entries_at before j) (xs ++ one_given (nested n) m d false)
 puts-none e n before d j m xs old = subst (AreEntries (nodes_of e) (entries_at before j)) (sym (append-nil xs)) old
 
 -- Item by item.
@@ -171,11 +171,11 @@ all-of n (w ∷ ws) [] i l h = absurd h
 all-of n (w ∷ ws) (x ∷ ds) zero l h = absurd (omega (arith, l))
 all-of n (w ∷ ws) (x ∷ ds) (suc i) l h = ap (λ xs. x ∷ xs) (all-of n ws ds i (omega (arith, l)) h.1)
 
-pub none-yet : (e : Elab) (n : Instance) (m : Marks) (es : List (Vec Entry Global)) (fs : List Fault) (ds : List Dynamic) → AreMarks (lineages_of e) (nested n) m [] → IsGoing e n m es es fs fs (take 0 ds)
+pub none-yet : (e : Elab) (n : Instance) (m : Marks) (es : List (Vec PropSetting Global)) (fs : List Fault) (ds : List Dynamic) → AreMarks (lineages_of e) (nested n) m [] → IsGoing e n m es es fs fs (take 0 ds)
 none-yet e n m es fs [] h = go-none e n m es fs h
 none-yet e n m es fs (d ∷ ds) h = go-none e n m es fs h
 
-pub go-next : (e : Elab) (n : Instance) (m : Marks) (first now : List (Vec Entry Global)) (s t : List Fault) (ws : List Written) (ds : List Dynamic) (i : ℕ) (d : Written) → i < length ws → AreOf n (map parts_of ws) ds
+pub go-next : (e : Elab) (n : Instance) (m : Marks) (first now : List (Vec PropSetting Global)) (s t : List Fault) (ws : List Written) (ds : List Dynamic) (i : ℕ) (d : Written) → i < length ws → AreOf n (map parts_of ws) ds
     → ((before : List Item) → IsGoing e n m first now s t (take i ds ++ (dynamic_of n before (get_or ws i d).target.now (get_or ws i d).assigned.now ∷ []))) → IsGoing e n m first now s t (take (i + 1) ds)
 go-next e n m first now s t ws ds i d l of step =
     let one = nth-of n ws ds i d l of in

@@ -30,7 +30,7 @@ use Rattle.rdl_layers.specs.Judged.{against, bad_indices, bad_value, failures_of
 use Rattle.rdl_layers.specs.Meanings.{Assignment, meaning, prop_of}
 use Rattle.rdl_layers.specs.Ranks.{is_related}
 use Rattle.rdl_layers.specs.declared.setting.Setting.{Setting}
-use Rattle.rdl_assignments.specs.declared.set.Given.{Given}
+use Rattle.rdl_assignments.specs.declared.set.ValidAssignment.{ValidAssignment}
 use Rattle.rdl_assignments.specs.Meant.{outcome_in}
 use Rattle.rdl_targets.specs.At.{AreAt, IsAt}
 use Rattle.rdl_dynamic.specs.Marked.{assigned_at}
@@ -235,6 +235,6 @@ value-part p a r o s t e named eo put =
     none (Err f) = refl
 
 -- what is given is what the property's value says
-pub given-known : (o : Option Given) (v : Option Setting) (p : Prop) (P : Given → Type 0) → IfSome o (λ g. (g.prop ≡ p) × (v ≡ Some g.setting)) → IfSome v (λ x. P (record { prop = p; setting = x })) → IfSome o P
+pub given-known : (o : Option ValidAssignment) (v : Option Setting) (p : Prop) (P : ValidAssignment → Type 0) → IfSome o (λ g. (g.prop ≡ p) × (v ≡ Some g.setting)) → IfSome v (λ x. P (record { prop = p; setting = x })) → IfSome o P
 given-known None v p P h k = tt
 given-known (Some g) v p P h k = subst P (λ i. record { prop = sym h.0 i; setting = g.setting }) (subst (λ w. IfSome w (λ x. P (record { prop = p; setting = x }))) h.1 k)

@@ -16,7 +16,7 @@ use Rattle.rdl_layers.specs.Assignments.{Dynamic, Nested, is_among, targets}
 use Rattle.rdl_layers.specs.Judged.{all_failures, failures_of_dynamic, sound}
 use Rattle.rdl_layers.specs.Settings.{Applied, from_above, gives}
 use Rattle.rdl_layers.specs.Tables.{entries_at}
-use Rattle.rdl_layers.specs.declared.props.Entry.{Entry}
+use Rattle.rdl_layers.specs.declared.props.PropSetting.{PropSetting}
 use Rattle.rdl_layers.specs.declared.rank.Rank.TheVariants as rank
 use Rattle.rdl_layers.specs.Nested.{nested}
 use Rattle.rdl_merge.specs.Merged.{AreEntries}
@@ -33,13 +33,13 @@ abbrev pub given_to : Nested → Instance → List Dynamic → List Applied
 given_to b n ds = flat_map (λ d. gives (rank.Dynamic (length b.0)) d.assigns) (filter (λ d. is_among (targets b d) n) (sound (failures_of_dynamic b) ds))
 
 -- what a body assigns to the nodes below was put behind the entries of each node
-pub record ArePushed (e : Elab) (b : Nested) (old new : List (Vec Entry Global)) : Type 0 where
+pub record ArePushed (e : Elab) (b : Nested) (old new : List (Vec PropSetting Global)) : Type 0 where
   pub same_length : length new ≡ length old
   pub pushed : (j : ℕ) (n : Instance) (xs : List Applied) → j < length old → IsAt (lineages_of e) j n → AreEntries (nodes_of e) (entries_at old j) xs → AreEntries (nodes_of e) (entries_at new j) (xs ++ from_above n b)
 
 -- These dynamic assignments in the body of a node have been read: their targets are marked, their failures were put in, and what they
 -- give was put behind the entries of each node.
-pub record IsGoing (e : Elab) (n : Instance) (marks : Marks) (first now : List (Vec Entry Global)) (before after : List Fault) (read : List Dynamic) : Type 0 where
+pub record IsGoing (e : Elab) (n : Instance) (marks : Marks) (first now : List (Vec PropSetting Global)) (before after : List Fault) (read : List Dynamic) : Type 0 where
   pub marked : AreMarks (lineages_of e) (nested n) marks read
   pub noted : after ≡ with_all (all_failures (failures_of_dynamic (nested n)) read) before
   pub same_length : length now ≡ length first

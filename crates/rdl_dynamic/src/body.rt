@@ -13,7 +13,7 @@ ghost use Rattle.rdl_failures.specs.Noted.{with_all};
 ghost use Rattle.rdl_failures.specs.Shown.{IsShown};
 ghost use Rattle.rdl_layers.specs.Assignments.{Dynamic, dynamics};
 ghost use Rattle.rdl_layers.specs.Judged.{all_failures, failures_of_dynamic};
-ghost use Rattle.rdl_layers.specs.declared.props.Entry.{Entry as AnyEntry};
+ghost use Rattle.rdl_layers.specs.declared.props.PropSetting.{PropSetting as AnyEntry};
 ghost use Rattle.rdl_layers.specs.Nested.{nested};
 ghost use Rattle.rdl_dynamic.specs.Written.{AreWritten};
 ghost use Rattle.rdl_targets.specs.At.{IsAt};
@@ -26,7 +26,7 @@ use crate::pushing::push_all;
 use crate::written::Written;
 use rb_base::NoMemory;
 use rdl_failures::Failures;
-use rdl_layers::Entry;
+use rdl_layers::PropSetting;
 use rdl_nodes::Row;
 use rdl_targets::Contents;
 use rdl_values::Chain;
@@ -41,7 +41,7 @@ fn judge_written<'a>(
     node: u32,
     visible: &Chain<'_, '_, '_, 'a>,
     marks: &mut Marks,
-    entries: &mut Vec<Vec<Entry<'a>>>,
+    entries: &mut Vec<Vec<PropSetting<'a>>>,
     failures: &mut Failures,
 ) -> Result<(), NoMemory>
     ensures { OnOk result ((e : Elab) (n : Instance) (first : List (Vec AnyEntry Memory)) (start : List Fault) (read : List Dynamic) (before : List Item)
@@ -75,7 +75,7 @@ pub fn judge_dynamics<'a>(
     node: u32,
     assignments: &[Written<'a>],
     visible: &Chain<'_, '_, '_, 'a>,
-    entries: &mut Vec<Vec<Entry<'a>>>,
+    entries: &mut Vec<Vec<PropSetting<'a>>>,
     failures: &mut Failures,
 ) -> Result<(), NoMemory>
     ensures noted { OnOk result ((e : Elab) (n : Instance) → AreRows e rows.now → AreContents e contents.now → IsAt (lineages_of e) node n → AreWritten assignments.now (body_of n).items → IsShown visible.now (around_body n)

@@ -21,7 +21,7 @@ use crate::laws::met_at_targets;
 use crate::marks::Marks;
 use crate::targets::{judge_kinds, judge_target};
 use rb_base::{NoMemory, Place};
-use rdl_assignments::{Given, meaning_of};
+use rdl_assignments::{ValidAssignment, meaning_of};
 use rdl_base::Rule;
 use rdl_failures::Failures;
 use rdl_layers::Setting;
@@ -35,7 +35,7 @@ use std::alloc::Global;
 /// The nodes that a dynamic assignment leads to, and what it gives where it fails no rule.
 #[derive(Drop)]
 pub(crate) struct Led<'a> {
-    pub given: Option<Given<'a>>,
+    pub given: Option<ValidAssignment<'a>>,
     pub nodes: Vec<u32>,
 }
 
@@ -118,12 +118,16 @@ fn judge_known<'a>(
 }
 
 // What an assignment of the property gives, where the rest is clean.
-fn given_by<'a>(clean: bool, prop: Prop, setting: Option<Setting<'a>>) -> Option<Given<'a>>
+fn given_by<'a>(
+    clean: bool,
+    prop: Prop,
+    setting: Option<Setting<'a>>,
+) -> Option<ValidAssignment<'a>>
     ensures some { is_some result ≡ (clean && is_some setting.entry) }
     ensures same { IfSome result (λ g. (g.prop ≡ prop) × (setting.entry ≡ Some g.setting)) }
 {
     match kept(clean, setting) {
-        Some(setting) => Some(Given { prop, setting }),
+        Some(setting) => Some(ValidAssignment { prop, setting }),
         None => None,
     }
 }

@@ -7,7 +7,8 @@ use Rattle.rdl_tree.specs.declared.node.Node.{Node, out-Node}
 use Rattle.rdl_values.specs.Elaborated.{number_named}
 use Rattle.rdl_failures.specs.Firsts.{AreFirsts, place_of}
 use Rattle.rdl_failures.specs.declared.firsts.Firsts.{Firsts}
-use Rattle.rdl_failures.proofs.Named.{IsPut, firsts_more, place-from}
+use Rattle.rdl_failures.proofs.Named.{IsPut, firsts_more}
+use Rattle.plain_lemmas.proofs.Lists.{position_from-least as place-from}
 use Rattle.rdl_elab.specs.Nodes.{name_of}
 
 abbrev number_in : List Node → ℕ → Option ℕ

@@ -2,7 +2,7 @@
 use Rattle.std.proofs.Common.{◌≡◌, ◌∙◌, ℕ, zero, suc, ◌+◌, ◌≤◌, true, List, [], ◌∷◌, ◌++◌, length, flat_map, drop, Option, refl, sym, ap, subst, arith}
 use Rattle.std.specs.List.{AllByRecursion}
 use Rattle.std.proofs.lemmas.List.{length-append, length-drop, take_all}
-use Rattle.plain_lemmas.proofs.Lists.{each-left, each-right}
+use Rattle.plain_lemmas.proofs.Lists.{each-imp, each-left, each-right}
 use Rattle.rdl_tree.specs.declared.item.Source.{Source}
 use Rattle.rdl_values.specs.Bodies.{of_signal}
 use Rattle.rdl_values.specs.Instances.{Instance, body, children, kind_of, most_names, most_nodes, nodes, seen_in, signals, top_of, with_below}
@@ -12,7 +12,7 @@ use Rattle.rdl_values.specs.Phase3.{failures3, first_over, of_node}
 use Rattle.rdl_values.specs.Top.{root}
 use Rattle.rdl_values.specs.Uses.{seen}
 use Rattle.rdl_values.proofs.Clean.{nodes_nil, none_over, root_nil, uses_clean}
-use Rattle.rdl_values.proofs.Given.{IsAtRoot, each-imp, held, signals-given}
+use Rattle.rdl_values.proofs.Given.{IsAtRoot, held, signals-given}
 use Rattle.rdl_values.proofs.Numbered.{At, Deep, bottom, lower, tops_deep}
 use Rattle.rdl_walk.proofs.Counting.{node_first}
 use Rattle.rdl_elab.specs.Grown.{AreAllWhole, IsWhole}

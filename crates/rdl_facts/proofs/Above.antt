@@ -10,7 +10,8 @@ use Rattle.rdl_values.specs.Instances.{Instance, body, children, given_by, most_
 use Rattle.rdl_values.specs.Scopes.{IsAmong}
 use Rattle.rdl_values.specs.Top.{top_seen, top_use_of}
 use Rattle.rdl_values.specs.Uses.{Seen, Use, parent_of, seen, uses}
-use Rattle.rdl_values.proofs.Given.{each-append, each-flat_map, each-imp, each-map, given-all}
+use Rattle.rdl_values.proofs.Given.{each-map, given-all}
+use Rattle.plain_lemmas.proofs.Lists.{each-append, each-flat_map, each-imp}
 use Rattle.rdl_nodes.proofs.Paths.{paths_differ}
 use Rattle.rdl_nodes.proofs.Members.{In, each-in, get-read, get-within, in-flat, in-right}
 

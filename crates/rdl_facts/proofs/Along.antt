@@ -2,7 +2,7 @@
 use Rattle.std.proofs.Common.{◌≡◌, ◌∙◌, ℕ, zero, suc, ◌+◌, ◌<◌, ◌⊎◌, inl, inr, List, [], ◌∷◌, ◌++◌, drop, flat_map, get_or, length, Option, None, Some, option_to_list, slice_get, refl, sym, ap, subst, arith, append-nil}
 use Rattle.std.proofs.lemmas.List.{drop_more}
 use Rattle.std.specs.Option.{option_or}
-use Rattle.plain_lemmas.proofs.Lists.{get-end as get-last, none-beyond as get-past}
+use Rattle.plain_lemmas.proofs.Lists.{get-end as get-last, get-within, none-beyond as get-past}
 use Rattle.plain_lemmas.proofs.Numbers.{below_next-swapped as either}
 use Rattle.rdl_tree.specs.declared.expr.Name.{Name}
 use Rattle.rdl_values.specs.Seen.{around_of}
@@ -25,11 +25,6 @@ get-front : {X : Type 0} (xs : List X) (y : X) (k : ℕ) (x : X) → slice_get x
 get-front [] y k x e = cc e
 get-front (z ∷ xs) y zero x e = e
 get-front (z ∷ xs) y (suc k) x e = get-front xs y k x e
-
-get-within : {X : Type 0} (xs : List X) (k : ℕ) (x : X) → slice_get xs k ≡ Some x → k < length xs
-get-within [] k x e = cc e
-get-within (y ∷ xs) zero x e = omega arith
-get-within (y ∷ xs) (suc k) x e = let l = get-within xs k x e in omega (arith, l)
 
 pub to_more : (list : List BodyEnums) (bodies : Bodies) (one : BodyEnums) (y : Body) → slice_get bodies.list.items (length list) ≡ Some y → ((names : Names) (rest : Around) → around_of y.env.now ≡ names ∷ rest → AreEnumsOf one names) → AreTo list bodies → AreTo (list ++ (one ∷ [])) bodies
 to_more list bodies one y at new old k x names rest l here env = go (either (length list) k (length-more list l))

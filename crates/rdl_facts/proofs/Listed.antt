@@ -21,7 +21,7 @@ use Rattle.rdl_nodes.specs.declared.table.Row.{Row}
 use Rattle.rdl_layers.specs.Answers.{IsSettled}
 use Rattle.rdl_layers.specs.Phase4.{width_of}
 use Rattle.rdl_layers.specs.Tables.{entries_at}
-use Rattle.rdl_layers.specs.declared.props.Entry.{Entry}
+use Rattle.rdl_layers.specs.declared.props.PropSetting.{PropSetting}
 use Rattle.rdl_rules.specs.Facts.{AreFacts, IsFact, fact_at}
 use Rattle.rdl_rules.specs.declared.fact.Fact.{Fact}
 use Rattle.rdl_open_bodies.specs.Spots.{IsOpenTree, IsSpot}
@@ -85,7 +85,7 @@ rows-count e xs clean h =
 abbrev Known : Elab → ℕ → List Fact → Type 0
 Known e i facts = (k : ℕ) (n : Instance) → k < i → slice_get (nodes_of e) k ≡ Some n → is_unit (kind_of n) ≡ true → IsFact (fact_at facts k) n
 
-pub record FactsTo (xs : List Row) (tree : OpenTree) (es : List (Vec Entry Global)) (i : ℕ) (facts : List Fact) : Type 0 where
+pub record FactsTo (xs : List Row) (tree : OpenTree) (es : List (Vec PropSetting Global)) (i : ℕ) (facts : List Fact) : Type 0 where
   pub many : length facts ≡ i
   pub within : i ≤ length xs
   pub low : All (λ (f : Fact). f.width ≤ 64) facts
@@ -106,11 +106,11 @@ length-push : (xs : List Fact) (x : Fact) → length (xs ++ (x ∷ [])) ≡ leng
 length-push [] x = refl
 length-push (y ∷ ys) x = let l = length-push ys x in omega (arith, l)
 
-pub none_to : (xs : List Row) (tree : OpenTree) (es : List (Vec Entry Global)) (facts : List Fact) → facts ≡ [] → FactsTo xs tree es 0 facts
+pub none_to : (xs : List Row) (tree : OpenTree) (es : List (Vec PropSetting Global)) (facts : List Fact) → facts ≡ [] → FactsTo xs tree es 0 facts
 none_to xs tree es [] e = record { many = refl; within = omega arith; low = λ k d l. absurd (omega (arith, l)); known = λ e clean settled rows open_ told k n l. absurd (omega (arith, l)) }
 none_to xs tree es (f ∷ fs) e = cc e
 
-pub more_to : (xs : List Row) (tree : OpenTree) (enums : EnumNumbers) (es : List (Vec Entry Global)) (i : ℕ) (d : Row) (o : Spot) (facts : List Fact) (fact : Fact) → i < length xs → slice_get tree.spots.items i ≡ Some o → AreNumbersOf enums tree.walk.bodies → FactsTo xs tree es i facts → fact.width ≤ 64
+pub more_to : (xs : List Row) (tree : OpenTree) (enums : EnumNumbers) (es : List (Vec PropSetting Global)) (i : ℕ) (d : Row) (o : Spot) (facts : List Fact) (fact : Fact) → i < length xs → slice_get tree.spots.items i ≡ Some o → AreNumbersOf enums tree.walk.bodies → FactsTo xs tree es i facts → fact.width ≤ 64
     → ((e : Elab) (n : Instance) (beside : List Node) → IsTold e tree enums o (entries_at es i) n → Says beside (get_or xs i d).node.now n → is_unit (kind_of n) ≡ true → width_of n ≤ 64 → IsFact fact n) → FactsTo xs tree es (i + 1) (facts ++ (fact ∷ []))
 more_to xs tree enums es i d o facts fact l listed numbers before low one = record {
   many = (let a = length-push facts fact in let b = before.many in omega (arith, a, b));
@@ -141,7 +141,7 @@ no_spot e xs tree i d l rows open_ none =
     let both : Some x.node ≡ None = sym x.here ∙ none_there e tree.walk.bodies tree.spots.items (nodes_of e) i open_.nodes_ none in
     cc
 
-pub all_to : (xs : List Row) (tree : OpenTree) (es : List (Vec Entry Global)) (i : ℕ) (facts : List Fact) → length xs ≤ i → FactsTo xs tree es i facts → (e : Elab) → IsClean e → IsSettled e → AreRows e xs → IsOpenTree e tree → AreTold e es → AreFacts e facts
+pub all_to : (xs : List Row) (tree : OpenTree) (es : List (Vec PropSetting Global)) (i : ℕ) (facts : List Fact) → length xs ≤ i → FactsTo xs tree es i facts → (e : Elab) → IsClean e → IsSettled e → AreRows e xs → IsOpenTree e tree → AreTold e es → AreFacts e facts
 all_to xs tree es i facts l to e clean settled rows open_ told =
     let size = rows-count e xs clean rows in
     let total = counted (Some (top_name e)) e.source.now e clean.elaborated.tree in

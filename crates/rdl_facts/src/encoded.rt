@@ -18,7 +18,7 @@ ghost use Rattle.rdl_facts.specs.Encoded.{NamesEnum, Shows, body_or};
 
 use crate::table::EnumNumbers;
 use rdl_bodies::Body;
-use rdl_layers::{Entry, Setting, setting_of, settings_in_bodies};
+use rdl_layers::{PropSetting, Setting, setting_of, settings_in_bodies};
 use rdl_merge::entries_say;
 use rdl_open_bodies::{OpenTree, Spot};
 use rdl_props::Prop;
@@ -75,7 +75,7 @@ fn is_wide(greatest: Option<u64>, width: u64) -> bool
 pub(crate) fn has_wide_entry<'a>(
     tree: &OpenTree<'a>,
     enums: &EnumNumbers<'a>,
-    entries: &[Entry<'a>],
+    entries: &[PropSetting<'a>],
     width: u64,
 ) -> bool
     requires { width ≤ 64 }

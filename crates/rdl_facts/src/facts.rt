@@ -20,7 +20,7 @@ use crate::encoded::{has_wide_entry, spot_at};
 use crate::table::EnumNumbers;
 use crate::unit_facts::fact_of;
 use rb_base::NoMemory;
-use rdl_layers::Entry;
+use rdl_layers::PropSetting;
 use rdl_merge::unit_width;
 use rdl_nodes::Row;
 use rdl_open_bodies::{OpenTree, Spot};
@@ -55,7 +55,7 @@ fn unit_fact<'a>(
     inst: &Inst<'a>,
     kind: Kind,
     spot: &Spot,
-    entries: &[Entry<'a>],
+    entries: &[PropSetting<'a>],
 ) -> Result<Fact, NoMemory>
     ensures narrow { IfOk result (λ fact. fact.width ≤ 64) }
     ensures fact { IfOk result (λ fact. (e : Elab) (n : Instance) → IsTold e tree.now enums.now spot.now entries.now n → kind_of n ≡ kind → IsOfText inst.now n → phase.width_of n ≤ 64 → IsFact fact n) }
@@ -80,7 +80,7 @@ fn node_fact<'a>(
     enums: &EnumNumbers<'a>,
     node: &Node<'a>,
     spot: &Spot,
-    entries: &[Entry<'a>],
+    entries: &[PropSetting<'a>],
 ) -> Result<Fact, NoMemory>
     ensures narrow { IfOk result (λ fact. fact.width ≤ 64) }
     ensures fact { IfOk result (λ fact. (e : Elab) (n : Instance) (beside : List AnyNode) → IsTold e tree.now enums.now spot.now entries.now n → Says beside node.now n → parts.is_unit (kind_of n) ≡ true → phase.width_of n ≤ 64 → IsFact fact n) }
@@ -95,7 +95,7 @@ fn node_fact<'a>(
 }
 
 // The entries of the node of a number.
-fn entries_of<'e, 'a>(entries: &'e [Vec<Entry<'a>>], at: usize) -> &'e [Entry<'a>]
+fn entries_of<'e, 'a>(entries: &'e [Vec<PropSetting<'a>>], at: usize) -> &'e [PropSetting<'a>]
     requires { at < length entries.now }
     ensures { result.now ≡ entries_at entries.now at }
 {
@@ -108,7 +108,7 @@ pub fn facts_of<'a>(
     alloc: Global,
     rows: &[Row<'a>],
     tree: &OpenTree<'a>,
-    entries: &[Vec<Entry<'a>>],
+    entries: &[Vec<PropSetting<'a>>],
 ) -> Result<Vec<Fact>, NoMemory>
     requires { length rows.now ≡ length entries.now }
     ensures { IfOk result (λ facts. (e : Elab) → IsClean e → IsSettled e → AreRows e rows.now → IsOpenTree e tree.now → AreTold e entries.now → AreFacts e facts.items) }

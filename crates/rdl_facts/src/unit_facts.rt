@@ -13,7 +13,7 @@ ghost use Rattle.rdl_rules.specs.FieldRules.{encode_too_wide, interrupt_parts};
 ghost use Rattle.rdl_rules.specs.Facts.{IsFact};
 
 use rb_base::NoMemory;
-use rdl_layers::Entry;
+use rdl_layers::PropSetting;
 use rdl_merge::{has_entry, unit_width};
 use rdl_props::Prop;
 use rdl_rules::Fact;
@@ -22,7 +22,7 @@ use rdl_values::Chain;
 use std::alloc::Global;
 
 /// Whether a property that only an interrupt has is assigned in any layer, be it false or overridden.
-pub fn has_parts(entries: &[Entry]) -> bool
+pub fn has_parts(entries: &[PropSetting]) -> bool
     ensures { (all : List Instance) (n : Instance) → AreEntries all entries.now (applied_to n) → result ≡ list_any (is_assigned n) interrupt_parts }
 {
     has_entry(entries, Prop::Sticky)
@@ -39,7 +39,7 @@ pub fn fact_of<'a>(
     alloc: Global,
     inst: &Inst<'a>,
     kind: Kind,
-    entries: &[Entry],
+    entries: &[PropSetting],
     visible: &Chain<'_, '_, '_, 'a>,
     has_wide_entry: bool,
 ) -> Result<Fact, NoMemory>

@@ -1,33 +1,19 @@
 -- A table of first places, name by name.
 use Rattle.std.proofs.Common.{◌≡◌, ◌∙◌, ℕ, suc, ◌+◌, Bool, true, false, ◌||◌, cond, if◌then◌else◌, add-zero, zero-add, bytes_eq, List, [], ◌∷◌, ◌++◌, ◌<◌, ◌≤◌, length, get_or, take, map, Option, None, Some, is_some, refl, sym, ap, subst, arith}
-use Rattle.std.specs.Cmp.Lexicographic.{bytes_decides}
 use Rattle.std.specs.List.{list_any, position_from}
 use Rattle.std.specs.Option.{option_or}
 use Rattle.std.proofs.lemmas.List.{length-map, length-take-le, map-append, take_all, take_more}
 use Rattle.std.proofs.lemmas.List.Folds.{list_any-append}
 use Rattle.rdl_failures.specs.Firsts.{AreFirsts, HasNames, place_of}
 use Rattle.rdl_failures.specs.declared.firsts.Firsts.{Firsts}
+use Rattle.plain_lemmas.proofs.Lists.{bytes_eq-same as same_text}
+use Rattle.plain_lemmas.proofs.Options.{option_or-first as or-some, option_or-none as or-none, option_or-second as or-first}
 
 -- what a table has once a name is put in at a place
 abbrev pub IsPut : List ℕ → ℕ → Firsts → Firsts → Type 0
 IsPut name at old new = (n : List ℕ) → place_of new n ≡ option_or (place_of old n) (cond (bytes_eq name n) (Some at) None)
 
 -- A name that is there, or a new one.
-
-or-none : (o : Option ℕ) → o ≡ option_or o None
-or-none None = refl
-or-none (Some k) = refl
-
-or-some : (o p : Option ℕ) → is_some o ≡ true → o ≡ option_or o p
-or-some None p e = cc
-or-some (Some k) p e = refl
-
-or-first : (o p : Option ℕ) → is_some o ≡ false → p ≡ option_or o p
-or-first None p e = refl
-or-first (Some k) p e = cc
-
-same_text : (a b : List ℕ) → bytes_eq a b ≡ true → a ≡ b
-same_text a b e = (bytes_decides a b).0 e
 
 pub put_again : (name : List ℕ) (at : ℕ) (t : Firsts) → is_some (place_of t name) ≡ true → IsPut name at t t
 put_again name at t there n = go (bytes_eq name n) refl
@@ -129,10 +115,3 @@ firsts-some t names n h = ap is_some (h.at n) ∙ go 0 names
         here false h = h
 
 -- a place is none before the one from which it is counted
-pub place-from : (f : List ℕ → Bool) (i : ℕ) (xs : List (List ℕ)) (k : ℕ) → position_from f i xs ≡ Some k → i ≤ k
-place-from f i [] k e = cc
-place-from f i (x ∷ xs) k e = go (f x) e (place-from f (i + 1) xs k)
-  where
-    go : (b : Bool) → cond b (Some i) (position_from f (i + 1) xs) ≡ Some k → (position_from f (i + 1) xs ≡ Some k → i + 1 ≤ k) → i ≤ k
-    go true e ih = let same : i ≡ k = cc in omega (arith, same)
-    go false e ih = let l = ih e in omega (arith, l)

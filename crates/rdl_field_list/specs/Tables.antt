@@ -9,10 +9,10 @@ use Rattle.rdl_block_numbers.specs.Texts.{AreTexts}
 use Rattle.rdl_members.specs.Covered.{AreOverViews}
 use Rattle.rdl_reset_rules.specs.Nearest.{AreNearest}
 use Rattle.rdl_fields.specs.Touched.{touches}
-use Rattle.rdl_field_list.specs.declared.tables.Tables.{Tables}
+use Rattle.rdl_field_list.specs.declared.tables.FieldTables.{FieldTables}
 
 -- The tables are those of this tree.
-pub record AreTables (e : Elab) (t : Tables) : Type 0 where
+pub record AreTables (e : Elab) (t : FieldTables) : Type 0 where
   pub facts_ : AreFacts e t.facts.now
   pub texts_ : AreTexts e t.texts.now
   pub nearest_ : AreNearest e t.nearest.now

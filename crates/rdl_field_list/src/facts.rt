@@ -10,14 +10,14 @@ ghost use Rattle.rdl_refs.specs.Answers.{IsBound};
 ghost use Rattle.rdl_rules.specs.Fields as fields;
 ghost use Rattle.rdl_rules.specs.Numbers.{Numbered};
 ghost use Rattle.rdl_feeds.specs.Narrow.{AreNarrow};
-ghost use Rattle.rdl_block_fields.specs.Known.{AreFieldFacts, IsKnown};
+ghost use Rattle.rdl_block_fields.specs.Known.{AreFieldFacts, IsNumberedTree};
 ghost use Rattle.rdl_field_list.specs.Own.{IsOwn};
 ghost use Rattle.rdl_field_list.specs.Tables.{AreTables};
 
-use crate::tables::Tables;
+use crate::tables::FieldTables;
 use rb_base::{NoMemory, copy_of};
 use rb_model::{Field, Shows};
-use rdl_block_fields::{FieldFacts, Known, field};
+use rdl_block_fields::{FieldFacts, NumberedTree, field};
 use rdl_field_kinds::shown;
 use rdl_reset_rules::reset_by;
 use std::alloc::Global;
@@ -34,13 +34,13 @@ fn narrow(width: u64) -> u8
 /// memory.
 fn facts_of(
     alloc: Global,
-    known: Known<'_, '_>,
-    tables: Tables<'_>,
+    known: NumberedTree<'_, '_>,
+    tables: FieldTables<'_>,
     node: u32,
     register: u32,
     number: u32,
 ) -> Result<FieldFacts, NoMemory>
-    requires known { IsKnown known }
+    requires known { IsNumberedTree known }
     requires bound { IsBound known.props.now }
     requires tables { AreTables known.props.now tables }
     requires node { node < known.props.now.count }
@@ -76,13 +76,13 @@ fn facts_of(
 /// memory.
 pub(crate) fn field_at(
     alloc: Global,
-    known: Known<'_, '_>,
-    tables: Tables<'_>,
+    known: NumberedTree<'_, '_>,
+    tables: FieldTables<'_>,
     node: u32,
     register: u32,
     number: u32,
 ) -> Result<Field, NoMemory>
-    requires known { IsKnown known }
+    requires known { IsNumberedTree known }
     requires bound { IsBound known.props.now }
     requires tables { AreTables known.props.now tables }
     requires node { node < known.props.now.count }

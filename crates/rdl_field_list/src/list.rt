@@ -18,16 +18,16 @@ ghost use Rattle.rdl_rules.specs.Numbers.{Numbered};
 ghost use Rattle.rdl_rules.specs.Facts.{AreFacts};
 ghost use Rattle.rdl_block_numbers.specs.Listed as lists;
 ghost use Rattle.rdl_block_numbers.specs.Texts.{AreTexts};
-ghost use Rattle.rdl_block_fields.specs.Known.{IsKnown};
+ghost use Rattle.rdl_block_fields.specs.Known.{IsNumberedTree};
 ghost use Rattle.rdl_field_list.specs.Own.{AreNarrowFields, IsRowOf};
 ghost use Rattle.rdl_field_list.specs.Tables.{AreTables};
 
 use crate::laws::faultless_is_narrow;
 use crate::register::add_fields;
-use crate::tables::{Tables, once_fields, touched_fields};
+use crate::tables::{FieldTables, once_fields, touched_fields};
 use rb_base::{NoMemory, Text};
 use rb_model::Field;
-use rdl_block_fields::Known;
+use rdl_block_fields::NumberedTree;
 use rdl_fields::primary;
 use rdl_nodes::Row;
 use rdl_reset_rules::nearest_resets;
@@ -59,13 +59,13 @@ fn next_number(kind: Kind, number: u32) -> u32
 /// of memory.
 fn add_own(
     alloc: Global,
-    known: Known<'_, '_>,
-    tables: Tables<'_>,
+    known: NumberedTree<'_, '_>,
+    tables: FieldTables<'_>,
     row: &Row<'_>,
     number: u32,
     list: &mut Vec<Field>,
 ) -> Result<(), NoMemory>
-    requires known { IsKnown known }
+    requires known { IsNumberedTree known }
     requires bound { IsBound known.props.now }
     requires tables { AreTables known.props.now tables }
     requires narrow { AreNarrowFields known.props.now }
@@ -83,11 +83,11 @@ fn add_own(
 /// The fields of a block, where this is known of all nodes. The only error is want of memory.
 fn fields_by(
     alloc: Global,
-    known: Known<'_, '_>,
-    tables: Tables<'_>,
+    known: NumberedTree<'_, '_>,
+    tables: FieldTables<'_>,
     count: u32,
 ) -> Result<Vec<Field>, NoMemory>
-    requires known { IsKnown known }
+    requires known { IsNumberedTree known }
     requires bound { IsBound known.props.now }
     requires tables { AreTables known.props.now tables }
     requires narrow { AreNarrowFields known.props.now }
@@ -109,12 +109,12 @@ fn fields_by(
 pub fn fields<'a>(
     alloc: Global,
     elab: &Elab<'a>,
-    known: Known<'_, 'a>,
+    known: NumberedTree<'_, 'a>,
     facts: &[Fact],
     texts: &[Text],
 ) -> Result<Vec<Field>, NoMemory>
     requires elab { known.props.now ≡ elab.now }
-    requires known { IsKnown known }
+    requires known { IsNumberedTree known }
     requires settled { IsSettled elab.now }
     requires bound { IsBound elab.now }
     requires meaning { IsListOf (meaning_fails elab.now) [] }
@@ -127,7 +127,7 @@ pub fn fields<'a>(
     let nearest = nearest_resets(alloc, elab, known.props, known.rows)?;
     let touched = touched_fields(alloc, elab, known)?;
     let once = once_fields(alloc, elab, known)?;
-    let tables = Tables {
+    let tables = FieldTables {
         facts,
         texts,
         nearest: &nearest,

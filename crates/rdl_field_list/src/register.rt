@@ -12,15 +12,15 @@ ghost use Rattle.rdl_refs.specs.Answers.{IsBound};
 ghost use Rattle.rdl_rules.specs.Fields as fields;
 ghost use Rattle.rdl_rules.specs.Numbers.{Numbered};
 ghost use Rattle.rdl_feeds.specs.Narrow.{AreNarrow};
-ghost use Rattle.rdl_block_fields.specs.Known.{IsKnown};
+ghost use Rattle.rdl_block_fields.specs.Known.{IsNumberedTree};
 ghost use Rattle.rdl_field_list.specs.Own.{AreNarrowFields, IsOwn, IsPrimaryRow};
 ghost use Rattle.rdl_field_list.specs.Tables.{AreTables};
 
 use crate::facts::field_at;
-use crate::tables::Tables;
+use crate::tables::FieldTables;
 use rb_base::NoMemory;
 use rb_model::Field;
-use rdl_block_fields::Known;
+use rdl_block_fields::NumberedTree;
 use rdl_nodes::Row;
 use rdl_tree::Node;
 use std::alloc::Global;
@@ -28,14 +28,14 @@ use std::alloc::Global;
 /// Adds a node, where it is a field, in the node of a number, which has another among the registers. The only error is want of memory.
 fn add_field(
     alloc: Global,
-    known: Known<'_, '_>,
-    tables: Tables<'_>,
+    known: NumberedTree<'_, '_>,
+    tables: FieldTables<'_>,
     node: &Node<'_>,
     register: u32,
     number: u32,
     list: &mut Vec<Field>,
 ) -> Result<(), NoMemory>
-    requires known { IsKnown known }
+    requires known { IsNumberedTree known }
     requires bound { IsBound known.props.now }
     requires tables { AreTables known.props.now tables }
     requires node { (out-Node node.now).id < known.props.now.count }
@@ -56,13 +56,13 @@ fn add_field(
 /// memory.
 pub(crate) fn add_fields(
     alloc: Global,
-    known: Known<'_, '_>,
-    tables: Tables<'_>,
+    known: NumberedTree<'_, '_>,
+    tables: FieldTables<'_>,
     row: &Row<'_>,
     number: u32,
     list: &mut Vec<Field>,
 ) -> Result<(), NoMemory>
-    requires known { IsKnown known }
+    requires known { IsNumberedTree known }
     requires bound { IsBound known.props.now }
     requires tables { AreTables known.props.now tables }
     requires narrow { AreNarrowFields known.props.now }

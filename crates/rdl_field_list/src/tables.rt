@@ -4,11 +4,11 @@ ghost use Rattle.std.specs.Prelude.{◌≡◌, IfOk};
 ghost use Rattle.rdl_layers.specs.Fields as settings;
 ghost use Rattle.rdl_fields.specs.Touched.{touches};
 ghost use Rattle.rdl_members.specs.Covered.{AreOverViews};
-ghost use Rattle.rdl_block_fields.specs.Known.{IsKnown};
+ghost use Rattle.rdl_block_fields.specs.Known.{IsNumberedTree};
 ghost use Rattle.rdl_field_list.specs.Tables.{AreOnceTo};
 
 use rb_base::{NoMemory, Text};
-use rdl_block_fields::Known;
+use rdl_block_fields::NumberedTree;
 use rdl_fields::{is_once, own_touches};
 use rdl_layers::Props;
 use rdl_members::any_view;
@@ -19,7 +19,7 @@ use std::alloc::Global;
 /// The facts of all nodes, their paths' texts and the nearest reset signals round what stands in them; and for each field whether
 /// software touches it through one of its views, and whether one of these is written once.
 #[derive(Clone, Copy)]
-pub(crate) struct Tables<'t> {
+pub(crate) struct FieldTables<'t> {
     pub facts: &'t [Fact],
     pub texts: &'t [Text],
     pub nearest: &'t [Option<u32>],
@@ -43,10 +43,10 @@ fn own_once(alloc: Global, props: &Props<'_>, count: u32) -> Result<Vec<bool>, N
 pub(crate) fn touched_fields<'a>(
     alloc: Global,
     elab: &Elab<'a>,
-    known: Known<'_, 'a>,
+    known: NumberedTree<'_, 'a>,
 ) -> Result<Vec<bool>, NoMemory>
     requires elab { known.props.now ≡ elab.now }
-    requires known { IsKnown known }
+    requires known { IsNumberedTree known }
     ensures { IfOk result (λ ts. AreOverViews elab.now touches ts.items) }
 {
     let own = own_touches(alloc, known.props, elab.count)?;
@@ -58,10 +58,10 @@ pub(crate) fn touched_fields<'a>(
 pub(crate) fn once_fields<'a>(
     alloc: Global,
     elab: &Elab<'a>,
-    known: Known<'_, 'a>,
+    known: NumberedTree<'_, 'a>,
 ) -> Result<Vec<bool>, NoMemory>
     requires elab { known.props.now ≡ elab.now }
-    requires known { IsKnown known }
+    requires known { IsNumberedTree known }
     ensures { IfOk result (λ ts. AreOverViews elab.now settings.is_once ts.items) }
 {
     let own = own_once(alloc, known.props, elab.count)?;

@@ -1,5 +1,5 @@
 -- The nodes of a body, with their numbers.
-use Rattle.std.proofs.Common.{◌≡◌, ◌∙◌, ◌⊎◌, inl, inr, ℕ, zero, suc, ◌+◌, true, List, [], ◌∷◌, ◌++◌, length, drop, flat_map, slice_get, Contains, Some, refl, sym, ap, subst, arith, length-append, append_assoc, append-nil}
+use Rattle.std.proofs.Common.{◌≡◌, ◌∙◌, ◌⊎◌, inl, inr, ℕ, zero, suc, ◌+◌, true, List, [], ◌∷◌, ◌++◌, length, drop, flat_map, slice_get, Some, refl, sym, ap, subst, arith, length-append, append_assoc, append-nil}
 use Rattle.std.specs.List.{AllByRecursion}
 use Rattle.rdl_tree.specs.declared.item.Source.{Source}
 use Rattle.rdl_tree.specs.declared.node.Elab.{Elab}
@@ -9,9 +9,10 @@ use Rattle.rdl_values.specs.Bodies.{of_signal}
 use Rattle.rdl_values.specs.Instances.{Instance, children, kind_of, most_names, nodes, signals, top_of, with_below}
 use Rattle.rdl_values.specs.NoNode.{is_signal, may_hold}
 use Rattle.rdl_values.specs.Paths.{path_in}
-use Rattle.rdl_values.proofs.Given.{IsAtRoot, each-imp, held, signals-given}
+use Rattle.rdl_values.proofs.Given.{IsAtRoot, held, signals-given}
+use Rattle.plain_lemmas.proofs.Lists.{each-imp}
 use Rattle.rdl_values.proofs.Numbered.{At, Deep, Found, bottom, found, lower, tops_deep}
-use Rattle.rdl_nodes.proofs.Members.{In, in-from, in-place, place-in}
+use Rattle.rdl_nodes.proofs.Members.{In, place-in}
 
 module _ {X : Type 0} where
   stands-at : (all : List X) (k : ℕ) (n : X) (rest : List X) → drop k all ≡ n ∷ rest → slice_get all k ≡ Some n

@@ -1,5 +1,5 @@
 -- The uses of a body: of one name one alone gives nodes, and one that is no array gives one.
-use Rattle.std.proofs.Common.{◌≡◌, ◌∙◌, ◌⊎◌, inl, inr, Bool, true, false, not, ◌&&◌, ◌||◌, cond, List, [], ◌∷◌, ◌++◌, map, flat_map, find, Option, None, Some, option_to_list, is_none, true≢false, Ok, Err, refl, sym, ap, subst}
+use Rattle.std.proofs.Common.{◌≡◌, ◌∙◌, ◌⊎◌, inl, inr, Bool, true, false, not, ◌&&◌, ◌||◌, cond, List, [], ◌∷◌, ◌++◌, flat_map, find, Option, None, Some, option_to_list, is_none, true≢false, Ok, Err, refl, sym, ap, subst}
 use Rattle.std.specs.Cmp.Lexicographic.{bytes_decides}
 use Rattle.std.specs.List.{AllByRecursion, list_any}
 use Rattle.std.proofs.lemmas.Bool.{and_parts}
@@ -13,13 +13,14 @@ use Rattle.rdl_values.specs.Bodies.{Body, Closure, around, same_name, standing, 
 use Rattle.rdl_values.specs.Faults.{at_, when}
 use Rattle.rdl_values.specs.Given.{IsGivenBy}
 use Rattle.rdl_values.specs.Instances.{Instance, elements, given_by, kind_of}
-use Rattle.rdl_values.specs.NoNode.{bad_alias, has_primary, is_primary, is_reg, is_single_reg, name_twice, no_node, of_type}
+use Rattle.rdl_values.specs.NoNode.{has_primary, is_primary, is_reg, is_single_reg, name_twice, no_node, of_type}
 use Rattle.rdl_values.specs.Parameters.{Bound, bound_of}
 use Rattle.rdl_values.specs.Parts.{dims_of, is_empty, is_unit}
 use Rattle.rdl_values.specs.Paths.{path_in}
 use Rattle.rdl_values.specs.Uses.{Seen, Use, parent_of, seen, uses, values}
 use Rattle.rdl_values.specs.Values.{Outcome}
-use Rattle.rdl_values.proofs.Given.{each-flat_map, none_in, nothing_fails, when_none}
+use Rattle.rdl_values.proofs.Given.{none_in, nothing_fails, when_none}
+use Rattle.plain_lemmas.proofs.Lists.{each-flat_map}
 use Rattle.rdl_nodes.proofs.Members.{In, in-either, in-left, map-in, in-map}
 
 pub same-text : (m n : Name) → m.text.now ≡ n.text.now → same_name m n ≡ true

@@ -1,7 +1,7 @@
 -- All that applies to a node is looked up in its body, in those above it, or at the root.
 use Rattle.std.proofs.Common.{◌≡◌, ◌∙◌, ℕ, zero, suc, ◌+◌, length, inl, inr, Bool, true, false, not, ◌&&◌, cond, is_some, List, [], ◌∷◌, ◌++◌, map, flat_map, filter, find, Option, None, Some, option_to_list, refl, sym, ap, subst, append_assoc}
 use Rattle.std.specs.List.{AllByRecursion}
-use Rattle.plain_lemmas.proofs.Lists.{each-both as all-both, each-filter, each-flat as split}
+use Rattle.plain_lemmas.proofs.Lists.{each-append, each-both as all-both, each-filter, each-flat as split, each-flat_map, each-imp}
 use Rattle.rdl_base.specs.declared.fault.Fault.{Fault}
 use Rattle.rdl_tree.specs.declared.item.Item.{Item}
 use Rattle.rdl_tree.specs.declared.item.Source.{Source}
@@ -19,8 +19,8 @@ use Rattle.rdl_values.specs.Top.{top_seen, top_use_of}
 use Rattle.rdl_values.specs.Uses.{Seen, Use, parent_of, seen, uses}
 use Rattle.rdl_values.specs.Values.{number_of}
 use Rattle.rdl_values.specs.Views as view
-use Rattle.rdl_values.specs.Views.{ItemIs, item_is, steps_of}
-use Rattle.rdl_values.proofs.Given.{each-append, each-flat_map, each-imp, each-map, given-all}
+use Rattle.rdl_values.specs.Views.{ItemIs, item_is}
+use Rattle.rdl_values.proofs.Given.{each-map, given-all}
 use Rattle.rdl_layers.specs.declared.rank.Rank.TheVariants as rank
 use Rattle.rdl_layers.specs.Assignments.{Nested, default_in, defaults_before, dynamic_in, dynamics, is_among, local_in, locals, targets}
 use Rattle.rdl_layers.specs.Forms.{Meaning, unset}

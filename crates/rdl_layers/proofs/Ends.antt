@@ -17,7 +17,8 @@ use Rattle.rdl_values.specs.Values.{nearest}
 use Rattle.rdl_values.specs.Views as view
 use Rattle.rdl_values.specs.Views.{ItemIs, item_is}
 use Rattle.rdl_values.proofs.Clean.{Somewhere, nearest_is, unreversed}
-use Rattle.rdl_values.proofs.Given.{each-append, each-flat_map, each-imp, each-map, given-all}
+use Rattle.rdl_values.proofs.Given.{each-map, given-all}
+use Rattle.plain_lemmas.proofs.Lists.{each-append, each-flat_map, each-imp}
 use Rattle.rdl_layers.specs.Scoped.{IsEnd, bodies_of}
 
 -- some of these bodies, and no other

@@ -1,7 +1,7 @@
 -- The assignments that apply to a node stand in the order of their ranks, so the first related one decides.
 use Rattle.std.proofs.Common.{◌≡◌, ℕ, ◌+◌, Bool, true, false, not, ◌&&◌, ◌||◌, nat_lt, ◌==◌, List, [], ◌∷◌, ◌++◌, length, map, flat_map, filter, find, option_to_list, refl, sym, subst, arith, length-append, append_assoc}
 use Rattle.std.specs.List.{AllByRecursion, list_all}
-use Rattle.plain_lemmas.proofs.Lists.{each-filter}
+use Rattle.plain_lemmas.proofs.Lists.{each-append, each-filter}
 use Rattle.plain_lemmas.proofs.Numbers.{before-itself as same}
 use Rattle.rdl_props.specs.declared.prop.Prop.{Prop}
 use Rattle.rdl_props.specs.declared.prop.Prop.TheVariants as prop
@@ -9,7 +9,7 @@ use Rattle.rdl_values.specs.Bodies.{Scope, Body, standing, standing_from, around
 use Rattle.rdl_values.specs.Instances.{Instance, body}
 use Rattle.rdl_values.specs.Uses.{Use}
 use Rattle.rdl_values.specs.Values.{number_of}
-use Rattle.rdl_values.proofs.Given.{each-append, each-map}
+use Rattle.rdl_values.proofs.Given.{each-map}
 use Rattle.rdl_layers.specs.declared.candidate.Candidate.{Candidate}
 use Rattle.rdl_layers.specs.declared.rank.Rank.{Rank}
 use Rattle.rdl_layers.specs.declared.rank.Rank.TheVariants as rank

@@ -10,8 +10,8 @@ use Rattle.rdl_base.specs.declared.rule.Rule.TheVariants as rules
 use Rattle.rdl_tree.specs.declared.expr.Expr.{Expr, Number, Flag, Str, Ref, EntryOf, Not', Binary', Pick'}
 use Rattle.rdl_tree.specs.declared.expr.Name.{Name}
 use Rattle.rdl_tree.specs.declared.expr.Path.{Path}
-use Rattle.rdl_tree.specs.declared.item.Given.{Given}
-use Rattle.rdl_tree.specs.declared.item.Given.TheVariants as given_
+use Rattle.rdl_tree.specs.declared.item.Assigned.{Assigned}
+use Rattle.rdl_tree.specs.declared.item.Assigned.TheVariants as given_
 use Rattle.rdl_props.specs.declared.form.Form.{Form}
 use Rattle.rdl_props.specs.declared.form.Form.TheVariants as form
 use Rattle.rdl_props.specs.declared.prop.Prop.{Prop}
@@ -24,14 +24,14 @@ use Rattle.rdl_values.specs.Uses.{Use, values}
 use Rattle.rdl_values.specs.Values.{Val, EnumOf, visible_enum, Outcome, fails, then, or_fails, value_of, bare_name, parameter_of, number_of}
 use Rattle.rdl_values.specs.Values as val
 use Rattle.rdl_values.specs.Views.{steps_of}
-use Rattle.rdl_values.proofs.Given.{each-append, each-map}
+use Rattle.rdl_values.proofs.Given.{each-map}
+use Rattle.plain_lemmas.proofs.Lists.{each-append, each-filter}
 use Rattle.rdl_layers.specs.declared.rank.Rank.{Rank}
 use Rattle.rdl_layers.specs.declared.rank.Rank.TheVariants as rank
 use Rattle.rdl_layers.specs.Assignments.{Nested, locals, defaults_before, dynamics, targets, is_among}
 use Rattle.rdl_layers.specs.Judged.{failures_of, failures_of_dynamic, legal_on, anywhere, sound}
 use Rattle.rdl_layers.specs.Formed.{IsOfForm}
 use denote.Enum.Bare.{same_true}
-use Rattle.plain_lemmas.proofs.Lists.{each-filter}
 use Rattle.rdl_props.specs.contracts.prop.Prop as of_prop
 use Rattle.rdl_layers.specs.Forms.{Meaning, hard, unset, named, enum_of, reference, from_value, from_word, addressing_word, sw_word, hw_word, write_word, read_word, takes_reference, side, level_if, only_true}
 use Rattle.rdl_layers.specs.Meanings.{Assignment, prop_of, meaning, meaning_as, from_given, from_expr, from_edge, from_path, parameter_or_reference, enum_named}
@@ -188,12 +188,12 @@ expr_formed f scope place (Not' q e p) = then_formed f (value_of (around scope) 
 expr_formed f scope place (Binary' o q a r b p) = then_formed f (value_of (around scope) (Binary' o q a r b p)) (λ v. or_fails (from_value f v) rules.P6 place) (λ v. or_formed f (from_value f v) rules.P6 place (value_formed f v))
 expr_formed f scope place (Pick' q c r a s b p) = then_formed f (value_of (around scope) (Pick' q c r a s b p)) (λ v. or_fails (from_value f v) rules.P6 place) (λ v. or_formed f (from_value f v) rules.P6 place (value_formed f v))
 
-given_formed : (f : Form) (scope : Scope) (place : Place) (o : Option Given) → Given_formed f (from_given f scope place o)
+given_formed : (f : Form) (scope : Scope) (place : Place) (o : Option Assigned) → Given_formed f (from_given f scope place o)
 given_formed f scope place None = or_formed f (from_value f (val.flag true)) rules.P6 place (value_formed f (val.flag true))
 given_formed f scope place (Some (given_.Word w)) = or_formed f (from_word f w) rules.P6 place (word_formed f w)
 given_formed f scope place (Some (given_.Expr e)) = expr_formed f scope place e
 
-edge_formed : (f : Form) (place : Place) (e : Edge) (o : Option Given) → Given_formed f (from_edge f place e o)
+edge_formed : (f : Form) (place : Place) (e : Edge) (o : Option Assigned) → Given_formed f (from_edge f place e o)
 edge_formed form.Intr place e None = tt
 edge_formed form.Intr place e (Some g) = tt
 edge_formed _ place e o = tt

@@ -9,8 +9,8 @@ use Rattle.rdl_base.specs.declared.rule.Rule.TheVariants as rules
 use Rattle.rdl_tree.specs.declared.expr.Expr.{Expr, Number, Flag, Str, Ref, EntryOf, Not', Binary', Pick'}
 use Rattle.rdl_tree.specs.declared.expr.Name.{Name}
 use Rattle.rdl_tree.specs.declared.expr.Path.{Path}
-use Rattle.rdl_tree.specs.declared.item.Given.{Given}
-use Rattle.rdl_tree.specs.declared.item.Given.TheVariants as given_
+use Rattle.rdl_tree.specs.declared.item.Assigned.{Assigned}
+use Rattle.rdl_tree.specs.declared.item.Assigned.TheVariants as given_
 use Rattle.rdl_props.specs.declared.form.Form.{Form}
 use Rattle.rdl_props.specs.declared.form.Form.TheVariants as form
 use Rattle.rdl_props.specs.declared.prop.Prop.{Prop}
@@ -20,7 +20,7 @@ use Rattle.rdl_values.specs.Uses.{values}
 use Rattle.rdl_values.specs.Values.{Val, EnumOf, visible_enum, Outcome, fails, then, or_fails, value_of, bare_name, parameter_of}
 use Rattle.rdl_values.specs.Values as val
 use Rattle.rdl_values.specs.Views.{steps_of}
-use Rattle.rdl_values.proofs.Given.{each-append}
+use Rattle.plain_lemmas.proofs.Lists.{each-append}
 use Rattle.rdl_layers.specs.declared.rank.Rank.{Rank}
 use Rattle.rdl_layers.specs.Forms.{Meaning, hard, named, enum_of, reference, from_value, from_word, addressing_word, sw_word, hw_word, write_word, read_word, takes_reference, side, level_if, only_true}
 use Rattle.rdl_layers.specs.Meanings.{Assignment, prop_of, meaning, meaning_as, from_given, from_expr, from_edge, from_path, parameter_or_reference, enum_named}
@@ -140,12 +140,12 @@ module _ (bs : List Body) (scope : Scope) (within : IsWithin bs scope) where
   an-expr f place (Binary' o q a r b p) = a-value f place (Binary' o q a r b p)
   an-expr f place (Pick' q c r a s b p) = a-value f place (Pick' q c r a s b p)
 
-  a-given : (f : Form) (place : Place) (o : Option Given) → OkScoped bs (from_given f scope place o)
+  a-given : (f : Form) (place : Place) (o : Option Assigned) → OkScoped bs (from_given f scope place o)
   a-given f place None = or-scoped bs (from_value f (val.flag true)) rules.P6 place (constant bs f (val.flag true))
   a-given f place (Some (given_.Word w)) = or-scoped bs (from_word f w) rules.P6 place (a-word bs f w)
   a-given f place (Some (given_.Expr e)) = an-expr f place e
 
-an-edge : (bs : List Body) (f : Form) (place : Place) (e : Edge) (o : Option Given) → OkScoped bs (from_edge f place e o)
+an-edge : (bs : List Body) (f : Form) (place : Place) (e : Edge) (o : Option Assigned) → OkScoped bs (from_edge f place e o)
 an-edge bs form.Intr place e None = tt
 an-edge bs form.Intr place e (Some g) = tt
 an-edge bs _ place e o = tt

@@ -3,7 +3,7 @@ use Rattle.std.proofs.Common.{◌≡◌, ℕ, zero, suc, ◌+◌, ◌<◌, inl, 
 use Rattle.std.specs.List.{list_all, position_or_len}
 use Rattle.std.proofs.lemmas.List.Folds.{list_all_at}
 use Rattle.std.proofs.lemmas.List.Sums.{position_or_len_is}
-use Rattle.plain_lemmas.proofs.Bools.{and-false_left as and_false}
+use Rattle.plain_lemmas.proofs.Bools.{and-false_left as and_false, and-true_left as and_true, not-of_false as not_true}
 use Rattle.plain_lemmas.proofs.Numbers.{before-itself as not_before_itself, below_next-same_or as last_or_before}
 use Rattle.rdl_props.specs.declared.prop.Prop.{Prop}
 use Rattle.rdl_props.specs.declared.prop.Prop.TheVariants as prop
@@ -56,9 +56,6 @@ one_way a c = not_both (layer a) (within a) (layer c) (within c)
 
 up_to_next : (P : ℕ → Type 0) (n : ℕ) → ((k : ℕ) → k < n → P k) → P n → (k : ℕ) → k < n + 1 → P k
 up_to_next P n before last k l = elim (last_or_before k n l) [ inl e ↦ subst P (sym e) last | inr h ↦ before k h ]
-
-and_true : (a b : Bool) → a ≡ true → (a && b) ≡ b
-and_true a b e = grind arith
 
 and_second : (a b : Bool) → b ≡ false → (a && b) ≡ false
 and_second a b e = grind arith
@@ -123,9 +120,6 @@ all_at f (x ∷ xs) d h =
     let one : f x ≡ true = h zero (omega arith) in
     let rest : list_all f xs ≡ true = all_at f xs d (λ k l. h (suc k) (omega arith)) in
     and_true _ _ one ∙ rest
-
-not_true : (b : Bool) → b ≡ false → not b ≡ true
-not_true b e = grind arith
 
 not_false : (b : Bool) → b ≡ true → not b ≡ false
 not_false b e = grind arith

@@ -3,11 +3,10 @@ use Rattle.std.proofs.Common.{◌≡◌, ◌≢◌, Bool, true, false, bytes_eq,
 use Rattle.std.specs.Cmp.Lexicographic.{bytes_decides}
 use Rattle.std.specs.List.{AllByRecursion, list_any}
 use Rattle.plain_lemmas.proofs.Bools.{and-both as both_true}
-use Rattle.plain_lemmas.proofs.Lists.{bytes_eq-itself as same-bytes, each-filter as kept, filter-none}
+use Rattle.plain_lemmas.proofs.Lists.{bytes_eq-itself as same-bytes, each-filter as kept, each-flat_map, each-imp, filter-none}
 use Rattle.rdl_tree.specs.declared.expr.Step as tree
 use Rattle.rdl_values.specs.Bodies.{Path, Step, of_signal, below_top, around}
 use Rattle.rdl_values.specs.Instances.{Instance, children}
-use Rattle.rdl_values.proofs.Given.{each-flat_map, each-imp}
 use Rattle.rdl_nodes.proofs.Paths.{IsChild, are_children}
 use Rattle.rdl_layers.specs.Assignments.{Dynamic, targets, led_down, is_step, is_among, same_path, same_step, same_steps, dynamics}
 use Rattle.rdl_layers.specs.Settings.{from_above, gives}

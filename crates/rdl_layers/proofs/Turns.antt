@@ -3,7 +3,7 @@ use Rattle.std.proofs.Common.{◌≡◌, ◌≢◌, ℕ, zero, suc, true, List, 
 use Rattle.std.specs.List.{AllByRecursion}
 use Rattle.std.proofs.lemmas.Grind.{flat_map-append}
 use Rattle.std.proofs.lemmas.List.{map-append}
-use Rattle.plain_lemmas.proofs.Lists.{each-both as both}
+use Rattle.plain_lemmas.proofs.Lists.{each-append, each-both as both, each-flat_map, each-imp}
 use Rattle.rdl_tree.specs.declared.item.Source.{Source}
 use Rattle.rdl_values.specs.Bodies.{Body, Step, of_signal, below_top, standing, standing_from}
 use Rattle.rdl_values.specs.Given.{IsGivenBy}
@@ -12,7 +12,7 @@ use Rattle.rdl_values.specs.NoNode.{is_signal, may_hold}
 use Rattle.rdl_values.specs.Paths.{path_in}
 use Rattle.rdl_values.specs.Top.{root, top_seen, top_use_of}
 use Rattle.rdl_values.specs.Uses.{Use, Seen, seen, uses, parent_of}
-use Rattle.rdl_values.proofs.Given.{IsAtRoot, each-append, each-flat_map, each-imp, each-map, given-all, held, signals-given, tops-given}
+use Rattle.rdl_values.proofs.Given.{IsAtRoot, each-map, given-all, held, signals-given, tops-given}
 use Rattle.rdl_values.proofs.Numbered.{At, Deep, bottom}
 use Rattle.rdl_nodes.proofs.Apart.{Apart}
 use Rattle.rdl_nodes.proofs.Paths.{Differ, IsChild, IsUnder, are_children, children_apart, nodes_apart, under}

@@ -4,8 +4,8 @@ use Rattle.rdl_tree.specs.declared.expr.Expr.{Expr, Ref}
 use Rattle.rdl_tree.specs.declared.expr.Path.{Path}
 use Rattle.rdl_tree.specs.declared.expr.Name.{Name}
 use Rattle.rdl_tree.specs.declared.item.Set.{Set}
-use Rattle.rdl_tree.specs.declared.item.Given.{Given}
-use Rattle.rdl_tree.specs.declared.item.Given.TheVariants as given
+use Rattle.rdl_tree.specs.declared.item.Assigned.{Assigned}
+use Rattle.rdl_tree.specs.declared.item.Assigned.TheVariants as given
 use Rattle.rb_base.specs.declared.edge.Edge.{Edge}
 use Rattle.rb_base.specs.declared.place.Place.{Place}
 use Rattle.rdl_base.specs.declared.rule.Rule.TheVariants as rules
@@ -53,13 +53,13 @@ from_expr f scope place (Ref path item) = then (values (around scope) (flat_map 
 from_expr f scope place e = then (value_of (around scope) e) λ v. or_fails (from_value f v) rules.P6 place
 
 -- an assignment without a value gives true
-abbrev pub from_given : Form → Scope → Place → Option Given → Outcome Meaning
+abbrev pub from_given : Form → Scope → Place → Option Assigned → Outcome Meaning
 from_given f scope place None = or_fails (from_value f (val.flag true)) rules.P6 place
 from_given f scope place (Some (given.Word w)) = or_fails (from_word f w) rules.P6 place
 from_given f scope place (Some (given.Expr e)) = from_expr f scope place e
 
 -- an edge word stands before intr alone, which then has no value
-abbrev pub from_edge : Form → Place → Edge → Option Given → Outcome Meaning
+abbrev pub from_edge : Form → Place → Edge → Option Assigned → Outcome Meaning
 from_edge form.Intr place e None = Ok (intr e)
 from_edge _ place e _ = fails rules.P6 place
 

@@ -9,7 +9,7 @@ use Rattle.rdl_props.specs.Table as table
 use Rattle.rdl_tree.specs.declared.node.Elab.{Elab}
 use Rattle.rdl_layers.specs.declared.setting.Setting.{Setting}
 use Rattle.rdl_layers.specs.declared.setting.Setting.TheVariants as set
-use Rattle.rdl_layers.specs.declared.props.Entry.{Entry}
+use Rattle.rdl_layers.specs.declared.props.PropSetting.{PropSetting}
 use Rattle.rdl_layers.specs.declared.props.Props.TheInside.{Inside}
 use Rattle.rdl_layers.specs.Answers.{SaysAt}
 use Rattle.rdl_layers.specs.Ranks.{is_related}
@@ -31,29 +31,29 @@ is_false_set (set.Flag b) = not b
 is_false_set _ = false
 
 -- what the deciding entry makes of a property
-abbrev pub settled_by : Prop → Entry → Setting
+abbrev pub settled_by : Prop → PropSetting → Setting
 settled_by p e = cond (same_prop p e.prop && not (is_some (group_of p) && is_false_set e.setting)) e.setting set.Unset
 
 -- the same, where one decides
-abbrev pub settled_or : Prop → Setting → Option Entry → Setting
+abbrev pub settled_or : Prop → Setting → Option PropSetting → Setting
 settled_or p default None = default
 settled_or p default (Some e) = settled_by p e
 
 -- what the first entry of a property, or of one that excludes it, makes of it, and this where there is none
-abbrev pub decided_in : Prop → Setting → List Entry → Setting
+abbrev pub decided_in : Prop → Setting → List PropSetting → Setting
 decided_in p default es = settled_or p default (find (λ e. is_related p e.prop) es)
 
 -- what the entries make of a property: nothing else sets it, or the table does
-abbrev pub setting_in : Prop → List Entry → Setting
+abbrev pub setting_in : Prop → List PropSetting → Setting
 setting_in prop.Accesswidth es = decided_in prop.Accesswidth (decided_in prop.Regwidth (default_in prop.Regwidth) es) es
 setting_in p es = decided_in p (default_in p) es
 
 -- the entries of the node of a number
-abbrev pub entries_at : List (Vec Entry Global) → ℕ → List Entry
+abbrev pub entries_at : List (Vec PropSetting Global) → ℕ → List PropSetting
 entries_at vs k = slice_index_or (map (λ v. v.items) vs) k []
 
 -- What is found for each property of each node says what it is set to.
-pub record AreTablesOf (e : Elab) (vs : List (Vec Entry Global)) : Type 0 where
+pub record AreTablesOf (e : Elab) (vs : List (Vec PropSetting Global)) : Type 0 where
   pub all_nodes : length vs ≡ e.count
   pub settings : (k : ℕ) (p : Prop) → k < e.count → SaysAt e k p (setting_in p (entries_at vs k))
 

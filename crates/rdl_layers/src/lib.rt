@@ -13,7 +13,7 @@ mod setting;
 pub use above::assigned_from_above;
 pub use candidate::{Candidate, deciding};
 pub use laws::{first_related_decides, references_stand_where_taken, settings_have_forms};
-pub use props::{Entry, Props, setting_of};
+pub use props::{PropSetting, Props, setting_of};
 pub use rank::Rank;
 pub use related::is_related;
 pub use scopes::{settings_in_bodies, texts_in_bodies};

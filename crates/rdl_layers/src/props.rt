@@ -13,7 +13,7 @@ use std::marker::Model;
 
 /// What an assignment that applies to a node gives its property.
 #[derive(Clone, Copy)]
-pub struct Entry<'a> {
+pub struct PropSetting<'a> {
     pub prop: Prop,
     pub setting: Setting<'a>,
 }
@@ -23,7 +23,7 @@ pub struct Entry<'a> {
 pub struct Props<'a> {
     elab: Elab<'a>,
     /// For each node what decides its properties, the first one of a group before the others.
-    entries: Vec<Vec<Entry<'a>>>,
+    entries: Vec<Vec<PropSetting<'a>>>,
 }
 
 impl<'a> Model for Props<'a> {
@@ -76,7 +76,7 @@ fn is_false(setting: &Setting) -> bool
 }
 
 // What the deciding entry makes of a property: another one of the group leaves it unset, and false leaves the whole group unset.
-fn settled<'a>(entry: &Entry<'a>, prop: Prop) -> Setting<'a>
+fn settled<'a>(entry: &PropSetting<'a>, prop: Prop) -> Setting<'a>
     ensures { result ≡ settled_by prop entry.now }
 {
     let empties = group(prop).is_some() & is_false(&entry.setting);
@@ -88,7 +88,7 @@ fn settled<'a>(entry: &Entry<'a>, prop: Prop) -> Setting<'a>
 }
 
 // What the first entry of a property, or of one that excludes it, makes of it.
-fn decided<'a>(entries: &[Entry<'a>], prop: Prop, default: Setting<'a>) -> Setting<'a>
+fn decided<'a>(entries: &[PropSetting<'a>], prop: Prop, default: Setting<'a>) -> Setting<'a>
     ensures { result ≡ decided_in prop default.entry entries.now }
 {
     for entry in entries {
@@ -101,7 +101,7 @@ fn decided<'a>(entries: &[Entry<'a>], prop: Prop, default: Setting<'a>) -> Setti
 
 /// What the entries make of a property: the first one of it, or of one that excludes it, decides, and where there is none the table
 /// of properties does. An accesswidth that nothing assigns is the register's regwidth (SystemRDL 2.0, 10.6).
-pub fn setting_of<'a>(entries: &[Entry<'a>], prop: Prop) -> Setting<'a>
+pub fn setting_of<'a>(entries: &[PropSetting<'a>], prop: Prop) -> Setting<'a>
     ensures { result ≡ setting_in prop entries.now }
 {
     match prop {
@@ -115,7 +115,7 @@ pub fn setting_of<'a>(entries: &[Entry<'a>], prop: Prop) -> Setting<'a>
 
 impl<'a> Props<'a> {
     /// The settings of a tree, from what decides the properties of each node.
-    pub fn of(elab: Elab<'a>, entries: Vec<Vec<Entry<'a>>>) -> Self
+    pub fn of(elab: Elab<'a>, entries: Vec<Vec<PropSetting<'a>>>) -> Self
         requires { AreTablesOf elab entries.items }
         ensures { result ≡ elab.entry }
     {

@@ -1,14 +1,14 @@
 -- A node holds a register where it is one, or a node in its body holds one.
-use Rattle.std.proofs.Common.{◌≡◌, ◌∙◌, ℕ, zero, suc, ◌+◌, Bool, ◌||◌, List, [], ◌∷◌, ◌++◌, flat_map, slice_get, Some, refl, sym, ap, subst, arith}
+use Rattle.std.proofs.Common.{◌≡◌, ◌∙◌, ℕ, ◌+◌, Bool, ◌||◌, List, [], ◌∷◌, ◌++◌, flat_map, slice_get, Some, refl, sym, ap, subst, arith}
 use Rattle.std.specs.List.{AllByRecursion, list_any}
 use Rattle.std.proofs.lemmas.List.Folds.{list_any-append}
 use Rattle.rdl_tree.specs.declared.item.Kind.TheVariants as kind
 use Rattle.rdl_tree.specs.declared.node.Elab.{Elab}
 use Rattle.rdl_values.specs.Bodies.{Path, below_top, of_signal}
 use Rattle.rdl_values.specs.Elaborated.{top_name}
-use Rattle.rdl_values.specs.Instances.{Instance, children, most_names, with_below}
+use Rattle.rdl_values.specs.Instances.{Instance, children, with_below}
 use Rattle.rdl_values.specs.Lineages.{Lineage, lineages_of}
-use Rattle.rdl_values.proofs.Given.{each-imp}
+use Rattle.plain_lemmas.proofs.Lists.{each-imp}
 use Rattle.rdl_values.proofs.Numbered.{At, Deep, lower}
 use Rattle.rdl_layers.specs.Fields.{is_a}
 use Rattle.rdl_addr.proofs.Covers.{deep_enough}

@@ -8,7 +8,7 @@ ghost use Rattle.rdl_layers.specs.Answers.{IsSettled};
 ghost use Rattle.rdl_nodes.specs.Rows.{AreRows};
 ghost use Rattle.rdl_refs.specs.Answers.{IsBound};
 ghost use Rattle.rdl_rules.specs.Facts.{AreFacts};
-ghost use Rattle.rdl_ref_items.specs.Marks.{AreMarks};
+ghost use Rattle.rdl_ref_items.specs.InterruptOutputs.{AreInterruptOutputs};
 ghost use Rattle.rdl_rules.specs.Answers.{meaning_fails};
 ghost use Rattle.rdl_meaning_rules.specs.Collected.{of_containers, of_count, of_fields, of_registers, of_resets, of_roots};
 
@@ -25,7 +25,7 @@ use rdl_failures::{Failures, collected_once};
 use rdl_field_rules::registers_agree;
 use rdl_layers::Props;
 use rdl_nodes::{Row, rows};
-use rdl_ref_items::{Mark, marks};
+use rdl_ref_items::{InterruptOutputs, marks};
 use rdl_refs::{Refs, circling};
 use rdl_rules::Fact;
 use rdl_sound_laws::references_stand_on_fields;
@@ -62,7 +62,7 @@ fn judge_settings(
     refs: &Refs<'_>,
     rows: &[Row<'_>],
     facts: &[Fact],
-    marks: &[Mark],
+    marks: &[InterruptOutputs],
     failures: &mut Failures,
 ) -> Result<(), NoMemory>
     requires clean { IsClean props.now }
@@ -70,7 +70,7 @@ fn judge_settings(
     requires refs { refs.now ≡ props.now }
     requires rows { AreRows props.now rows.now }
     requires facts { AreFacts props.now facts.now }
-    requires marks { AreMarks props.now marks.now }
+    requires marks { AreInterruptOutputs props.now marks.now }
     ensures { OnOk result (failures.new ≡ with_all (of_fields props.now ++ of_resets props.now) failures.old) }
 {
     judge_all_references(props, refs, rows, facts, marks, failures)?;

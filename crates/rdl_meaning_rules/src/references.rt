@@ -16,7 +16,7 @@ use rb_base::NoMemory;
 use rdl_failures::Failures;
 use rdl_layers::Props;
 use rdl_nodes::Row;
-use rdl_ref_items::Mark;
+use rdl_ref_items::InterruptOutputs;
 use rdl_refs::Refs;
 use rdl_reset_rules::judge_references;
 use rdl_rules::Fact;
@@ -28,7 +28,7 @@ fn judge_one(
     refs: &Refs<'_>,
     rows: &[Row<'_>],
     facts: &[Fact],
-    marks: &[Mark],
+    marks: &[InterruptOutputs],
     node: &Node<'_>,
     failures: &mut Failures,
 ) -> Result<(), NoMemory>
@@ -51,7 +51,7 @@ pub fn judge_all_references(
     refs: &Refs<'_>,
     rows: &[Row<'_>],
     facts: &[Fact],
-    marks: &[Mark],
+    marks: &[InterruptOutputs],
     failures: &mut Failures,
 ) -> Result<(), NoMemory>
     requires known { AreKnown props.now rows.now facts.now marks.now }

@@ -5,7 +5,7 @@ use Rattle.std.proofs.lemmas.List.{take_more}
 use Rattle.rdl_tree.specs.declared.node.Node.{out-Node}
 use Rattle.rdl_nodes.specs.declared.table.Row.{Row}
 use Rattle.rdl_nodes.proofs.Members.{get-read, get-within}
-use Rattle.rdl_members.specs.Keyed.{Key, row_of}
+use Rattle.rdl_nodes.specs.Keyed.{Key, first_under, nodes_under}
 use Rattle.rdl_members.specs.Listed.{AddsRow, AreFirst, element_key, first_row, has_key, name_key}
 use Rattle.rdl_members.specs.declared.table.Members.{Members}
 
@@ -46,11 +46,16 @@ first-none has (y ∷ ys) e (suc i) x at = first-none has ys (go (has y) e) i x 
 next-taken : (rows : List Row) (i : ℕ) (x : Row) → slice_get rows i ≡ Some x → take (i + 1) rows ≡ take i rows ++ (x ∷ [])
 next-taken rows i x at = take_more rows i x (get-within rows i x at) ∙ ap (λ y. take i rows ++ (y ∷ [])) (get-read rows i x x at)
 
+front-append : (ns : List ℕ) (b : Bool) (n : ℕ) → slice_get (ns ++ cond b (n ∷ []) []) 0 ≡ option_or (slice_get ns 0) (cond b (Some n) None)
+front-append [] true n = refl
+front-append [] false n = refl
+front-append (m ∷ ns) b n = refl
+
 -- a row more
 pub first-more : (root : ℕ) (rows : List Row) (i : ℕ) (x : Row) (old new : Members) → slice_get rows i ≡ Some x → AreFirst root (take i rows) old → AddsRow root x old new → AreFirst root (take (i + 1) rows) new
 first-more root rows i x old new at before adds = record {
-  elements_ = λ k. adds.elements_ k ∙ (ap (λ o. option_or o (cond (has_key element_key root k x) (Some (id_of x)) None)) (before.elements_ k) ∙ (sym (first-append (has_key element_key root k) (take i rows) x) ∙ ap (first_row (has_key element_key root k)) (sym (next-taken rows i x at))));
-  names_ = λ k. adds.names_ k ∙ (ap (λ o. option_or o (cond (has_key name_key root k x) (Some (id_of x)) None)) (before.names_ k) ∙ (sym (first-append (has_key name_key root k) (take i rows) x) ∙ ap (first_row (has_key name_key root k)) (sym (next-taken rows i x at))));
+  elements_ = λ k. ap (λ ns. slice_get ns 0) (adds.elements_ k) ∙ (front-append (nodes_under old.elements k) (has_key element_key root k x) (id_of x) ∙ (ap (λ o. option_or o (cond (has_key element_key root k x) (Some (id_of x)) None)) (before.elements_ k) ∙ (sym (first-append (has_key element_key root k) (take i rows) x) ∙ ap (first_row (has_key element_key root k)) (sym (next-taken rows i x at)))));
+  names_ = λ k. ap (λ ns. slice_get ns 0) (adds.names_ k) ∙ (front-append (nodes_under old.names k) (has_key name_key root k x) (id_of x) ∙ (ap (λ o. option_or o (cond (has_key name_key root k x) (Some (id_of x)) None)) (before.names_ k) ∙ (sym (first-append (has_key name_key root k) (take i rows) x) ∙ ap (first_row (has_key name_key root k)) (sym (next-taken rows i x at)))));
 }
 
 pub first-whole : (root : ℕ) (rows : List Row) (i : ℕ) (m : Members) → length rows ≡ i → AreFirst root (take i rows) m → AreFirst root rows m
@@ -62,5 +67,5 @@ first-whole root rows i m long h = subst (λ xs. AreFirst root xs m) (whole rows
     whole (x ∷ xs) zero e = absurd (omega (arith, e))
     whole (x ∷ xs) (suc i) e = ap (λ ys. x ∷ ys) (whole xs i (omega (arith, e)))
 
-pub none-yet : (root : ℕ) (m : Members) → ((k : Key) → row_of m.elements k ≡ None) → ((k : Key) → row_of m.names k ≡ None) → AreFirst root [] m
-none-yet root m e n = record { elements_ = e; names_ = n }
+pub none-yet : (root : ℕ) (m : Members) → ((k : Key) → nodes_under m.elements k ≡ []) → ((k : Key) → nodes_under m.names k ≡ []) → AreFirst root [] m
+none-yet root m e n = record { elements_ = λ k. ap (λ ns. slice_get ns 0) (e k); names_ = λ k. ap (λ ns. slice_get ns 0) (n k) }

@@ -18,11 +18,11 @@ use Rattle.rdl_refs.proofs.OneTarget.{AtMost, Other, members, members_fine, of_n
 use Rattle.rdl_bits.proofs.Filtered.{in-kept, kept-in, kept-passes}
 use Rattle.rdl_sizes.proofs.Facts.{count-is, row-at}
 use Rattle.rdl_members.specs.Found.{AreMembersOf, is_element, is_named, members_at}
-use Rattle.rdl_members.specs.Keyed.{Key, row_of}
+use Rattle.rdl_nodes.specs.Keyed.{Key, first_under}
 use Rattle.rdl_members.specs.Listed.{AreFirst, body_in, element_key, first_row, has_key, key_is, name_key}
 use Rattle.rdl_members.specs.declared.table.Members.{Members}
 use Rattle.rdl_members.proofs.Firsts.{first-none, first-some, id_of}
-use Rattle.rdl_members.proofs.Keyed.{keys-decide}
+use Rattle.rdl_nodes.proofs.Keyed.{keys-decide}
 use Rattle.rdl_members.proofs.Standing.{body-row, row-body}
 
 -- Lists of one at most.
@@ -107,8 +107,8 @@ module _ (e : Elab) (clean : IsClean e) (rows : List Row) (are : AreRows e rows)
     among : In (members_at (lineages_of e) b) of-row.0
     among = row-body e clean rows are i x at of-row.0 of-row.1 b body
 
-  found-element : (name index : List ℕ) → option_to_list (option_and_then (slice_get (lineages_of e)) (row_of m.elements (record { body = b; name = name; index = index }))) ≡ filter (λ l. is_element name index l.node) (members_at (lineages_of e) b)
-  found-element name index = by (row_of m.elements key) (firsts.elements_ key)
+  found-element : (name index : List ℕ) → option_to_list (option_and_then (slice_get (lineages_of e)) (first_under m.elements (record { body = b; name = name; index = index }))) ≡ filter (λ l. is_element name index l.node) (members_at (lineages_of e) b)
+  found-element name index = by (first_under m.elements key) (firsts.elements_ key)
     where
       key : Key
       key = record { body = b; name = name; index = index }
@@ -136,8 +136,8 @@ module _ (e : Elab) (clean : IsClean e) (rows : List Row) (are : AreRows e rows)
       by None q = sym (none-only kept (nowhere (sym q)))
       by (Some r) q = here r (first-some (has_key element_key e.count key) rows r (sym q))
 
-  found-name : (name : List ℕ) → is_some (row_of m.names (record { body = b; name = name; index = [] })) ≡ list_any (λ l. is_named name l.node) (members_at (lineages_of e) b)
-  found-name name = by (row_of m.names key) (firsts.names_ key)
+  found-name : (name : List ℕ) → is_some (first_under m.names (record { body = b; name = name; index = [] })) ≡ list_any (λ l. is_named name l.node) (members_at (lineages_of e) b)
+  found-name name = by (first_under m.names key) (firsts.names_ key)
     where
       key : Key
       key = record { body = b; name = name; index = [] }
@@ -157,7 +157,7 @@ module _ (e : Elab) (clean : IsClean e) (rows : List Row) (are : AreRows e rows)
       by None q = sym (any-nowhere (λ l. is_named name l.node) (members_at (lineages_of e) b) (nowhere (sym q)))
       by (Some r) q = sym (here r (first-some (has_key name_key e.count key) rows r (sym q)))
 
-within : (e : Elab) (rows : List Row) → IsClean e → AreRows e rows → (m : Members) → AreFirst e.count rows m → (key : Key) (k : ℕ) → row_of m.elements key ≡ Some k → k < e.count
+within : (e : Elab) (rows : List Row) → IsClean e → AreRows e rows → (m : Members) → AreFirst e.count rows m → (key : Key) (k : ℕ) → first_under m.elements key ≡ Some k → k < e.count
 within e rows clean are m firsts key k h =
     let r = first-some (has_key element_key e.count key) rows k (sym (firsts.elements_ key) ∙ h) in
     let l = row-at e rows are r.0 r.1 r.2 in

@@ -17,7 +17,8 @@ use Rattle.rdl_values.specs.Parts.{dims_of, is_empty}
 use Rattle.rdl_values.specs.Paths.{in_node, path_in}
 use Rattle.rdl_values.specs.Uses.{Seen, parent_of}
 use Rattle.rdl_values.specs.Values.{Outcome}
-use Rattle.rdl_values.proofs.Given.{IsChildOf, children-given, each-flat_map, each-map, seen-parents}
+use Rattle.rdl_values.proofs.Given.{IsChildOf, children-given, each-map, seen-parents}
+use Rattle.plain_lemmas.proofs.Lists.{each-flat_map}
 use Rattle.rdl_layers.specs.Fields.{is_a}
 use Rattle.rdl_addr.proofs.Covers.{child_held}
 use Rattle.rdl_nodes.proofs.Members.{In, each-in, flat-in}

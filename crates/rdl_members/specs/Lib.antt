@@ -1,4 +1,3 @@
 pub mod Covered
 pub mod Found
-pub mod Keyed
 pub mod Listed

@@ -1,11 +1,10 @@
 -- The first of a list of rows under a key.
-use Rattle.std.specs.Prelude.{◌≡◌, ℕ, Bool, false, cond, List, [], ◌∷◌, Option, None, Some}
-use Rattle.std.specs.Option.{option_or}
+use Rattle.std.specs.Prelude.{◌≡◌, ℕ, Bool, false, cond, List, [], ◌∷◌, ◌++◌, Option, None, Some}
 use Rattle.rdl_tree.specs.declared.item.Kind.{Kind}
 use Rattle.rdl_tree.specs.declared.item.Kind.TheVariants as kind
 use Rattle.rdl_tree.specs.declared.node.Node.{out-Node}
 use Rattle.rdl_nodes.specs.declared.table.Row.{Row}
-use Rattle.rdl_members.specs.Keyed.{Key, row_of, same_key}
+use Rattle.rdl_nodes.specs.Keyed.{Key, first_under, nodes_under, same_key}
 use Rattle.rdl_members.specs.declared.table.Members.{Members}
 
 -- the body of the node that it stands in, or the root's, where it is a signal
@@ -36,12 +35,12 @@ abbrev pub first_row : (Row → Bool) → List Row → Option ℕ
 first_row has [] = None
 first_row has (x ∷ xs) = cond (has x) (Some (out-Node x.node.now).id) (first_row has xs)
 
--- A row is added, where none is there under its key.
+-- A row is added under its keys.
 pub record AddsRow (root : ℕ) (x : Row) (old new : Members) : Type 0 where
-  pub elements_ : (k : Key) → row_of new.elements k ≡ option_or (row_of old.elements k) (cond (has_key element_key root k x) (Some (out-Node x.node.now).id) None)
-  pub names_ : (k : Key) → row_of new.names k ≡ option_or (row_of old.names k) (cond (has_key name_key root k x) (Some (out-Node x.node.now).id) None)
+  pub elements_ : (k : Key) → nodes_under new.elements k ≡ nodes_under old.elements k ++ cond (has_key element_key root k x) ((out-Node x.node.now).id ∷ []) []
+  pub names_ : (k : Key) → nodes_under new.names k ≡ nodes_under old.names k ++ cond (has_key name_key root k x) ((out-Node x.node.now).id ∷ []) []
 
 -- The first rows under each key.
 pub record AreFirst (root : ℕ) (rows : List Row) (m : Members) : Type 0 where
-  pub elements_ : (k : Key) → row_of m.elements k ≡ first_row (has_key element_key root k) rows
-  pub names_ : (k : Key) → row_of m.names k ≡ first_row (has_key name_key root k) rows
+  pub elements_ : (k : Key) → first_under m.elements k ≡ first_row (has_key element_key root k) rows
+  pub names_ : (k : Key) → first_under m.names k ≡ first_row (has_key name_key root k) rows

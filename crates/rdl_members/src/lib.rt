@@ -1,7 +1,6 @@
 //! The nodes of a tree by the body that they are in and their names, and which fields have a view with a property.
 #![tactic(auto)]
 
-mod keys;
 mod over_views;
 mod table;
 mod view_table;

@@ -14,7 +14,7 @@ use crate::table::Members;
 use rdl_fields::primary;
 use rdl_nodes::Row;
 
-fn row_of<'a>(rows: &[Row<'a>], node: u32) -> Option<Row<'a>>
+fn first_of<'a>(rows: &[Row<'a>], node: u32) -> Option<Row<'a>>
     ensures { result ≡ slice_get rows.now node }
 {
     rows.get(node as usize).copied()
@@ -30,7 +30,7 @@ fn over(members: &Members<'_>, rows: &[Row<'_>], row: &Row<'_>) -> Option<u32>
         return None;
     }
     let parent = row.parent?;
-    let alias = row_of(rows, parent)?;
+    let alias = first_of(rows, parent)?;
     let primary = primary(&alias)?;
     members.find(primary, row.node.name, row.node.index)
 }

@@ -6,9 +6,8 @@ ghost use Rattle.rdl_nodes.specs.Rows.{AreRows};
 ghost use Rattle.rdl_members.specs.Found.{AreMembersOf};
 ghost use Rattle.rdl_members.specs.Listed.{body_by};
 
-use crate::keys::Keys;
 use rb_base::NoMemory;
-use rdl_nodes::Row;
+use rdl_nodes::{NodeIndex, Row};
 use rdl_tree::{Elab, Kind};
 use std::alloc::Global;
 
@@ -16,8 +15,8 @@ use std::alloc::Global;
 /// the node's, and that of the root's the count of nodes.
 #[derive(Drop)]
 pub struct Members<'a> {
-    pub(crate) elements: Keys<'a>,
-    pub(crate) names: Keys<'a>,
+    pub(crate) elements: NodeIndex<'a>,
+    pub(crate) names: NodeIndex<'a>,
 }
 
 /// The number of the body that a node is in: of the node that it stands in, or the root's, where it is a signal. The top is in none.
@@ -45,7 +44,7 @@ impl<'a> Members<'a> {
         ensures found { (e : AnyElab) → AreMembersOf e self.now → body ≤ e.count
             → option_to_list (option_and_then (slice_get (lineages_of e)) result) ≡ filter (λ l. is_element name.now index.now l.node) (members_at (lineages_of e) body) }
     {
-        self.elements.find(body, name, index)
+        self.elements.first(body, name, index)
     }
 
     /// Whether a node in a body has this name.
@@ -53,11 +52,11 @@ impl<'a> Members<'a> {
         ensures { (e : AnyElab) → AreMembersOf e self.now → body ≤ e.count → result ≡ list_any (λ l. is_named name.now l.node) (members_at (lineages_of e) body) }
     {
         let none: &[u64] = &[];
-        self.names.find(body, name, none).is_some()
+        self.names.first(body, name, none).is_some()
     }
 
     /// Adds a row, where the root's body has this number.
-    fn add(&mut self, row: &Row<'a>, root: u32) -> Result<(), NoMemory>
+    fn add(&mut self, alloc: Global, row: &Row<'a>, root: u32) -> Result<(), NoMemory>
         ensures { OnOk result (AddsRow root row.now self.old self.new) }
     {
         let Some(body) = body_of(row.parent, row.node.kind, root) else {
@@ -65,8 +64,9 @@ impl<'a> Members<'a> {
         };
         let node = row.node;
         let none: &'a [u64] = &[];
-        self.elements.put(body, node.name, node.index, node.id)?;
-        self.names.put(body, node.name, none, node.id)
+        self.elements
+            .put(alloc, body, node.name, node.index, node.id)?;
+        self.names.put(alloc, body, node.name, none, node.id)
     }
 }
 
@@ -81,11 +81,11 @@ pub fn members_of<'a>(
     ensures { IfOk result (AreMembersOf elab.now) }
 {
     let mut members = Members {
-        elements: Keys::new(alloc),
-        names: Keys::new(alloc),
+        elements: NodeIndex::new(alloc),
+        names: NodeIndex::new(alloc),
     };
     for row in rows {
-        members.add(row, elab.count)?;
+        members.add(alloc, row, elab.count)?;
     }
     Ok(members)
 }

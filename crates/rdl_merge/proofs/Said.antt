@@ -12,7 +12,7 @@ use Rattle.rdl_layers.specs.Ranks.{is_related}
 use Rattle.rdl_layers.specs.Says.{Says}
 use Rattle.rdl_layers.specs.Settings.{Applied, applied, applied_to, deciding_of, is_false, meaning_of_default, setting, setting_or, settled, settled_if}
 use Rattle.rdl_layers.specs.Tables.{decided_in, default_in, is_false_set, set_of_default, setting_in, settled_by, settled_or}
-use Rattle.rdl_layers.specs.declared.props.Entry.{Entry}
+use Rattle.rdl_layers.specs.declared.props.PropSetting.{PropSetting}
 use Rattle.rdl_layers.specs.declared.rank.Rank.TheVariants as rank
 use Rattle.rdl_layers.specs.declared.setting.Setting.{Setting}
 use Rattle.rdl_layers.specs.declared.setting.Setting.TheVariants as set
@@ -30,7 +30,7 @@ false-same all (set.Flag a) m h = absurd h
 false-same all s (flag b) h = absurd h
 false-same all s m h = refl
 
-says-settled : (all : List Instance) (p : Prop) (e : Entry) (a : Applied) → IsEntry all e a → Says all (settled_by p e) (settled p a)
+says-settled : (all : List Instance) (p : Prop) (e : PropSetting) (a : Applied) → IsEntry all e a → Says all (settled_by p e) (settled p a)
 says-settled all p e a h =
     subst (λ q. Says all (settled_by p e) (cond (same_prop p q && not (is_some (group_of p) && is_false a.value)) a.value unset)) (sym h.prop)
     (subst (λ b. Says all (settled_by p e) (cond (same_prop p e.prop && not (is_some (group_of p) && b)) a.value unset)) (false-same all e.setting a.value h.says) (go (same_prop p e.prop && not (is_some (group_of p) && is_false_set e.setting))))
@@ -54,13 +54,13 @@ no-false-group : (p : Prop) → (is_some (group_of p) && is_false (meaning_of_de
 no-false-group prop.Name = refl
 no-false-group p = refl
 
-says_decided : FirstDecides → (all : List Instance) (n : Instance) (es : List Entry) → AreEntries all es (applied_to n) → (p : Prop) (ds : Setting) (dm : Meaning) → Says all ds dm → (is_some (group_of p) && is_false dm) ≡ false → Says all (decided_in p ds es) (setting_or dm n p)
+says_decided : FirstDecides → (all : List Instance) (n : Instance) (es : List PropSetting) → AreEntries all es (applied_to n) → (p : Prop) (ds : Setting) (dm : Meaning) → Says all ds dm → (is_some (group_of p) && is_false dm) ≡ false → Says all (decided_in p ds es) (setting_or dm n p)
 says_decided law all n es h p ds dm says unset_by = subst (λ o. Says all (decided_in p ds es) (settled_if p o)) (sym (law n p dm ∙ find-append (λ a. is_related p a.candidate.prop) (applied_to n) (applied rank.Table p dm ∷ []))) (go (find (λ e. is_related p e.prop) es) (find (λ a. is_related p a.candidate.prop) (applied_to n)) (h.first p))
   where
     last : find (λ a. is_related p a.candidate.prop) (applied rank.Table p dm ∷ []) ≡ Some (applied rank.Table p dm)
     last = ap (λ b. cond b (Some (applied rank.Table p dm)) None) (related-itself p)
 
-    go : (o : Option Entry) (x : Option Applied) → Tells all o x → Says all (settled_or p ds o) (settled_if p (option_or x (find (λ a. is_related p a.candidate.prop) (applied rank.Table p dm ∷ []))))
+    go : (o : Option PropSetting) (x : Option Applied) → Tells all o x → Says all (settled_or p ds o) (settled_if p (option_or x (find (λ a. is_related p a.candidate.prop) (applied rank.Table p dm ∷ []))))
     go (Some e) (Some a) t = says-settled all p e a t
     go None None t = subst (λ y. Says all ds (settled_if p y)) (sym last) (subst (Says all ds) (sym (default-settled p dm unset_by)) says)
     go None (Some a) t = absurd t
@@ -71,7 +71,7 @@ unfolding setting
 other_setting n prop.Accesswidth h = absurd (h refl)
 other_setting n p h = refl
 
-other_entry : (p : Prop) (es : List Entry) → (p ≡ prop.Accesswidth → ⊥) → decided_in p (default_in p) es ≡ setting_in p es
+other_entry : (p : Prop) (es : List PropSetting) → (p ≡ prop.Accesswidth → ⊥) → decided_in p (default_in p) es ≡ setting_in p es
 other_entry prop.Accesswidth es h = absurd (h refl)
 other_entry p es h = refl
 
@@ -79,7 +79,7 @@ width_setting : (n : Instance) → setting_or (setting_or (meaning_of_default (d
 unfolding setting
 width_setting n = refl
 
-pub says_all : FirstDecides → (all : List Instance) (n : Instance) (es : List Entry) → AreEntries all es (applied_to n) → (p : Prop) → Says all (setting_in p es) (setting n p)
+pub says_all : FirstDecides → (all : List Instance) (n : Instance) (es : List PropSetting) → AreEntries all es (applied_to n) → (p : Prop) → Says all (setting_in p es) (setting n p)
 says_all law all n es h p = go (same_prop p prop.Accesswidth) refl
   where
     of_default : (q : Prop) → Says all (decided_in q (default_in q) es) (setting_or (meaning_of_default (default_of q)) n q)

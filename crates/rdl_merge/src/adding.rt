@@ -8,18 +8,21 @@ ghost use Rattle.rdl_layers.specs.Settings.{Applied};
 ghost use Rattle.rdl_merge.specs.Merged.{AreEntries, IsEntry};
 
 use rb_base::NoMemory;
-use rdl_layers::Entry;
+use rdl_layers::PropSetting;
 use rdl_props::Prop;
 
 /// Whether an entry is one of the property.
-pub fn has_entry(entries: &[Entry], prop: Prop) -> bool
+pub fn has_entry(entries: &[PropSetting], prop: Prop) -> bool
     ensures { result ≡ list_any (λ e. same_prop prop e.prop) entries.now }
 {
     entries.iter().any(|entry| prop == entry.prop)
 }
 
 /// Puts an entry behind the others, where none of them is one of its property: so there are no more entries than properties.
-pub fn add_entry<'a>(entries: &mut Vec<Entry<'a>>, entry: Entry<'a>) -> Result<(), NoMemory>
+pub fn add_entry<'a>(
+    entries: &mut Vec<PropSetting<'a>>,
+    entry: PropSetting<'a>,
+) -> Result<(), NoMemory>
     ensures { OnOk result ((all : List Instance) (xs : List Applied) (a : Applied) → AreEntries all entries.old.items xs → IsEntry all entry.entry a → AreEntries all entries.new.items (xs ++ (a ∷ []))) }
 {
     if has_entry(entries, entry.prop) {

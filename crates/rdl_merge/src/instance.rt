@@ -15,14 +15,14 @@ ghost use Rattle.rdl_merge.specs.Merged.{AreEntries};
 use crate::adding::add_entry;
 use rb_base::NoMemory;
 use rdl_failures::number_seen;
-use rdl_layers::{Entry, Setting};
+use rdl_layers::{PropSetting, Setting};
 use rdl_props::Prop;
 use rdl_tree::Expr;
 use rdl_values::Chain;
 
 // Puts a reset value behind the others, if it has a number.
 fn add_value<'a>(
-    entries: &mut Vec<Entry<'a>>,
+    entries: &mut Vec<PropSetting<'a>>,
     value: &Expr<'a>,
     visible: &Chain<'_, '_, '_, 'a>,
 ) -> Result<(), NoMemory>
@@ -32,7 +32,7 @@ fn add_value<'a>(
     match number_seen(value, visible) {
         Ok(number) => add_entry(
             entries,
-            Entry {
+            PropSetting {
                 prop: Prop::Reset,
                 setting: Setting::Number(number),
             },
@@ -44,7 +44,7 @@ fn add_value<'a>(
 /// Puts the value that an instance has of its own behind the others: a reset value, if there is one and it has a number (SystemRDL
 /// 2.0, 9.5). It sees the names of the body that the instance stands in.
 pub fn add_reset<'a>(
-    entries: &mut Vec<Entry<'a>>,
+    entries: &mut Vec<PropSetting<'a>>,
     reset: Option<&Expr<'a>>,
     visible: &Chain<'_, '_, '_, 'a>,
 ) -> Result<(), NoMemory>

@@ -6,7 +6,7 @@ ghost use Rattle.rdl_values.specs.Instances.{Instance};
 ghost use Rattle.rdl_layers.specs.Says.{Says};
 ghost use Rattle.rdl_layers.specs.Settings.{applied_to, setting};
 ghost use Rattle.rdl_layers.specs.Tables.{setting_in};
-ghost use Rattle.rdl_layers.specs.declared.props.Entry.{Entry};
+ghost use Rattle.rdl_layers.specs.declared.props.PropSetting.{PropSetting};
 ghost use Rattle.rdl_merge.specs.Merged.{AreEntries};
 
 use rdl_layers::first_related_decides;
@@ -14,7 +14,7 @@ use rdl_layers::first_related_decides;
 /// No entries tell of no assignments. Entries that tell of all that apply to a node say what each of its properties is set to.
 pub fn entries_say()
     ensures none { (all : List Instance) → AreEntries all [] [] }
-    ensures settings { (all : List Instance) (n : Instance) (es : List Entry) → AreEntries all es (applied_to n) → (p : Prop) → Says all (setting_in p es) (setting n p) }
+    ensures settings { (all : List Instance) (n : Instance) (es : List PropSetting) → AreEntries all es (applied_to n) → (p : Prop) → Says all (setting_in p es) (setting n p) }
 {
     first_related_decides();
 }

@@ -12,24 +12,28 @@ ghost use Rattle.rdl_merge.specs.Merged.{AreEntries, AreIn, GivesEntry};
 
 use crate::adding::add_entry;
 use rb_base::NoMemory;
-use rdl_assignments::{Given, moved, settings_say};
-use rdl_layers::Entry;
+use rdl_assignments::{ValidAssignment, moved, settings_say};
+use rdl_layers::PropSetting;
 use rdl_props::legal;
 use rdl_tree::Kind;
 
 // What an assignment gives, in the body of this number.
-fn entry_of<'a>(one: &Given<'a>, body: u32) -> Entry<'a>
+fn entry_of<'a>(one: &ValidAssignment<'a>, body: u32) -> PropSetting<'a>
     ensures { (all : List Instance) (judged : ℕ) (a : Assignment) (rank : Rank) → IsGiven judged one.now a → IsScopeNumber all a.scope body → GivesEntry all result rank a }
 {
     settings_say();
-    Entry {
+    PropSetting {
         prop: one.prop,
         setting: moved(one.setting, body),
     }
 }
 
 // Puts what an assignment gives behind the others.
-fn add_one<'a>(entries: &mut Vec<Entry<'a>>, one: &Given<'a>, body: u32) -> Result<(), NoMemory>
+fn add_one<'a>(
+    entries: &mut Vec<PropSetting<'a>>,
+    one: &ValidAssignment<'a>,
+    body: u32,
+) -> Result<(), NoMemory>
     ensures { OnOk result ((all : List Instance) (xs : List Applied) (judged : ℕ) (a : Assignment) (rank : Rank) → IsGiven judged one.now a → IsScopeNumber all a.scope body
         → AreEntries all entries.old.items xs → AreEntries all entries.new.items (xs ++ gives rank a)) }
 {
@@ -38,8 +42,8 @@ fn add_one<'a>(entries: &mut Vec<Entry<'a>>, one: &Given<'a>, body: u32) -> Resu
 
 // The same of a default, if it is legal on the kind.
 fn add_default<'a>(
-    entries: &mut Vec<Entry<'a>>,
-    one: &Given<'a>,
+    entries: &mut Vec<PropSetting<'a>>,
+    one: &ValidAssignment<'a>,
     kind: Kind,
     body: u32,
 ) -> Result<(), NoMemory>
@@ -55,8 +59,8 @@ fn add_default<'a>(
 
 /// Puts what the assignments of a layer give behind the others. They stand in the body of this number, whichever they were judged in.
 pub fn add_given<'a>(
-    entries: &mut Vec<Entry<'a>>,
-    given: &[Given<'a>],
+    entries: &mut Vec<PropSetting<'a>>,
+    given: &[ValidAssignment<'a>],
     body: u32,
 ) -> Result<(), NoMemory>
     ensures { OnOk result ((all : List Instance) (xs : List Applied) (judged : ℕ) (assigned : List Assignment) (rank : Rank) → AreGiven judged given.now assigned → AreIn all body assigned
@@ -70,8 +74,8 @@ pub fn add_given<'a>(
 
 /// The same of defaults, of which those have an effect that are legal on the node's kind.
 pub fn add_defaults<'a>(
-    entries: &mut Vec<Entry<'a>>,
-    given: &[Given<'a>],
+    entries: &mut Vec<PropSetting<'a>>,
+    given: &[ValidAssignment<'a>],
     kind: Kind,
     body: u32,
 ) -> Result<(), NoMemory>

@@ -12,7 +12,7 @@ use crate::settings::number_in;
 use rb_base::{NoMemory, Place};
 use rdl_base::Rule;
 use rdl_failures::Failures;
-use rdl_layers::Entry;
+use rdl_layers::PropSetting;
 use rdl_props::Prop;
 
 // P9: no register has this width.
@@ -31,7 +31,7 @@ fn is_bad_access(width: u64, access: u64) -> bool
 
 /// Puts in P9 and P10 of a register, whose name stands at the place, from what decides its properties.
 pub fn judge_register(
-    entries: &[Entry],
+    entries: &[PropSetting],
     place: Place,
     failures: &mut Failures,
 ) -> Result<(), NoMemory>

@@ -9,11 +9,11 @@ ghost use Rattle.rdl_merge.specs.Merged.{AreEntries};
 
 use crate::adding::has_entry;
 use crate::laws::entries_say;
-use rdl_layers::{Entry, Setting, setting_of};
+use rdl_layers::{PropSetting, Setting, setting_of};
 use rdl_props::Prop;
 
 /// The number that a property is set to, 0 where there is none.
-pub(crate) fn number_in(entries: &[Entry], prop: Prop) -> u64
+pub(crate) fn number_in(entries: &[PropSetting], prop: Prop) -> u64
     ensures { (all : List Instance) (n : Instance) → AreEntries all entries.now (applied_to n) → result ≡ number_at n prop }
 {
     entries_say();
@@ -24,7 +24,7 @@ pub(crate) fn number_in(entries: &[Entry], prop: Prop) -> u64
 }
 
 /// The number that an assignment gives, whichever; the table's default is no assignment.
-pub(crate) fn assigned_number(entries: &[Entry], prop: Prop) -> Option<u64>
+pub(crate) fn assigned_number(entries: &[PropSetting], prop: Prop) -> Option<u64>
     ensures { (all : List Instance) (n : Instance) → AreEntries all entries.now (applied_to n) → option_to_list result ≡ when (is_assigned n prop) (number_at n prop) }
 {
     if has_entry(entries, prop) {

@@ -17,7 +17,7 @@ use crate::texts::{form_widths, range_seen};
 use rb_base::{NoMemory, Place};
 use rdl_base::Rule;
 use rdl_failures::Failures;
-use rdl_layers::Entry;
+use rdl_layers::PropSetting;
 use rdl_props::Prop;
 use rdl_tree::{Inst, Kind};
 use rdl_values::Chain;
@@ -79,7 +79,7 @@ pub fn judge_unit<'a>(
     inst: &Inst<'a>,
     kind: Kind,
     place: Place,
-    entries: &[Entry],
+    entries: &[PropSetting],
     visible: &Chain<'_, '_, '_, 'a>,
     failures: &mut Failures,
 ) -> Result<(), NoMemory>
@@ -107,7 +107,7 @@ pub fn unit_width<'a>(
     alloc: Global,
     inst: &Inst<'a>,
     kind: Kind,
-    entries: &[Entry],
+    entries: &[PropSetting],
     visible: &Chain<'_, '_, '_, 'a>,
 ) -> Result<u64, NoMemory>
     ensures narrow { IfOk result (λ width. width ≤ 64) }

@@ -3,9 +3,8 @@ use Rattle.std.proofs.Common.{◌≡◌, ◌≢◌, ℕ, zero, suc, ◌<◌, Lis
 use Rattle.std.specs.List.{AllByRecursion, AllPairs}
 use Rattle.std.proofs.lemmas.List.Elements.{All-from_recursion}
 use Rattle.std.proofs.lemmas.List.Kept.{AllPairs-cons}
-use Rattle.plain_lemmas.proofs.Lists.{each-both as both}
+use Rattle.plain_lemmas.proofs.Lists.{each-append, each-both as both, each-flat_map, each-imp}
 use Rattle.rdl_values.specs.Instances.{upto, rows}
-use Rattle.rdl_values.proofs.Given.{each-append, each-flat_map, each-imp}
 
 -- each is related to all behind it
 abbrev pub Apart : {X : Type 0} → (X → X → Type 0) → List X → Type 0

@@ -8,7 +8,7 @@ use Rattle.rdl_tree.specs.declared.item.Inst.{Inst}
 use Rattle.rdl_tree.specs.declared.item.Insts.{Insts}
 use Rattle.rdl_tree.specs.Tree.{DerivesListed, DerivesShape, DerivesInst, DerivesInsts, DerivesMade, DerivesItem, DerivesDef, DerivesBody, DerivesItems}
 use Rattle.rdl_tree.specs.Tree as tree
-use Rattle.rdl_values.proofs.Copied.{some_copied}
+use Rattle.plain_lemmas.proofs.Options.{some_copied}
 use Rattle.rdl_nodes.specs.Single.{HasSingleForm, HaveSingleForms, AreSingle, IsSingle}
 use Rattle.rdl_nodes.specs.Single as single
 

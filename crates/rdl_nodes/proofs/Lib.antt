@@ -1,6 +1,7 @@
 mod Adding
 pub mod Apart
 mod Derived
+pub mod Keyed
 pub mod Lineages
 pub mod Members
 mod Nodes

@@ -7,7 +7,8 @@ use Rattle.rdl_values.specs.NoNode.{is_signal, may_hold}
 use Rattle.rdl_values.specs.Paths.{path_in}
 use Rattle.rdl_values.specs.Instances.{Instance, children, kind_of, signals, top_of, nodes, most_names}
 use Rattle.rdl_values.specs.Lineages.{Lineage, alone, lineages, lineages_below}
-use Rattle.rdl_values.proofs.Given.{IsAtRoot, each-append, held, signals-given, tops-given}
+use Rattle.rdl_values.proofs.Given.{IsAtRoot, held, signals-given, tops-given}
+use Rattle.plain_lemmas.proofs.Lists.{each-append}
 use Rattle.rdl_values.proofs.Numbered.{At, Deep, bottom, lower}
 use Rattle.rdl_nodes.proofs.Lineages.{all_nodes}
 use Rattle.rdl_nodes.proofs.Paths.{paths_differ}

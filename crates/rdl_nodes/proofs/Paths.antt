@@ -22,7 +22,8 @@ use Rattle.rdl_values.specs.Uses.{Use, Seen, seen, uses, parent_of, values}
 use Rattle.rdl_values.specs.Values.{Outcome}
 use Rattle.rdl_values.specs.Views.{item_is}
 use Rattle.rdl_values.proofs.Clean.{nearest_is, unreversed}
-use Rattle.rdl_values.proofs.Given.{each-flat_map, each-imp, none_in, when_none, given-all, children-given, signals-given, tops-given, IsChildOf, IsAtRoot}
+use Rattle.rdl_values.proofs.Given.{none_in, when_none, given-all, children-given, signals-given, tops-given, IsChildOf, IsAtRoot}
+use Rattle.plain_lemmas.proofs.Lists.{each-flat_map, each-imp}
 use Rattle.rdl_nodes.proofs.Apart.{Apart, Across, pairs, all-of, across, apart-append, apart-flat_map, apart-map, apart-imp, apart-rows}
 
 abbrev pub Differ : Instance → Instance → Type 0

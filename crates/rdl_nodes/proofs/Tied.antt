@@ -10,7 +10,8 @@ use Rattle.rdl_values.specs.Lineages.{Lineage, alone, lineages, lineages_below}
 use Rattle.rdl_values.specs.NoNode.{may_hold, is_signal}
 use Rattle.rdl_values.specs.Paths.{path_in}
 use Rattle.rdl_values.specs.Bodies.{of_signal}
-use Rattle.rdl_values.proofs.Given.{each-imp, IsAtRoot, held, signals-given}
+use Rattle.rdl_values.proofs.Given.{IsAtRoot, held, signals-given}
+use Rattle.plain_lemmas.proofs.Lists.{each-imp}
 use Rattle.rdl_values.proofs.Numbered.{At, Deep, bottom, lower, tops_deep}
 use Rattle.rdl_nodes.specs.declared.table.Row.{Row}
 use Rattle.rdl_nodes.specs.Below.{AreBelow, IsBelow, row, no_rows, more_rows}

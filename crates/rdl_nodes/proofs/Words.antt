@@ -3,7 +3,7 @@ use Rattle.std.proofs.Common.{◌≡◌, inl, inr, ℕ, zero, suc, Bool, true, f
 use Rattle.std.specs.List.{AllByRecursion}
 use Rattle.std.specs.Option.{option_or}
 use Rattle.std.proofs.lemmas.List.Elements.{All-from_recursion, recursion_from_All}
-use Rattle.plain_lemmas.proofs.Lists.{each-mapped as mapped}
+use Rattle.plain_lemmas.proofs.Lists.{each-append, each-flat_map, each-imp, each-mapped as mapped}
 use Rattle.rb_base.specs.declared.place.Place.{Place}
 use Rattle.rdl_tree.specs.declared.expr.Name.{Name}
 use Rattle.rdl_tree.specs.declared.item.Def.{Def}
@@ -24,7 +24,7 @@ use Rattle.rdl_values.specs.Values.{nearest}
 use Rattle.rdl_values.specs.Views as view
 use Rattle.rdl_values.specs.Views.{ItemIs, item_is, item_is-Def}
 use Rattle.rdl_values.proofs.Clean.{nearest_is, unreversed}
-use Rattle.rdl_values.proofs.Given.{each-append, each-flat_map, each-imp, given-all}
+use Rattle.rdl_values.proofs.Given.{given-all}
 
 -- Items.
 

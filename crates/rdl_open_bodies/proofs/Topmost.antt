@@ -27,7 +27,8 @@ use Rattle.rdl_values.specs.Parameters.{Bound}
 use Rattle.rdl_values.specs.Values.{Around, Names, Val}
 use Rattle.rdl_values.specs.Views.{item_is}
 use Rattle.rdl_values.proofs.Clean.{Somewhere, nearest_is}
-use Rattle.rdl_values.proofs.Given.{IsAtRoot, each-imp, given-all, held, signals-given}
+use Rattle.rdl_values.proofs.Given.{IsAtRoot, given-all, held, signals-given}
+use Rattle.plain_lemmas.proofs.Lists.{each-imp}
 use Rattle.rdl_values.proofs.Numbered.{At, Deep, bottom}
 use Rattle.rdl_uses.specs.Parts.{StandsAt}
 use Rattle.rdl_bodies.specs.Kept.{AreDistinct, AreKept}

@@ -7,11 +7,12 @@ use Rattle.rdl_tree.specs.declared.item.Insts.{Insts}
 use Rattle.rdl_tree.specs.declared.item.Item.{Item}
 use Rattle.rb_base.specs.declared.place.Place.{Place}
 use Rattle.rdl_values.specs.Bodies as values
-use Rattle.rdl_values.specs.Bodies.{Closure, Scope, around, component, scope_at, standing, standing_from}
+use Rattle.rdl_values.specs.Bodies.{Closure, around, component, scope_at, standing, standing_from}
 use Rattle.rdl_values.specs.Uses.{Seen, Use, form_of, parent_of, seen, uses, uses_of_insts, uses_of_item}
 use Rattle.rdl_values.specs.Views as view
 use Rattle.rdl_values.specs.Views.{ItemIs, item_is}
-use Rattle.rdl_values.proofs.Given.{each-append, each-flat_map, each-map}
+use Rattle.rdl_values.proofs.Given.{each-map}
+use Rattle.plain_lemmas.proofs.Lists.{each-append, each-flat_map}
 use Rattle.rdl_children.proofs.Reached.{SeenReaches, seen_reach}
 use Rattle.rdl_open_bodies.specs.Starts.{AreUsesIn, IsCut}
 use Rattle.rdl_open_bodies.proofs.Cuts.{reached_cut}

@@ -1,8 +1,6 @@
 -- Layers that are judged once.
 use Rattle.std.proofs.Common.{◌≡◌, ◌∙◌, ℕ, zero, suc, ◌+◌, ◌<◌, ◌≤◌, Bool, true, false, nat_eq, List, [], ◌∷◌, ◌++◌, length, get_or, map, take, drop, flat_map, slice_get, option_to_list, Option, None, Some, is_some, Ok, add-one, refl, sym, ap, subst, arith, append_assoc, append-nil}
-use Rattle.std.specs.Borrow.{Bor}
 use Rattle.std.specs.HashMap.{Updates}
-use Rattle.std.specs.Option.{option_copied}
 use Rattle.std.specs.List.{AllByRecursion}
 use Rattle.std.proofs.lemmas.Bool.Decides.{nat_tests}
 use Rattle.std.proofs.lemmas.Grind.{flat_map-append}
@@ -30,7 +28,8 @@ use Rattle.rdl_values.specs.Parameters.{bound_of}
 use Rattle.rdl_values.specs.Seen.{around_of, bound_of as pair_bound}
 use Rattle.rdl_values.specs.Uses.{Seen, Use}
 use Rattle.rdl_values.specs.Values.{Around, Val}
-use Rattle.rdl_values.proofs.Given.{IsAtRoot, IsChildOf, children-given, each-append, each-flat_map, each-imp, given-all, signals-given}
+use Rattle.rdl_values.proofs.Given.{IsAtRoot, IsChildOf, children-given, given-all, signals-given}
+use Rattle.plain_lemmas.proofs.Lists.{each-append, each-flat_map, each-imp}
 use Rattle.rdl_bodies.specs.declared.bodies.Bodies.{Bodies}
 use Rattle.rdl_bodies.specs.declared.bodies.Body.{Body}
 use Rattle.rdl_open_bodies.specs.Spots.{AreSpots, IsOpenAt, IsOpenTree}
@@ -39,10 +38,6 @@ use Rattle.rdl_open_bodies.specs.declared.spots.Spot.{Spot}
 use Rattle.rdl_open_settings.specs.Layered.{AreLayers, AreLayersOf, CanJudge, CanRead, HasLayers, IsKnown, IsLayersOf, layers_at, of_layers, of_nodes}
 use Rattle.rdl_open_settings.specs.declared.layers.Layers.{Layers}
 use Rattle.rdl_open_settings.specs.declared.table.LayerTable.{LayerTable}
-
-pub some_copied : {X : Type 0} (o : Option (Bor X)) → is_some (option_copied o) ≡ is_some o
-some_copied None = refl
-some_copied (Some x) = refl
 
 -- where they are known already
 pub known_again : (t : Bodies) (x : LayerTable) (before : List Fault) (k : ℕ) → AreLayers t before x → is_some (layers_at x k) ≡ true → (b : values.Body) → IsOpenAt t k b → IsKnown t x x before before k b

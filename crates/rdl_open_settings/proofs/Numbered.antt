@@ -11,7 +11,7 @@ use Rattle.rdl_values.specs.Instances.{Instance}
 use Rattle.rdl_values.specs.Parts.{is_empty}
 use Rattle.rdl_values.specs.Views as view
 use Rattle.rdl_values.specs.Views.{ItemIs, item_is}
-use Rattle.rdl_values.proofs.Given.{each-flat_map}
+use Rattle.plain_lemmas.proofs.Lists.{each-flat_map}
 use Rattle.rdl_values.proofs.Numbered.{counted}
 use Rattle.rdl_layers.specs.Assignments.{default_in, defaults_before, local_in, locals}
 use Rattle.rdl_layers.specs.Judged.{sound}

@@ -15,7 +15,7 @@ use Rattle.rdl_failures.specs.Shown.{IsAlike}
 use Rattle.rdl_layers.specs.Assignments.{locals}
 use Rattle.rdl_layers.specs.Judged.{failures_of, legal_on, sound}
 use Rattle.rdl_layers.specs.Settings.{Applied, from_instance}
-use Rattle.rdl_layers.specs.declared.props.Entry.{Entry}
+use Rattle.rdl_layers.specs.declared.props.PropSetting.{PropSetting}
 use Rattle.rdl_assignments.specs.Layers.{AreGiven}
 use Rattle.rdl_merge.specs.Merged.{AreEntries, AreIn}
 use Rattle.rdl_merge.specs.Widths.{IsOfText}
@@ -60,7 +60,7 @@ module _ (e : Elab) (tree : OpenTree) (r : Node) (o : Spot) (n : Instance) (h : 
   pub use_open : slice_get tree.walk.bodies.list.items o.within ≡ None → ⊥
   use_open none = let both : Some h.spot.use_.open_ ≡ None = sym h.spot.use_.here ∙ none in cc
 
-  pub no_reset : (all : List Instance) (es : List Entry) (xs : List Applied) → (out-Node r).inst ≡ None → AreEntries all es xs → AreEntries all es (xs ++ from_instance n.use_)
+  pub no_reset : (all : List Instance) (es : List PropSetting) (xs : List Applied) → (out-Node r).inst ≡ None → AreEntries all es xs → AreEntries all es (xs ++ from_instance n.use_)
   no_reset all es xs none before =
       let nothing : from_instance n.use_ ≡ [] = ap (λ f. from_instance (record n.use_ { form = record n.use_.form { reset = f } })) (no_inst none).1 in
       subst (λ ys. AreEntries all es (xs ++ ys)) (sym nothing) (subst (AreEntries all es) (sym (append-nil xs)) before)

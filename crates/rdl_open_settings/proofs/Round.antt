@@ -15,10 +15,10 @@ use Rattle.rdl_layers.specs.Meanings.{Assignment}
 use Rattle.rdl_layers.specs.Settings.{Applied, from_defaults, gives}
 use Rattle.rdl_layers.specs.declared.rank.Rank.{Rank}
 use Rattle.rdl_layers.specs.declared.rank.Rank.TheVariants as rank
-use Rattle.rdl_layers.specs.declared.props.Entry.{Entry}
+use Rattle.rdl_layers.specs.declared.props.PropSetting.{PropSetting}
 use Rattle.rdl_assignments.specs.Defaults.{before_in, seen_behind}
 use Rattle.rdl_assignments.specs.Layers.{AreGiven}
-use Rattle.rdl_assignments.specs.declared.set.Given.{Given}
+use Rattle.rdl_assignments.specs.declared.set.ValidAssignment.{ValidAssignment}
 use Rattle.rdl_merge.specs.Merged.{AreEntries, AreIn}
 use Rattle.rdl_bodies.specs.declared.bodies.Bodies.{Bodies}
 use Rattle.rdl_open_bodies.specs.Spots.{AreSpots, IsBodyAt, IsOpenAt, IsRound, IsSpot}
@@ -100,7 +100,7 @@ module _ (e : Elab) (tree : OpenTree) (x : LayerTable) (count : ℕ) (scene : Is
   abbrev mine : List Applied
   mine = filter (λ a. is_legal a.candidate.prop (kind_of n)) (flat_map (gives (rank.Default distance)) assigned)
 
-  module _ (k : ℕ) (l : Layers) (open_ : IsOpenAt tree.walk.bodies k b) (found : layers_at x k ≡ Some l) (old new : List Entry) (given : List Given) (given_is : given ≡ before_in l.defaults upto)
+  module _ (k : ℕ) (l : Layers) (open_ : IsOpenAt tree.walk.bodies k b) (found : layers_at x k ≡ Some l) (old new : List PropSetting) (given : List ValidAssignment) (given_is : given ≡ before_in l.defaults upto)
       (adds : (all : List Instance) (ys : List Applied) (judged : ℕ) (as' : List Assignment) (r : Rank) → AreGiven judged given as' → AreIn all (number_or round count) as' → AreEntries all old ys
       → AreEntries all new (ys ++ filter (λ y. is_legal y.candidate.prop kind) (flat_map (gives r) as'))) (before : AreEntries (nodes_of e) old xs) where
     step : AreEntries (nodes_of e) new (xs ++ mine)
@@ -128,7 +128,7 @@ module _ (e : Elab) (tree : OpenTree) (x : LayerTable) (count : ℕ) (scene : Is
       outer-is : b.outer ≡ here.0.closure.scope
       outer-is = ap (λ c. c.outer) here.2
 
-      pub next_round : (left : ℕ) (next : Spot) (end_ : List Entry) → length scope ≡ left → left ≢ 0 → slice_get tree.spots.items node ≡ Some next
+      pub next_round : (left : ℕ) (next : Spot) (end_ : List PropSetting) → length scope ≡ left → left ≢ 0 → slice_get tree.spots.items node ≡ Some next
           → ((distance : ℕ) (scope : Scope) (ys : List Applied) → IsRound e next.round next.upto scope → length scope ≡ left - 1 → AreEntries (nodes_of e) new ys → AreEntries (nodes_of e) end_ (ys ++ from_defaults n distance scope))
           → AreEntries (nodes_of e) end_ (xs ++ from_defaults n distance scope)
       next_round left next end_ size some_ next_is rec =

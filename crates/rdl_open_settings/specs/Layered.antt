@@ -17,7 +17,7 @@ use Rattle.rdl_layers.specs.Phase4.{of_enums}
 use Rattle.rdl_layers.specs.Judged.{all_failures, anywhere, failures_of, sound}
 use Rattle.rdl_assignments.specs.Defaults.{AreDefaults}
 use Rattle.rdl_assignments.specs.Layers.{AreGiven}
-use Rattle.rdl_assignments.specs.declared.set.Given.{Given}
+use Rattle.rdl_assignments.specs.declared.set.ValidAssignment.{ValidAssignment}
 use Rattle.rdl_dynamic.specs.Written.{AreWritten}
 use Rattle.rdl_bodies.specs.Kept.{AreDistinct}
 use Rattle.rdl_bodies.specs.Sited.{IsOpenAs}
@@ -52,7 +52,7 @@ pub record CanRead (t : Bodies) (x : Body) : Type 0 where
   pub distinct : AreDistinct [] shown.names.bound
 
 -- these are what the assignments of a body to its nodes give that fail no rule
-abbrev pub AreLocals : Option Kind → List Given → values.Body → Type 0
+abbrev pub AreLocals : Option Kind → List ValidAssignment → values.Body → Type 0
 AreLocals None gs b = Unit {0}
 AreLocals (Some k) gs b = AreGiven 0 gs (sound (failures_of (λ p. is_legal p k)) (locals b))
 

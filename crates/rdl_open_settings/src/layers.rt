@@ -10,7 +10,7 @@ ghost use Rattle.rdl_open_settings.specs.Layered.{AreLocals, CanRead, IsLayersOf
 
 use bumpalo::Bump;
 use rb_base::NoMemory;
-use rdl_assignments::{Defaults, Given, judge_defaults, judge_enums, judge_locals};
+use rdl_assignments::{Defaults, ValidAssignment, judge_defaults, judge_enums, judge_locals};
 use rdl_bodies::{Bodies, Body, table_of};
 use rdl_dynamic::{Written, written_among};
 use rdl_failures::Failures;
@@ -23,7 +23,7 @@ use std::alloc::Global;
 /// assignments among its items, as they are written.
 #[derive(Drop)]
 pub struct Layers<'a> {
-    pub locals: Vec<Given<'a>>,
+    pub locals: Vec<ValidAssignment<'a>>,
     pub defaults: Defaults<'a>,
     pub dynamics: Vec<Written<'a>>,
 }
@@ -35,7 +35,7 @@ fn locals_of<'a>(
     kind: Option<Kind>,
     visible: &Chain<'_, '_, '_, 'a>,
     failures: &mut Failures,
-) -> Result<Vec<Given<'a>>, NoMemory>
+) -> Result<Vec<ValidAssignment<'a>>, NoMemory>
     ensures noted { OnOk result ((b : BodyOf) → b.items ≡ items.now → b.kind ≡ kind → IsShown visible.now (b.names ∷ around b.outer) → failures.new ≡ with_all (of_kind kind b) failures.old) }
     ensures given { IfOk result (λ r. (b : BodyOf) → b.items ≡ items.now → b.kind ≡ kind → IsShown visible.now (b.names ∷ around b.outer) → AreLocals kind r.items b) }
 {

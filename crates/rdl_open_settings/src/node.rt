@@ -18,7 +18,7 @@ use crate::rounds::add_rounds;
 use crate::table::LayerTable;
 use rb_base::NoMemory;
 use rdl_failures::Failures;
-use rdl_layers::Entry;
+use rdl_layers::PropSetting;
 use rdl_merge::{add_given, add_reset, judge_register, judge_unit};
 use rdl_open_bodies::{OpenTree, Spot};
 use rdl_tree::{Kind, Node};
@@ -30,7 +30,7 @@ fn add_own<'a>(
     tree: &OpenTree<'a>,
     node: &Node<'a>,
     spot: &Spot,
-    list: &mut Vec<Entry<'a>>,
+    list: &mut Vec<PropSetting<'a>>,
 ) -> Result<(), NoMemory>
     ensures { OnOk result ((e : Elab) (n : Instance) (xs : List Applied) → IsNode e tree.now node.now spot.now n → AreEntries (nodes_of e) list.old.items xs → AreEntries (nodes_of e) list.new.items (xs ++ from_instance n.use_)) }
 {
@@ -54,7 +54,7 @@ fn add_body<'a>(
     layers: &LayerTable<'a>,
     number: u32,
     spot: &Spot,
-    list: &mut Vec<Entry<'a>>,
+    list: &mut Vec<PropSetting<'a>>,
 ) -> Result<(), NoMemory>
     ensures { OnOk result ((e : Elab) (tree : TreeOf) (count : ℕ) (r : AnyNode) (n : Instance) (xs : List Applied) → IsScene e tree layers.now count → IsNode e tree r spot.now n → (out-Node r).id ≡ number
         → AreEntries (nodes_of e) list.old.items xs → AreEntries (nodes_of e) list.new.items (xs ++ from_body n)) }
@@ -72,7 +72,7 @@ fn judge_unit_of<'a>(
     tree: &OpenTree<'a>,
     node: &Node<'a>,
     spot: &Spot,
-    list: &[Entry<'a>],
+    list: &[PropSetting<'a>],
     failures: &mut Failures,
 ) -> Result<(), NoMemory>
     ensures { OnOk result ((e : Elab) (n : Instance) → ((out-Node node.now).kind ≡ kinds.Field) ⊎ ((out-Node node.now).kind ≡ kinds.Signal) → IsNode e tree.now node.now spot.now n → AreEntries (nodes_of e) list.now (applied_to n)
@@ -99,7 +99,7 @@ fn judge_widths<'a>(
     tree: &OpenTree<'a>,
     node: &Node<'a>,
     spot: &Spot,
-    list: &[Entry<'a>],
+    list: &[PropSetting<'a>],
     failures: &mut Failures,
 ) -> Result<(), NoMemory>
     ensures { OnOk result ((e : Elab) (n : Instance) → IsNode e tree.now node.now spot.now n → AreEntries (nodes_of e) list.now (applied_to n) → failures.new ≡ with_all (of_node n) failures.old) }
@@ -130,7 +130,7 @@ pub fn complete_node<'a>(
     count: u32,
     node: &Node<'a>,
     spot: &Spot,
-    list: &mut Vec<Entry<'a>>,
+    list: &mut Vec<PropSetting<'a>>,
     failures: &mut Failures,
 ) -> Result<(), NoMemory>
     ensures entries { OnOk result ((e : Elab) (n : Instance) → IsScene e tree.now layers.now count → IsNode e tree.now node.now spot.now n → AreEntries (nodes_of e) list.old.items (flat_map (from_above n) (standing n.above)) → AreEntries (nodes_of e) list.new.items (applied_to n)) }

@@ -14,7 +14,7 @@ ghost use Rattle.rdl_open_settings.specs.declared.table.LayerTable.{LayerTable a
 
 use crate::table::LayerTable;
 use rb_base::NoMemory;
-use rdl_layers::Entry;
+use rdl_layers::PropSetting;
 use rdl_merge::add_defaults;
 use rdl_open_bodies::{OpenTree, Spot};
 use rdl_tree::Kind;
@@ -58,7 +58,7 @@ pub(crate) fn add_rounds<'a>(
     kind: Kind,
     spot: &Spot,
     left: usize,
-    list: &mut Vec<Entry<'a>>,
+    list: &mut Vec<PropSetting<'a>>,
 ) -> Result<(), NoMemory>
     ensures { OnOk result ((e : Elab) (n : Instance) (distance : ℕ) (scope : Scope) (xs : List Applied) → IsScene e tree.now layers.now count → kind_of n ≡ kind → IsRound e spot.now.round spot.now.upto scope → length scope ≡ left
         → AreEntries (nodes_of e) list.old.items xs → AreEntries (nodes_of e) list.new.items (xs ++ from_defaults n distance scope)) }

@@ -6,7 +6,7 @@ use Rattle.rb_base.specs.declared.place.Place.{Place}
 use Rattle.rb_grammar.specs.Forms.{Form, Non, ◌or◌, Opt, Many, ◌then◌}
 use Rattle.rdl_tree.specs.declared.expr.Name.{Name}
 use Rattle.rdl_tree.specs.declared.item.Entry.{Entry}
-use Rattle.rdl_tree.specs.declared.item.Given.{Given}
+use Rattle.rdl_tree.specs.declared.item.Assigned.{Assigned}
 use Rattle.rdl_tree.specs.declared.item.Insts.{Insts}
 use Rattle.rdl_tree.specs.declared.item.Set.{Set}
 use Rattle.rdl_tree.specs.declared.token.Mark.{Mark}
@@ -71,7 +71,7 @@ DerivesShapeOf ts us s = DerivesShape ts us s.dims.now (option_copied s.range)
 
 -- [ "=" given ] ";" behind a property
 pub record Sets (prop : Name) (place : Place) (ts us : List Token) (set : Set) : Type 0 where
-  pub value : Option Given
+  pub value : Option Assigned
   pub end : Token
   pub middle : List Token
   pub assigned : DerivesAssigned ts middle value

@@ -19,7 +19,7 @@ use rb_base::{Edge, Place};
 use rb_grammar::Stop;
 use rdl_base::Keyword;
 use rdl_expressions::{Parser, Run, Sort, add};
-use rdl_tree::{Entry, Given, Item, Mark, Name, Set};
+use rdl_tree::{Assigned, Entry, Item, Mark, Name, Set};
 
 // What stands before a property.
 fn edge_of(word: Keyword) -> Edge
@@ -36,20 +36,20 @@ fn edge_of(word: Keyword) -> Edge
 }
 
 // given = expr | a word .
-fn given<'a>(parser: &mut Parser<'a>) -> Result<Given<'a>, Stop>
+fn given<'a>(parser: &mut Parser<'a>) -> Result<Assigned<'a>, Stop>
     ensures tree { IfOk result (DerivesGiven parser.old parser.new) }
-    ensures reads { OnOk result (Same grammar after_expr (Non rules.Given ∷ []) parser.old [] parser.new) }
-    ensures stops { result ≡ Err Stop.Syntax → Stops grammar after_expr (Non rules.Given ∷ []) parser.old parser.new }
+    ensures reads { OnOk result (Same grammar after_expr (Non rules.Assigned ∷ []) parser.old [] parser.new) }
+    ensures stops { result ≡ Err Stop.Syntax → Stops grammar after_expr (Non rules.Assigned ∷ []) parser.old parser.new }
 {
     if let Some((word, _)) = parser.word_of(Sort::Value) {
-        return Ok(Given::Word(word));
+        return Ok(Assigned::Word(word));
     }
     let value = parser.expr()?;
-    Ok(Given::Expr(value))
+    Ok(Assigned::Expr(value))
 }
 
 // [ "=" given ] .
-fn assigned<'a>(parser: &mut Parser<'a>) -> Result<Option<Given<'a>>, Stop>
+fn assigned<'a>(parser: &mut Parser<'a>) -> Result<Option<Assigned<'a>>, Stop>
     ensures tree { IfOk result (DerivesAssigned parser.old parser.new) }
     ensures reads { OnOk result (Same grammar (after_behind marks.Equals) (assigned ∷ []) parser.old [] parser.new) }
     ensures stops { result ≡ Err Stop.Syntax → Stops grammar (after_behind marks.Equals) (assigned ∷ []) parser.old parser.new }

@@ -30,8 +30,8 @@ use Rattle.rdl_addr.specs.Bits.{Bits, bits_from, bits_of}
 use Rattle.rdl_addr.specs.Bits as bits
 use Rattle.rdl_addr.specs.Layout.{Placed, has_address, layout, placed_from, size_of}
 use Rattle.rdl_addr.specs.Rules.{clashes, is_outside, of_bits, too_large}
-use Rattle.rdl_addr.specs.Spots.{bits_at, spot_at}
-use Rattle.rdl_addr.specs.declared.map.Spot.{Spot}
+use Rattle.rdl_addr.specs.Areas.{bits_at, area_at}
+use Rattle.rdl_addr.specs.declared.map.Area.{Area}
 use Rattle.rdl_addr.proofs.Covers.{address_by_kind, child_held}
 use Rattle.rdl_sizes.specs.declared.known.Sizes.{Sizes}
 use Rattle.rdl_sizes.specs.Levels.{levels, mode_under, size_at}
@@ -41,11 +41,11 @@ use Rattle.rdl_sizes.proofs.Settled.{field-width, reg-regwidth}
 use Rattle.rdl_bits.specs.declared.table.BitTable.{BitTable}
 use Rattle.rdl_bits.specs.Tabled.{AreBits, IsBitsOf}
 use Rattle.rdl_bits.specs.Written as written
-use Rattle.rdl_sizes.specs.Addresses.{AreAddresses, IsSpot, address_at}
+use Rattle.rdl_sizes.specs.Addresses.{AreAddresses, IsArea, address_at}
 use Rattle.rdl_bits.proofs.Descending.{at-top, listed-down, top-placed}
 use Rattle.rdl_bits.specs.Failing.{registers_of}
 use Rattle.rdl_bits.proofs.Filtered.{in-kept, kept-in, kept-passes}
-use Rattle.rdl_place.specs.Kept.{AreSpots, narrow, spot}
+use Rattle.rdl_place.specs.Kept.{AreAreas, narrow, area}
 use Rattle.rdl_place.proofs.Bounded.{IsLow, sized}
 use Rattle.rdl_place.proofs.Filled.{most-deep}
 use Rattle.rdl_place.proofs.Fitting.{reach}
@@ -91,12 +91,12 @@ levels-are : (up : List Instance) (d : ℕ) → length up + d ≡ 31 → levels 
 unfolding levels
 levels-are up d e = omega (arith, e)
 
-module _ (e : Elab) (placed : IsPlaced e) (k : ℕ) (l : Lineage) (here : slice_get (lineages_of e) k ≡ Some l) (addressed : has_address l.node ≡ true) (filled : is_filled l.node ≡ true) (at : ℕ) (stands : IsSpot e l at) where
+module _ (e : Elab) (placed : IsPlaced e) (k : ℕ) (l : Lineage) (here : slice_get (lineages_of e) k ≡ Some l) (addressed : has_address l.node ≡ true) (filled : is_filled l.node ≡ true) (at : ℕ) (stands : IsArea e l at) where
   depth : (d : ℕ) × (length l.ancestors + d ≡ 31) × Deep d l.node
   depth = shallow-at (Some (top_name e)) e.source.now k l here
 
   in-layout : (p : Placed) → In (placed_from (suc depth.0) (mode_under l.ancestors) at l.node) p → Contains (layout (Some (top_name e)) e.source.now) p
-  unfolding IsSpot
+  unfolding IsArea
   in-layout p h = stands p (subst (λ n. Contains (placed_from n (mode_under l.ancestors) at l.node) p) (sym (levels-are l.ancestors depth.0 depth.1)) (in-to (placed_from (suc depth.0) (mode_under l.ancestors) at l.node) p h))
 
   low : IsLow (suc depth.0) (mode_under l.ancestors) at l.node
@@ -126,23 +126,23 @@ module _ (e : Elab) (placed : IsPlaced e) (k : ℕ) (l : Lineage) (here : slice_
   own-in : Contains (layout (Some (top_name e)) e.source.now) own
   own-in = in-layout own (inl refl)
 
-  module _ (s : Spot) (size : ℕ) (measured : size ≡ size_at l) (is : s ≡ spot at size) where
+  module _ (s : Area) (size : ℕ) (measured : size ≡ size_at l) (is : s ≡ area at size) where
     pub address-kept : IsAddressAt e k s.address
     address-kept = (own, (node-at e k l here, own-in), sym (ap (λ y. y.address) is ∙ narrow-is at address-low))
 
     pub size-kept : IsSizeAt e k s.size
     size-kept = (own, (node-at e k l here, own-in), sym (ap (λ y. y.size) is ∙ (ap narrow measured ∙ (narrow-is (size_at l) size-low ∙ size-is))))
 
-module _ (e : Elab) (sizes : Sizes) (are : AreSizes e sizes) (as_ : List ℕ) (addresses : AreAddresses e as_) (ss : List Spot) (kept : AreSpots as_ sizes.measures.items ss) where
-  pub as-many-spots : length ss ≡ length (lineages_of e)
-  as-many-spots = kept.many ∙ addresses.many
+module _ (e : Elab) (sizes : Sizes) (are : AreSizes e sizes) (as_ : List ℕ) (addresses : AreAddresses e as_) (ss : List Area) (kept : AreAreas as_ sizes.measures.items ss) where
+  pub as-many-areas : length ss ≡ length (lineages_of e)
+  as-many-areas = kept.many ∙ addresses.many
 
   module _ (placed : IsPlaced e) (k : ℕ) (has : HasAddressAt e k) where
     abbrev found : (l : Lineage) × (slice_get (lineages_of e) k ≡ Some l) × (l.node ≡ has.0)
     found = lineage-at e k has.0 has.1
 
     within : k < length ss
-    within = let low = get-within (lineages_of e) k found.0 found.1 in let many = as-many-spots in omega (arith, low, many)
+    within = let low = get-within (lineages_of e) k found.0 found.1 in let many = as-many-areas in omega (arith, low, many)
 
     with-address : has_address found.0.node ≡ true
     with-address = ap has_address found.2 ∙ has.2
@@ -150,17 +150,17 @@ module _ (e : Elab) (sizes : Sizes) (are : AreSizes e sizes) (as_ : List ℕ) (a
     with-registers : is_filled found.0.node ≡ true
     with-registers = ap is_filled found.2 ∙ has.3
 
-    stands-here : IsSpot e found.0 (address_at as_ k)
-    stands-here = addresses.first.spots k found.0 (let low = get-within (lineages_of e) k found.0 found.1 in let many = addresses.many in omega (arith, low, many)) found.1 with-address
+    stands-here : IsArea e found.0 (address_at as_ k)
+    stands-here = addresses.first.areas k found.0 (let low = get-within (lineages_of e) k found.0 found.1 in let many = addresses.many in omega (arith, low, many)) found.1 with-address
 
     measured-here : (measure_at sizes.measures.items k).size ≡ size_at found.0
     measured-here = (are.sizes k found.0 (omega arith) found.1 with-address).size_
 
-    pub address-at : IsAddressAt e k (spot_at ss k).address
-    address-at = address-kept e placed k found.0 found.1 with-address with-registers (address_at as_ k) stands-here (spot_at ss k) (measure_at sizes.measures.items k).size measured-here (kept.each k within)
+    pub address-at : IsAddressAt e k (area_at ss k).address
+    address-at = address-kept e placed k found.0 found.1 with-address with-registers (address_at as_ k) stands-here (area_at ss k) (measure_at sizes.measures.items k).size measured-here (kept.each k within)
 
-    pub size-at : IsSizeAt e k (spot_at ss k).size
-    size-at = size-kept e placed k found.0 found.1 with-address with-registers (address_at as_ k) stands-here (spot_at ss k) (measure_at sizes.measures.items k).size measured-here (kept.each k within)
+    pub size-at : IsSizeAt e k (area_at ss k).size
+    size-at = size-kept e placed k found.0 found.1 with-address with-registers (address_at as_ k) stands-here (area_at ss k) (measure_at sizes.measures.items k).size measured-here (kept.each k within)
 
 -- Bits.
 

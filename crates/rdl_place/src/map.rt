@@ -29,5 +29,5 @@ pub fn place<'a>(alloc: Global, elab: &Elab<'a>, props: &Props<'a>) -> Result<Ma
     if !list.is_empty() {
         return Err(PhaseError::Faults(list));
     }
-    Ok(Map::of_tables(*elab, laid.spots, laid.bits))
+    Ok(Map::of_tables(*elab, laid.areas, laid.bits))
 }

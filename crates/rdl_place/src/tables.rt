@@ -5,9 +5,9 @@ ghost use Rattle.rdl_values.specs.Elaboration.{IsClean};
 ghost use Rattle.rdl_layers.specs.Answers.{IsSettled};
 ghost use Rattle.rdl_place.specs.Known.{IsKnown};
 
-use crate::spots::spots;
+use crate::areas::areas;
 use rb_base::NoMemory;
-use rdl_addr::Spot;
+use rdl_addr::Area;
 use rdl_base::Fault;
 use rdl_bits::{address_faults, bit_table, bits_are_judged, bodies_are_judged};
 use rdl_layers::Props;
@@ -19,7 +19,7 @@ use std::alloc::Global;
 /// Where nodes stand, the bits of fields, and all failures of the rules on them.
 #[derive(Drop)]
 pub(crate) struct Laid {
-    pub spots: Vec<Spot>,
+    pub areas: Vec<Area>,
     pub bits: Vec<(u8, u8)>,
     pub faults: Vec<Fault>,
 }
@@ -50,9 +50,9 @@ pub(crate) fn lay_out(alloc: Global, elab: &Elab<'_>, props: &Props<'_>) -> Resu
     let mut faults = address_faults(alloc, elab, props, &rows, &addresses)?;
     add_all(&mut faults, &sizes.faults)?;
     add_all(&mut faults, &table.faults)?;
-    let spots = spots(alloc, &addresses, &sizes.measures)?;
+    let areas = areas(alloc, &addresses, &sizes.measures)?;
     Ok(Laid {
-        spots,
+        areas,
         bits: table.bits,
         faults,
     })

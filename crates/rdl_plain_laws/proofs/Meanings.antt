@@ -11,8 +11,8 @@ use Rattle.rdl_tree.specs.declared.expr.Expr.{Expr, Ref}
 use Rattle.rdl_tree.specs.declared.expr.Name.{Name}
 use Rattle.rdl_tree.specs.declared.expr.Path.{Path}
 use Rattle.rdl_tree.specs.declared.expr.Step.{Step}
-use Rattle.rdl_tree.specs.declared.item.Given.{Given}
-use Rattle.rdl_tree.specs.declared.item.Given.TheVariants as given
+use Rattle.rdl_tree.specs.declared.item.Assigned.{Assigned}
+use Rattle.rdl_tree.specs.declared.item.Assigned.TheVariants as given
 use Rattle.rdl_tree_laws.specs.Plain.{plain_name, plain_expr, plain_path, plain_step, plain_given}
 use Rattle.rdl_props.specs.declared.form.Form.{Form}
 use Rattle.rdl_props.specs.declared.form.Form.TheVariants as form
@@ -149,17 +149,17 @@ from_expr-plain f s place (Ref path item) =
     ∙ then_plain (values (around s) (flat_map index (steps_of path))) (λ is. from_path f (plain_scope s) place (plain_path path) (option_map plain_name item)) (λ is. from_path f s place path item) (λ is. from_path-plain f s place path item)
 from_expr-plain f s place e = value-given f s place e
 
-given-plain : (f : Form) (s : Scope) (place : Place) (v : Option Given) → from_given f (plain_scope s) place (option_map plain_given v) ≡ plain_outcome (from_given f s place v)
+given-plain : (f : Form) (s : Scope) (place : Place) (v : Option Assigned) → from_given f (plain_scope s) place (option_map plain_given v) ≡ plain_outcome (from_given f s place v)
 given-plain f s place None = or_clean (from_value f (val.flag true)) rules.P6 place (value_clean f (val.flag true))
 given-plain f s place (Some (given.Word w)) = or_clean (from_word f w) rules.P6 place (word_clean f w)
 given-plain f s place (Some (given.Expr e)) = from_expr-plain f s place e
 
-edge-plain : (f : Form) (place : Place) (e : Edge) (v : Option Given) → from_edge f place e (option_map plain_given v) ≡ plain_outcome (from_edge f place e v)
+edge-plain : (f : Form) (place : Place) (e : Edge) (v : Option Assigned) → from_edge f place e (option_map plain_given v) ≡ plain_outcome (from_edge f place e v)
 edge-plain form.Intr place e None = refl
 edge-plain form.Intr place e (Some g) = refl
 edge-plain _ place e v = refl
 
-as_of : (f : Form) (n : Name) (edge : Option Edge) (v : Option Given) (place : Place) (s : Scope) → meaning_as f (plain_assignment (record { set_ = record { prop = n; edge = edge; value = v; place = place }; scope = s })) ≡ plain_outcome (meaning_as f (record { set_ = record { prop = n; edge = edge; value = v; place = place }; scope = s }))
+as_of : (f : Form) (n : Name) (edge : Option Edge) (v : Option Assigned) (place : Place) (s : Scope) → meaning_as f (plain_assignment (record { set_ = record { prop = n; edge = edge; value = v; place = place }; scope = s })) ≡ plain_outcome (meaning_as f (record { set_ = record { prop = n; edge = edge; value = v; place = place }; scope = s }))
 as_of f n None v place s = given-plain f s place v
 as_of f n (Some e) v place s = edge-plain f place e v
 

@@ -3,11 +3,11 @@
 
 mod aliased;
 mod fields;
-mod mark;
+mod interrupt_outputs;
 mod missing;
 mod named;
 
 pub use aliased::is_in_alias;
-pub use mark::{Mark, marks};
+pub use interrupt_outputs::{InterruptOutputs, marks};
 pub use missing::is_missing;
 pub use named::named_item;

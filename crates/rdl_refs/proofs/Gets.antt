@@ -56,11 +56,6 @@ pub option-cases : {X : Type 0} (o : Option X) → (o ≡ None) ⊎ ((x : X) × 
 option-cases None = inl refl
 option-cases (Some x) = inr (x, refl)
 
-pub any-default : {X : Type 0} (xs : List X) (i : ℕ) (d e : X) → i < length xs → get_or xs i d ≡ get_or xs i e
-any-default [] i d e l = absurd (omega (arith, l))
-any-default (x ∷ xs) zero d e l = refl
-any-default (x ∷ xs) (suc i) d e l = any-default xs i d e (omega (arith, l))
-
 pub some-from : {X : Type 0} (o : Option X) (d : X) → is_some o ≡ true → o ≡ Some (unwrap_or o d)
 some-from None d h = cc h
 some-from (Some x) d h = refl

@@ -2,7 +2,7 @@
 use Rattle.std.proofs.Common.{◌≡◌, ◌∙◌, ◌⊎◌, inl, inr, ℕ, ◌≤◌, Bool, true, false, cond, List, [], ◌∷◌, ◌++◌, length, map, filter, flat_map, bytes_eq, Option, None, Some, option_to_list, Ok, Err, refl, sym, ap, subst, arith, append-nil}
 use Rattle.std.specs.List.{AllByRecursion}
 use Rattle.std.proofs.lemmas.List.{map-append}
-use Rattle.plain_lemmas.proofs.Lists.{bytes_eq-same as same_bytes, each-both as both, each-filter, filter-each as passing}
+use Rattle.plain_lemmas.proofs.Lists.{bytes_eq-same as same_bytes, each-append, each-both as both, each-filter, each-flat_map, each-imp, filter-each as passing}
 use Rattle.plain_lemmas.proofs.Bools.{and-both as both_true}
 use Rattle.rdl_tree.specs.declared.expr.Name.{Name}
 use Rattle.rdl_tree.specs.declared.expr.Step as tree
@@ -22,7 +22,7 @@ use Rattle.rdl_values.specs.Paths.{in_node, path_in}
 use Rattle.rdl_values.specs.Uses.{values, same_name}
 use Rattle.rdl_values.specs.Values.{Around, Outcome}
 use Rattle.rdl_values.specs.Views.{steps_of}
-use Rattle.rdl_values.proofs.Given.{each-append, each-flat_map, each-imp, IsChildOf, IsAtRoot, children-given, signals-given, tops-given, held}
+use Rattle.rdl_values.proofs.Given.{IsChildOf, IsAtRoot, children-given, signals-given, tops-given, held}
 use Rattle.rdl_values.proofs.Numbered.{bottom, At}
 use Rattle.rdl_nodes.proofs.Apart.{Apart, apart-imp}
 use Rattle.rdl_nodes.proofs.Lineages.{all_nodes}

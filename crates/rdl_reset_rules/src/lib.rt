@@ -2,7 +2,6 @@
 #![tactic(auto)]
 
 mod fitting;
-mod listed;
 mod nearest;
 mod references;
 mod reset;

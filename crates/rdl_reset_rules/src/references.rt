@@ -15,14 +15,13 @@ ghost use Rattle.rdl_reset_rules.specs.Judged.{TellsPlace, of_item};
 ghost use Rattle.rdl_reset_rules.specs.Known.{AreKnown};
 
 use crate::fitting::{fits, item_width};
-use crate::listed::reference_props;
 use rb_base::{NoMemory, Place};
 use rdl_base::Rule;
 use rdl_failures::Failures;
 use rdl_layers::{Props, Setting};
 use rdl_nodes::Row;
-use rdl_props::Prop;
-use rdl_ref_items::{Mark, is_in_alias, is_missing, named_item};
+use rdl_props::{Prop, reference_props};
+use rdl_ref_items::{InterruptOutputs, is_in_alias, is_missing, named_item};
 use rdl_refs::{ItemOf, Refs};
 use rdl_rules::Fact;
 
@@ -31,7 +30,7 @@ fn judge_item(
     props: &Props<'_>,
     rows: &[Row<'_>],
     facts: &[Fact],
-    marks: &[Mark],
+    marks: &[InterruptOutputs],
     prop: Prop,
     width: u64,
     place: Place,
@@ -68,7 +67,7 @@ fn judge_prop(
     refs: &Refs<'_>,
     rows: &[Row<'_>],
     facts: &[Fact],
-    marks: &[Mark],
+    marks: &[InterruptOutputs],
     node: u32,
     prop: Prop,
     failures: &mut Failures,
@@ -97,7 +96,7 @@ pub fn judge_references(
     refs: &Refs<'_>,
     rows: &[Row<'_>],
     facts: &[Fact],
-    marks: &[Mark],
+    marks: &[InterruptOutputs],
     node: u32,
     failures: &mut Failures,
 ) -> Result<(), NoMemory>

@@ -62,9 +62,12 @@ at-node e t same n k here p s says a aims =
     let own : Says (nodes_of e) s (setting n p) = subst (λ m. Says (nodes_of e) s (setting m p)) is says.2 in
     subst (λ y. IsAim y p (setting n p) a) (sym same) (aims n (subst (λ y. Contains (nodes_of y) n) same (in-to (nodes_of e) n (place-in (nodes_of e) k n here))) (subst (λ y. Says (nodes_of y) s (setting n p)) same own))
 
-pub props-next : (i : ℕ) (d : Prop) → i < 22 → take (i + 1) reference_props ≡ take i reference_props ++ (get_or reference_props i d ∷ [])
+props-next : (i : ℕ) (d : Prop) → i < 22 → take (i + 1) reference_props ≡ take i reference_props ++ (get_or reference_props i d ∷ [])
 unfolding reference_props
 props-next i d l = take_more reference_props i d l
+
+pub props-next-of : (xs : List Prop) → xs ≡ reference_props → (i : ℕ) (d : Prop) → i < 22 → take (i + 1) reference_props ≡ take i reference_props ++ (get_or xs i d ∷ [])
+props-next-of xs e i d l = subst (λ ys. take (i + 1) reference_props ≡ take i reference_props ++ (get_or ys i d ∷ [])) (sym e) (props-next i d l)
 
 pub props-all : (i : ℕ) → 22 ≤ i → take i reference_props ≡ reference_props
 unfolding reference_props

@@ -1,7 +1,7 @@
 -- Chains of bodies, one more at a time.
 use Rattle.std.proofs.Common.{◌≡◌, ◌∙◌, ℕ, zero, suc, ◌+◌, ◌^◌, ◌≤◌, ◌<◌, ◌⊎◌, inl, inr, List, [], ◌∷◌, ◌++◌, drop, get_or, length, IfNone, Option, None, Some, slice_get, refl, sym, ap, subst, arith, length-append}
 use Rattle.std.specs.List.{AllByRecursion}
-use Rattle.plain_lemmas.proofs.Lists.{get-not_none as no-end, length-map as long-map}
+use Rattle.plain_lemmas.proofs.Lists.{drop-rest as drop-one, get-not_none as no-end, length-map as long-map}
 use Rattle.rdl_tree.specs.declared.item.Source.{Source}
 use Rattle.rdl_tree.specs.declared.node.Elab.{Elab}
 use Rattle.rdl_tree.specs.declared.node.Node.{out-Node}
@@ -30,12 +30,6 @@ drop-none [] zero e = refl
 drop-none [] (suc i) e = refl
 drop-none (x ∷ xs) zero e = cc e
 drop-none (x ∷ xs) (suc i) e = drop-none xs i e
-
-drop-one : {X : Type 0} (xs : List X) (i : ℕ) (y : X) (ys : List X) → drop i xs ≡ y ∷ ys → drop (suc i) xs ≡ ys
-drop-one [] zero y ys e = cc e
-drop-one [] (suc i) y ys e = cc e
-drop-one (x ∷ xs) zero y ys e = cc e
-drop-one (x ∷ xs) (suc i) y ys e = drop-one xs i y ys e
 
 pub one-outward : (e : Elab) (outers : List ℕ) (n : ℕ) (ps : List (Option Path)) (i b : ℕ) → IsChainBelow e outers n (drop i ps) b → IsChainBelow e outers n (drop (i + 1) ps) (outer_at e.count outers b)
 one-outward e outers n ps i b h = subst (λ k. IsChainBelow e outers n (drop k ps) (outer_at e.count outers b)) next (by (drop i ps) refl h)

@@ -20,7 +20,8 @@ use Rattle.rdl_values.specs.Seen.{around_of}
 use Rattle.rdl_values.specs.Top.{top_seen, top_use_of}
 use Rattle.rdl_values.specs.Uses.{Seen, Use, parent_of, seen, uses}
 use Rattle.rdl_values.specs.Values.{Around, Names}
-use Rattle.rdl_values.proofs.Given.{each-flat_map, each-imp, each-map, given-all}
+use Rattle.rdl_values.proofs.Given.{each-map, given-all}
+use Rattle.plain_lemmas.proofs.Lists.{each-flat_map, each-imp}
 use Rattle.rdl_layers.specs.Says.{IsBodyNumber, IsScopeNumber}
 use Rattle.rdl_layers.specs.Settings.{reference, setting}
 use Rattle.rdl_nodes.proofs.Members.{In, each-in, in-flat, in-place, in-right, place-in}

@@ -12,7 +12,7 @@ use Rattle.rdl_refs.specs.Items.{bad_reference, target}
 use Rattle.rdl_members.specs.Found.{AreMembersOf}
 use Rattle.rdl_resolve.specs.Outers.{AreOuters}
 use Rattle.rdl_resolve.specs.declared.aims.Aim.{Aim}
-use Rattle.rdl_resolve.specs.declared.aims.Known.{Known}
+use Rattle.rdl_resolve.specs.declared.aims.NamedTree.{NamedTree}
 
 -- The item that the setting names, if it names one, and its failure, if it fails.
 pub record IsAim (e : Elab) (p : Prop) (m : Meaning) (a : Aim) : Type 0 where
@@ -20,7 +20,7 @@ pub record IsAim (e : Elab) (p : Prop) (m : Meaning) (a : Aim) : Type 0 where
   pub fault_ : option_to_list a.fault ≡ bad_reference (lineages_of e) p m
 
 -- What is known of a tree.
-pub record IsKnown (k : Known) : Type 0 where
+pub record IsNamedTree (k : NamedTree) : Type 0 where
   pub clean : IsClean k.elab.now
   pub rows_ : AreRows k.elab.now k.rows.now
   pub members_ : AreMembersOf k.elab.now k.members.now

@@ -21,7 +21,7 @@ ghost use Rattle.rdl_refs.specs.Items as items;
 ghost use Rattle.rdl_refs.specs.Items.{is_resetsignal};
 ghost use Rattle.rdl_refs.specs.Leads.{led_to};
 ghost use Rattle.rdl_resolve.specs.Led.{IsLed};
-ghost use Rattle.rdl_resolve.specs.Aimed.{IsAim, IsKnown};
+ghost use Rattle.rdl_resolve.specs.Aimed.{IsAim, IsNamedTree};
 
 use crate::items::what_named;
 use crate::leading::lead;
@@ -127,7 +127,7 @@ fn row_of<'a>(rows: &[Row<'a>], node: u32) -> Option<Row<'a>>
 
 /// A tree with what is looked up in it.
 #[derive(Clone, Copy)]
-pub struct Known<'t, 'a> {
+pub struct NamedTree<'t, 'a> {
     pub elab: &'t Elab<'a>,
     pub rows: &'t [Row<'a>],
     pub members: &'t Members<'a>,
@@ -137,11 +137,11 @@ pub struct Known<'t, 'a> {
 /// What the setting of a property names, where it is a reference, and its failure of R1 or R2. The only error is want of memory.
 pub fn aim_of<'a>(
     alloc: Global,
-    known: Known<'_, 'a>,
+    known: NamedTree<'_, 'a>,
     prop: Prop,
     setting: &Setting<'a>,
 ) -> Result<Aim, NoMemory>
-    requires { IsKnown known }
+    requires { IsNamedTree known }
     ensures { IfOk result (λ a. (n : Instance) → Contains (nodes_of known.entry.elab.now) n → Says (nodes_of known.entry.elab.now) setting.now (settings.setting n prop) → IsAim known.entry.elab.now prop (settings.setting n prop) a) }
 {
     let Setting::Ref {

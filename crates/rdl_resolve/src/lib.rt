@@ -13,7 +13,7 @@ mod tree;
 mod view;
 mod walk;
 
-pub use aims::{Aim, Known, aim_of};
+pub use aims::{Aim, NamedTree, aim_of};
 pub use depth::depth_of;
 pub use items::what_named;
 pub use leading::{Viewpoint, lead};

@@ -5,42 +5,16 @@ ghost use Rattle.rdl_props.specs.Table.{reference_props as listed};
 ghost use Rattle.rdl_values.specs.Elaborated.{nodes_of};
 ghost use Rattle.rdl_values.specs.Instances.{Instance};
 ghost use Rattle.rdl_layers.specs.Settings.{setting as setting_of};
-ghost use Rattle.rdl_resolve.specs.Aimed.{IsAim, IsKnown};
+ghost use Rattle.rdl_resolve.specs.Aimed.{IsAim, IsNamedTree};
 ghost use Rattle.rdl_resolve.specs.Named.{AddsAim, AddsAims};
 
-use crate::aims::{Aim, Known, aim_of};
+use crate::aims::{Aim, NamedTree, aim_of};
 use rb_base::NoMemory;
 use rdl_base::Fault;
 use rdl_layers::Props;
-use rdl_props::Prop;
+use rdl_props::{Prop, reference_props};
 use rdl_refs::ItemOf;
 use std::alloc::Global;
-
-// The properties that take references, in the order of the table.
-static REFERENCES: [Prop; 22] = [
-    Prop::Resetsignal,
-    Prop::Swwe,
-    Prop::Swwel,
-    Prop::We,
-    Prop::Wel,
-    Prop::Next,
-    Prop::Hwset,
-    Prop::Hwclr,
-    Prop::Hwenable,
-    Prop::Hwmask,
-    Prop::Incr,
-    Prop::Decr,
-    Prop::Incrvalue,
-    Prop::Decrvalue,
-    Prop::Incrsaturate,
-    Prop::Decrsaturate,
-    Prop::Incrthreshold,
-    Prop::Decrthreshold,
-    Prop::Enable,
-    Prop::Mask,
-    Prop::Haltenable,
-    Prop::Haltmask,
-];
 
 /// The item that a property's setting names.
 #[derive(Clone, Copy)]
@@ -70,18 +44,19 @@ fn add_aim(
 /// Adds the items that the settings of a node name, and their failures of R1 and R2.
 pub(crate) fn add_node<'a>(
     alloc: Global,
-    known: Known<'_, 'a>,
+    known: NamedTree<'_, 'a>,
     props: &Props<'a>,
     node: u32,
     items: &mut Vec<NamedItem>,
     faults: &mut Vec<Fault>,
 ) -> Result<(), NoMemory>
-    requires known { IsKnown known }
+    requires known { IsNamedTree known }
     requires tree { props.now ≡ known.elab.now }
     requires node { node < props.now.count }
     ensures { OnOk result ((n : Instance) → slice_get (nodes_of props.now) node ≡ Some n → AddsAims props.now n listed items.old.items items.new.items faults.old.items faults.new.items) }
 {
-    for prop in &REFERENCES {
+    let list = reference_props();
+    for prop in &list {
         let setting = props.value(node, *prop);
         let aim = aim_of(alloc, known, *prop, &setting)?;
         add_aim(*prop, aim, items, faults)?;

@@ -1,10 +1,10 @@
 //! The items that the settings of all nodes name.
 
 ghost use Rattle.std.specs.Prelude.{◌≡◌, IfOk};
-ghost use Rattle.rdl_resolve.specs.Aimed.{IsKnown};
+ghost use Rattle.rdl_resolve.specs.Aimed.{IsNamedTree};
 ghost use Rattle.rdl_resolve.specs.Named.{AreNamed};
 
-use crate::aims::Known;
+use crate::aims::NamedTree;
 use crate::node::{NamedItem, add_node};
 use rb_base::NoMemory;
 use rdl_base::Fault;
@@ -22,10 +22,10 @@ pub struct NamedItems {
 /// want of memory.
 pub fn named_items<'a>(
     alloc: Global,
-    known: Known<'_, 'a>,
+    known: NamedTree<'_, 'a>,
     props: &Props<'a>,
 ) -> Result<NamedItems, NoMemory>
-    requires known { IsKnown known }
+    requires known { IsNamedTree known }
     requires tree { props.now ≡ known.elab.now }
     ensures { IfOk result (AreNamed props.now) }
 {

@@ -3,8 +3,10 @@
 
 mod fact;
 mod laws;
+mod settled;
 mod waits;
 
 pub use fact::Fact;
 pub use laws::all_targets;
+pub use settled::Settled;
 pub use waits::blocks_with_waits;

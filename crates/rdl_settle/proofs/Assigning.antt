@@ -21,7 +21,7 @@ use Rattle.rdl_failures.specs.Noted.{with_all}
 use Rattle.rdl_failures.proofs.Sets.{with_all-append}
 use Rattle.rdl_layers.specs.Settings.{from_above}
 use Rattle.rdl_layers.specs.Tables.{entries_at}
-use Rattle.rdl_layers.specs.declared.props.Entry.{Entry}
+use Rattle.rdl_layers.specs.declared.props.PropSetting.{PropSetting}
 use Rattle.rdl_layers.specs.Nested.{nested}
 use Rattle.rdl_merge.specs.Merged.{AreEntries}
 use Rattle.rdl_bodies.specs.declared.bodies.Bodies.{Bodies}
@@ -121,10 +121,10 @@ rows_count e xs clean h =
 
 -- Bodies one after the other.
 
-pub assigned_none : (e : Elab) (es : List (Vec Entry Global)) (start : List Fault) → length es ≡ e.count → ((j : ℕ) → entries_at es j ≡ []) → AreEntries (nodes_of e) [] [] → AreAssigned e [] es start start
+pub assigned_none : (e : Elab) (es : List (Vec PropSetting Global)) (start : List Fault) → length es ≡ e.count → ((j : ℕ) → entries_at es j ≡ []) → AreEntries (nodes_of e) [] [] → AreAssigned e [] es start start
 assigned_none e es start size none empty = record { all_nodes = size; noted = refl; told = λ j m l at. subst (λ xs. AreEntries (nodes_of e) xs []) (sym (none j)) empty }
 
-pub assigned_more : (e : Elab) (ns : List Instance) (n : Instance) (es fs : List (Vec Entry Global)) (start before after : List Fault) → AreAssigned e ns es start before → IsAssigned e n es fs before after → AreAssigned e (ns ++ (n ∷ [])) fs start after
+pub assigned_more : (e : Elab) (ns : List Instance) (n : Instance) (es fs : List (Vec PropSetting Global)) (start before after : List Fault) → AreAssigned e ns es start before → IsAssigned e n es fs before after → AreAssigned e (ns ++ (n ∷ [])) fs start after
 assigned_more e ns n es fs start before after h one = record {
   all_nodes = one.pushed.same_length ∙ h.all_nodes;
   noted =
@@ -139,13 +139,13 @@ assigned_more e ns n es fs start before after h one = record {
 
 -- Entries that are none.
 
-items-push : (vs : List (Vec Entry Global)) (v : Vec Entry Global) (j : ℕ) → v.items ≡ [] → entries_at vs j ≡ [] → entries_at (vs ++ (v ∷ [])) j ≡ []
+items-push : (vs : List (Vec PropSetting Global)) (v : Vec PropSetting Global) (j : ℕ) → v.items ≡ [] → entries_at vs j ≡ [] → entries_at (vs ++ (v ∷ [])) j ≡ []
 items-push [] v zero e h = e
 items-push [] v (suc j) e h = refl
 items-push (w ∷ vs) v zero e h = h
 items-push (w ∷ vs) v (suc j) e h = items-push vs v j e h
 
-pub none_push : (vs : List (Vec Entry Global)) (v : Vec Entry Global) → v.items ≡ [] → ((j : ℕ) → entries_at vs j ≡ []) → (j : ℕ) → entries_at (vs ++ (v ∷ [])) j ≡ []
+pub none_push : (vs : List (Vec PropSetting Global)) (v : Vec PropSetting Global) → v.items ≡ [] → ((j : ℕ) → entries_at vs j ≡ []) → (j : ℕ) → entries_at (vs ++ (v ∷ [])) j ≡ []
 none_push vs v e h j = items-push vs v j e (h j)
 
 pub no_entries_tell : (e : Elab) → AreEntries (nodes_of e) [] []
@@ -153,10 +153,10 @@ no_entries_tell e = record { assigned = λ p. refl; first = λ p. tt }
 
 -- What the loop over the rows keeps.
 
-abbrev pub AssignedTo : List Row → OpenTree → LayerTable → List Fault → ℕ → List (Vec Entry Global) → List Fault → Type 0
+abbrev pub AssignedTo : List Row → OpenTree → LayerTable → List Fault → ℕ → List (Vec PropSetting Global) → List Fault → Type 0
 AssignedTo xs tree layers start i es now = (e : Elab) (first held : List Fault) → IsClean e → AreRows e xs → IsOpenTree e tree → AreLayersOf e tree layers first held → AreAssigned e (take i (nodes_of e)) es start now
 
-pub to_none : (xs : List Row) (tree : OpenTree) (layers : LayerTable) (start : List Fault) (es : List (Vec Entry Global)) → length es ≡ length xs → ((j : ℕ) → entries_at es j ≡ []) → AssignedTo xs tree layers start 0 es start
+pub to_none : (xs : List Row) (tree : OpenTree) (layers : LayerTable) (start : List Fault) (es : List (Vec PropSetting Global)) → length es ≡ length xs → ((j : ℕ) → entries_at es j ≡ []) → AssignedTo xs tree layers start 0 es start
 to_none xs tree layers start es size none = λ e first held clean rows open_ layered. of e (nodes_of e) (assigned_none e es start (size ∙ rows_count e xs clean rows) none (no_entries_tell e))
   where
     of : (e : Elab) (ns : List Instance) → AreAssigned e [] es start start → AreAssigned e (take 0 ns) es start start
@@ -168,7 +168,7 @@ has-layers x [] i o h at = cc
 has-layers x (p ∷ os) zero o h at = let same : p ≡ o = cc in subst (λ q. HasLayers x q.body) same h.0
 has-layers x (p ∷ os) (suc i) o h at = has-layers x os i o h.1 at
 
-pub to_more : (xs : List Row) (tree : OpenTree) (layers : LayerTable) (start : List Fault) (i : ℕ) (d : Row) (o : Spot) (es fs : List (Vec Entry Global)) (before after : List Fault) → i < length xs → slice_get tree.spots.items i ≡ Some o → AssignedTo xs tree layers start i es before
+pub to_more : (xs : List Row) (tree : OpenTree) (layers : LayerTable) (start : List Fault) (i : ℕ) (d : Row) (o : Spot) (es fs : List (Vec PropSetting Global)) (before after : List Fault) → i < length xs → slice_get tree.spots.items i ≡ Some o → AssignedTo xs tree layers start i es before
     → ((e : Elab) (n : Instance) (held : List Fault) → AreRows e xs → AreLayers tree.walk.bodies held layers → HasLayers layers o.body → IsAt (lineages_of e) (out-Node (get_or xs i d).node.now).id n → IsSpot e tree.walk.bodies o n → IsAssigned e n es fs before after)
     → AssignedTo xs tree layers start (i + 1) fs after
 to_more xs tree layers start i d o es fs before after l listed h one = λ e first held clean rows open_ layered.
@@ -187,7 +187,7 @@ no_spot e xs tree i d l rows open_ none =
     let both : Some r.o ≡ None = sym r.listed ∙ none in
     cc
 
-pub to_all : (xs : List Row) (tree : OpenTree) (layers : LayerTable) (start : List Fault) (i : ℕ) (es : List (Vec Entry Global)) (now : List Fault) → length xs ≤ i → AssignedTo xs tree layers start i es now
+pub to_all : (xs : List Row) (tree : OpenTree) (layers : LayerTable) (start : List Fault) (i : ℕ) (es : List (Vec PropSetting Global)) (now : List Fault) → length xs ≤ i → AssignedTo xs tree layers start i es now
     → (e : Elab) (first held : List Fault) → IsClean e → AreRows e xs → IsOpenTree e tree → AreLayersOf e tree layers first held → AreAssigned e (nodes_of e) es start now
 to_all xs tree layers start i es now l h = λ e first held clean rows open_ layered.
     let a = rows_count e xs clean rows in

@@ -1,5 +1,5 @@
 -- Nodes that are completed, one after the other.
-use Rattle.std.proofs.Common.{◌≡◌, ◌≢◌, ◌∙◌, ℕ, zero, suc, ◌+◌, ◌<◌, ◌≤◌, true, false, List, [], ◌∷◌, ◌++◌, flat_map, get_or, length, map, take, Some, Err, Vec, slice_get, slice_index_or, slice_set, add-one, refl, sym, ap, subst, arith, append-nil, ◌⊎◌, inl, inr}
+use Rattle.std.proofs.Common.{◌≡◌, ◌≢◌, ◌∙◌, ℕ, suc, ◌+◌, ◌<◌, ◌≤◌, true, false, List, [], ◌∷◌, ◌++◌, flat_map, get_or, length, map, take, Some, Err, Vec, slice_get, slice_index_or, slice_set, add-one, refl, sym, ap, subst, arith, append-nil, ◌⊎◌, inl, inr}
 use Rattle.std.specs.Global.{Global}
 use Rattle.std.proofs.lemmas.Grind.{flat_map-append}
 use Rattle.std.proofs.lemmas.List.{map-set, get_or-set_same, get_or-set_other, get_or-map, length-set, take_all}
@@ -15,7 +15,7 @@ use Rattle.rdl_failures.proofs.Sets.{with_all-append}
 use Rattle.rdl_layers.specs.Phase4.{of_node}
 use Rattle.rdl_layers.specs.Settings.{applied_to, from_above, setting}
 use Rattle.rdl_layers.specs.Tables.{entries_at}
-use Rattle.rdl_layers.specs.declared.props.Entry.{Entry}
+use Rattle.rdl_layers.specs.declared.props.PropSetting.{PropSetting}
 use Rattle.rdl_merge.specs.Merged.{AreEntries}
 use Rattle.rdl_open_settings.specs.Completed.{IsNode, IsScene}
 use Rattle.rdl_open_settings.specs.declared.table.LayerTable.{LayerTable}
@@ -45,22 +45,23 @@ use Rattle.rdl_values.specs.Verdict.{IsListOf}
 use Rattle.rdl_values.proofs.Numbered.{counted}
 use Rattle.rdl_nodes.proofs.Members.{get-within}
 use Rattle.rdl_facts.specs.Told.{AreTold}
+use Rattle.plain_lemmas.proofs.Lists.{each-get as each-at, some-at as within-some}
 
-items-length : (vs : List (Vec Entry Global)) → length (map (λ v. v.items) vs) ≡ length vs
+items-length : (vs : List (Vec PropSetting Global)) → length (map (λ v. v.items) vs) ≡ length vs
 items-length [] = refl
 items-length (v ∷ vs) = ap suc (items-length vs)
 
-pub at_place : (vs : List (Vec Entry Global)) (k : ℕ) (v : Vec Entry Global) → k < length vs → entries_at (slice_set vs k v) k ≡ v.items
-at_place vs k v l = ap (λ es. slice_index_or es k []) (map-set (λ (x : Vec Entry Global). x.items) vs k v) ∙ get_or-set_same (map (λ (x : Vec Entry Global). x.items) vs) k v.items [] (subst (λ n. k < n) (sym (items-length vs)) l)
+pub at_place : (vs : List (Vec PropSetting Global)) (k : ℕ) (v : Vec PropSetting Global) → k < length vs → entries_at (slice_set vs k v) k ≡ v.items
+at_place vs k v l = ap (λ es. slice_index_or es k []) (map-set (λ (x : Vec PropSetting Global). x.items) vs k v) ∙ get_or-set_same (map (λ (x : Vec PropSetting Global). x.items) vs) k v.items [] (subst (λ n. k < n) (sym (items-length vs)) l)
 
-pub elsewhere : (vs : List (Vec Entry Global)) (k j : ℕ) (v : Vec Entry Global) → j ≢ k → entries_at (slice_set vs k v) j ≡ entries_at vs j
-elsewhere vs k j v d = ap (λ es. slice_index_or es j []) (map-set (λ (x : Vec Entry Global). x.items) vs k v) ∙ get_or-set_other (map (λ (x : Vec Entry Global). x.items) vs) k j v.items [] d
+pub elsewhere : (vs : List (Vec PropSetting Global)) (k j : ℕ) (v : Vec PropSetting Global) → j ≢ k → entries_at (slice_set vs k v) j ≡ entries_at vs j
+elsewhere vs k j v d = ap (λ es. slice_index_or es j []) (map-set (λ (x : Vec PropSetting Global). x.items) vs k v) ∙ get_or-set_other (map (λ (x : Vec PropSetting Global). x.items) vs) k j v.items [] d
 
-pub old_place : (vs : List (Vec Entry Global)) (k : ℕ) (d : Vec Entry Global) → k < length vs → entries_at vs k ≡ (get_or vs k d).items
-old_place vs k d l = get_or-map (λ (x : Vec Entry Global). x.items) vs k d [] l
+pub old_place : (vs : List (Vec PropSetting Global)) (k : ℕ) (d : Vec PropSetting Global) → k < length vs → entries_at vs k ≡ (get_or vs k d).items
+old_place vs k d l = get_or-map (λ (x : Vec PropSetting Global). x.items) vs k d [] l
 
 -- one place was completed
-pub completed_at : (tree : OpenTree) (layers : LayerTable) (count : ℕ) (r : Node) (o : Spot) (k : ℕ) (vs : List (Vec Entry Global)) (old new : Vec Entry Global) (d : Vec Entry Global) (before after : List Fault) → k < length vs → old ≡ get_or vs k d
+pub completed_at : (tree : OpenTree) (layers : LayerTable) (count : ℕ) (r : Node) (o : Spot) (k : ℕ) (vs : List (Vec PropSetting Global)) (old new : Vec PropSetting Global) (d : Vec PropSetting Global) (before after : List Fault) → k < length vs → old ≡ get_or vs k d
     → ((e : Elab) (n : Instance) → IsScene e tree layers count → IsNode e tree r o n → AreEntries (nodes_of e) old.items (flat_map (from_above n) (standing n.above)) → AreEntries (nodes_of e) new.items (applied_to n))
     → ((e : Elab) (n : Instance) → IsScene e tree layers count → IsNode e tree r o n → AreEntries (nodes_of e) old.items (flat_map (from_above n) (standing n.above)) → after ≡ with_all (of_node n) before)
     → IsCompletedAt tree layers count r o k vs (slice_set vs k new) before after
@@ -75,13 +76,13 @@ completed_at tree layers count r o k vs old new d before after l is entries note
     was j = old_place vs k d l ∙ ap (λ v. v.items) (sym is)
 
 -- The first so many are completed, and the others tell of what the bodies above assign.
-pub record AreDone (e : Elab) (i : ℕ) (es : List (Vec Entry Global)) (before after : List Fault) : Type 0 where
+pub record AreDone (e : Elab) (i : ℕ) (es : List (Vec PropSetting Global)) (before after : List Fault) : Type 0 where
   pub all_nodes : length es ≡ e.count
   pub noted : after ≡ with_all (flat_map of_node (take i (nodes_of e))) before
   pub first : (j : ℕ) (m : Instance) → j < i → j < e.count → IsAt (lineages_of e) j m → AreEntries (nodes_of e) (entries_at es j) (applied_to m)
   pub rest : (j : ℕ) (m : Instance) → i ≤ j → j < e.count → IsAt (lineages_of e) j m → AreEntries (nodes_of e) (entries_at es j) (flat_map (from_above m) (standing m.above))
 
-pub done_more : (e : Elab) (tree : OpenTree) (layers : LayerTable) (count : ℕ) (r : Node) (o : Spot) (i : ℕ) (n : Instance) (es fs : List (Vec Entry Global)) (start before after : List Fault) → IsScene e tree layers count → IsNode e tree r o n → i < e.count → IsAt (lineages_of e) i n
+pub done_more : (e : Elab) (tree : OpenTree) (layers : LayerTable) (count : ℕ) (r : Node) (o : Spot) (i : ℕ) (n : Instance) (es fs : List (Vec PropSetting Global)) (start before after : List Fault) → IsScene e tree layers count → IsNode e tree r o n → i < e.count → IsAt (lineages_of e) i n
     → take (suc i) (nodes_of e) ≡ take i (nodes_of e) ++ (n ∷ []) → AreDone e i es start before → IsCompletedAt tree layers count r o i es fs before after → AreDone e (i + 1) fs start after
 done_more e tree layers count r o i n es fs start before after scene node l at more h one = record {
   all_nodes = one.same_length ∙ h.all_nodes;
@@ -108,12 +109,7 @@ done_more e tree layers count r o i n es fs start before after scene node l at m
         let same : n ≡ m = cc in
         subst (λ k. AreEntries (nodes_of e) (entries_at fs k) (applied_to m)) (sym q) (subst (λ x. AreEntries (nodes_of e) (entries_at fs i) (applied_to x)) same (one.here e n scene node own))
 
-each-at : {X : Type 0} (P : X → Type 0) (xs : List X) (j : ℕ) (x : X) → AllByRecursion P xs → slice_get xs j ≡ Some x → P x
-each-at P [] j x h at = cc
-each-at P (y ∷ xs) zero x h at = let same : y ≡ x = cc in subst P same h.0
-each-at P (y ∷ xs) (suc j) x h at = each-at P xs j x h.1 at
-
-pub done_none : (e : Elab) (es : List (Vec Entry Global)) (start before now : List Fault) → AreAssigned e (nodes_of e) es start before → AllByRecursion (λ n. flat_map (from_above n) (map nested (nodes_of e)) ≡ flat_map (from_above n) (standing n.above)) (nodes_of e) → AreDone e 0 es now now
+pub done_none : (e : Elab) (es : List (Vec PropSetting Global)) (start before now : List Fault) → AreAssigned e (nodes_of e) es start before → AllByRecursion (λ n. flat_map (from_above n) (map nested (nodes_of e)) ≡ flat_map (from_above n) (standing n.above)) (nodes_of e) → AreDone e 0 es now now
 done_none e es start before now h law = record {
   all_nodes = h.all_nodes;
   noted = nothing (nodes_of e);
@@ -125,7 +121,7 @@ done_none e es start before now h law = record {
     nothing [] = refl
     nothing (n ∷ ns) = refl
 
-pub done_all : (e : Elab) (es : List (Vec Entry Global)) (i : ℕ) (start now : List Fault) → IsClean e → e.count ≤ i → AreDone e i es start now → AreCompleted e es start now
+pub done_all : (e : Elab) (es : List (Vec PropSetting Global)) (i : ℕ) (start now : List Fault) → IsClean e → e.count ≤ i → AreDone e i es start now → AreCompleted e es start now
 done_all e es i start now clean l h =
     let size = counted (Some (top_name e)) e.source.now e clean.elaborated.tree in
     let all : take i (nodes_of e) ≡ nodes_of e = take_all i (nodes_of e) (omega (arith, l, size)) in
@@ -136,7 +132,7 @@ done_all e es i start now clean l h =
     }
 
 -- All of the phase.
-pub gathered : (e : Elab) (es fs : List (Vec Entry Global)) (start a b c : List Fault) → a ≡ with_all (of_layers (root e.source.now) ++ of_nodes (nodes_of e)) start → AreAssigned e (nodes_of e) es a b → AreCompleted e fs b c → AreGathered e fs start c
+pub gathered : (e : Elab) (es fs : List (Vec PropSetting Global)) (start a b c : List Fault) → a ≡ with_all (of_layers (root e.source.now) ++ of_nodes (nodes_of e)) start → AreAssigned e (nodes_of e) es a b → AreCompleted e fs b c → AreGathered e fs start c
 gathered e es fs start a b c layered assigned done =
     let r = of_layers (root e.source.now) ++ of_nodes (nodes_of e) in
     let d = flat_map of_dynamics (nodes_of e) in
@@ -149,12 +145,7 @@ gathered e es fs start a b c layered assigned done =
 
 -- A table of settings.
 
-within-some : {X : Type 0} (xs : List X) (k : ℕ) → k < length xs → (x : X) × (slice_get xs k ≡ Some x)
-within-some [] k l = absurd (omega (arith, l))
-within-some (x ∷ xs) zero l = (x, refl)
-within-some (x ∷ xs) (suc k) l = within-some xs k (omega (arith, l))
-
-pub tables : (e : Elab) (es : List (Vec Entry Global)) (start now : List Fault) → IsClean e → AreGathered e es start now → ((n : Instance) (xs : List Entry) → AreEntries (nodes_of e) xs (applied_to n) → (p : Prop) → Says (nodes_of e) (setting_in p xs) (setting n p)) → AreTablesOf e es
+pub tables : (e : Elab) (es : List (Vec PropSetting Global)) (start now : List Fault) → IsClean e → AreGathered e es start now → ((n : Instance) (xs : List PropSetting) → AreEntries (nodes_of e) xs (applied_to n) → (p : Prop) → Says (nodes_of e) (setting_in p xs) (setting n p)) → AreTablesOf e es
 tables e es start now clean h say = record {
   all_nodes = h.all_nodes;
   settings = λ k p l.
@@ -163,7 +154,7 @@ tables e es start now clean h say = record {
       (n.0, n.1, say n.0 (entries_at es k) (h.told k n.0 l (at_node e k n.0 n.1)) p);
 }
 
-pub told_all : (e : Elab) (es : List (Vec Entry Global)) (start now : List Fault) → IsClean e → AreGathered e es start now → AreTold e es
+pub told_all : (e : Elab) (es : List (Vec PropSetting Global)) (start now : List Fault) → IsClean e → AreGathered e es start now → AreTold e es
 told_all e es start now clean h = record {
   each = λ k n here.
       let l = get-within (nodes_of e) k n here in
@@ -171,24 +162,24 @@ told_all e es start now clean h = record {
       h.told k n (omega (arith, l, size)) (at_node e k n here);
 }
 
-pub settled : (e : Elab) (es : List (Vec Entry Global)) (now : List Fault) → IsClean e → AreGathered e es [] now → now ≡ [] → IsSettled e
+pub settled : (e : Elab) (es : List (Vec PropSetting Global)) (now : List Fault) → IsClean e → AreGathered e es [] now → now ≡ [] → IsSettled e
 settled e es now clean h none = subst (IsListOf (settings_fail e)) (sym h.noted ∙ none) (phase_list e clean)
 
-pub refused : (e : Elab) (es : List (Vec Entry Global)) (now : List Fault) (r : PhaseError) → IsClean e → AreGathered e es [] now → (now ≡ [] → ⊥) → IsRefused now r → Answers4 e (Err r)
+pub refused : (e : Elab) (es : List (Vec PropSetting Global)) (now : List Fault) (r : PhaseError) → IsClean e → AreGathered e es [] now → (now ≡ [] → ⊥) → IsRefused now r → Answers4 e (Err r)
 refused e es now (error.Faults list) clean h some is =
     record { failures = subst (IsListOf (settings_fail e)) (sym h.noted ∙ sym is) (phase_list e clean); some = λ q. some (sym is ∙ q) }
 refused e es now error.NoMemory clean h some is = tt
 
 -- What the loop over the rows keeps.
 
-abbrev pub CompletedTo : List Row → OpenTree → LayerTable → ℕ → List (Vec Entry Global) → List Fault → ℕ → List (Vec Entry Global) → List Fault → Type 0
+abbrev pub CompletedTo : List Row → OpenTree → LayerTable → ℕ → List (Vec PropSetting Global) → List Fault → ℕ → List (Vec PropSetting Global) → List Fault → Type 0
 CompletedTo xs tree layers count first start i es now = (length es ≡ length first) × ((e : Elab) (a b : List Fault) → AreRows e xs → IsScene e tree layers count → AreAssigned e (nodes_of e) first a b → AreDone e i es start now)
 
-pub cut_none : (xs : List Row) (tree : OpenTree) (layers : LayerTable) (count : ℕ) (first : List (Vec Entry Global)) (start : List Fault) → ((e : Elab) → AllByRecursion (λ n. flat_map (from_above n) (map nested (nodes_of e)) ≡ flat_map (from_above n) (standing n.above)) (nodes_of e))
+pub cut_none : (xs : List Row) (tree : OpenTree) (layers : LayerTable) (count : ℕ) (first : List (Vec PropSetting Global)) (start : List Fault) → ((e : Elab) → AllByRecursion (λ n. flat_map (from_above n) (map nested (nodes_of e)) ≡ flat_map (from_above n) (standing n.above)) (nodes_of e))
     → CompletedTo xs tree layers count first start 0 first start
 cut_none xs tree layers count first start law = (refl, λ e a b rows scene h. done_none e first a b start h (law e))
 
-pub cut_more : (xs : List Row) (tree : OpenTree) (layers : LayerTable) (count : ℕ) (first : List (Vec Entry Global)) (start : List Fault) (i : ℕ) (d : Row) (o : Spot) (es fs : List (Vec Entry Global)) (before after : List Fault) → i < length xs → slice_get tree.spots.items i ≡ Some o
+pub cut_more : (xs : List Row) (tree : OpenTree) (layers : LayerTable) (count : ℕ) (first : List (Vec PropSetting Global)) (start : List Fault) (i : ℕ) (d : Row) (o : Spot) (es fs : List (Vec PropSetting Global)) (before after : List Fault) → i < length xs → slice_get tree.spots.items i ≡ Some o
     → CompletedTo xs tree layers count first start i es before → IsCompletedAt tree layers count (get_or xs i d).node.now o i es fs before after → CompletedTo xs tree layers count first start (i + 1) fs after
 cut_more xs tree layers count first start i d o es fs before after l listed h one = (
   one.same_length ∙ h.0,
@@ -202,7 +193,7 @@ cut_more xs tree layers count first start i d o es fs before after l listed h on
       (omega (arith, l, size)) r.there r.more (h.1 e a b rows scene assigned) one,
 )
 
-pub cut_all : (xs : List Row) (tree : OpenTree) (layers : LayerTable) (count : ℕ) (first : List (Vec Entry Global)) (start : List Fault) (i : ℕ) (es : List (Vec Entry Global)) (now : List Fault) → length xs ≤ i → CompletedTo xs tree layers count first start i es now
+pub cut_all : (xs : List Row) (tree : OpenTree) (layers : LayerTable) (count : ℕ) (first : List (Vec PropSetting Global)) (start : List Fault) (i : ℕ) (es : List (Vec PropSetting Global)) (now : List Fault) → length xs ≤ i → CompletedTo xs tree layers count first start i es now
     → (e : Elab) (a b : List Fault) → AreRows e xs → IsScene e tree layers count → AreAssigned e (nodes_of e) first a b → AreCompleted e es start now
 cut_all xs tree layers count first start i es now l h e a b rows scene assigned =
     let size = rows_count e xs scene.clean rows in

@@ -12,7 +12,7 @@ use Rattle.rdl_layers.specs.Judged.{all_failures, failures_of_dynamic}
 use Rattle.rdl_layers.specs.Phase4.{of_node}
 use Rattle.rdl_layers.specs.Settings.{applied_to, from_above}
 use Rattle.rdl_layers.specs.Tables.{entries_at}
-use Rattle.rdl_layers.specs.declared.props.Entry.{Entry}
+use Rattle.rdl_layers.specs.declared.props.PropSetting.{PropSetting}
 use Rattle.rdl_layers.specs.Nested.{nested}
 use Rattle.rdl_dynamic.specs.Given.{ArePushed}
 use Rattle.rdl_merge.specs.Merged.{AreEntries}
@@ -36,24 +36,24 @@ abbrev pub of_dynamics : Instance → List Fault
 of_dynamics n = all_failures (failures_of_dynamic (nested n)) (dynamics (body n))
 
 -- The dynamic assignments in the body of a node were judged, and what they assign was put behind the entries of nodes.
-pub record IsAssigned (e : Elab) (n : Instance) (old new : List (Vec Entry Global)) (before after : List Fault) : Type 0 where
+pub record IsAssigned (e : Elab) (n : Instance) (old new : List (Vec PropSetting Global)) (before after : List Fault) : Type 0 where
   pub noted : after ≡ with_all (of_dynamics n) before
   pub pushed : ArePushed e (nested n) old new
 
 -- So were those in the bodies of all of these: the entries of each node tell of what they assign to it, in turn.
-pub record AreAssigned (e : Elab) (ns : List Instance) (es : List (Vec Entry Global)) (before after : List Fault) : Type 0 where
+pub record AreAssigned (e : Elab) (ns : List Instance) (es : List (Vec PropSetting Global)) (before after : List Fault) : Type 0 where
   pub all_nodes : length es ≡ e.count
   pub noted : after ≡ with_all (flat_map of_dynamics ns) before
   pub told : (j : ℕ) (m : Instance) → j < e.count → IsAt (lineages_of e) j m → AreEntries (nodes_of e) (entries_at es j) (flat_map (from_above m) (map nested ns))
 
 -- The entries of each node tell of all that applies to it.
-pub record AreCompleted (e : Elab) (es : List (Vec Entry Global)) (before after : List Fault) : Type 0 where
+pub record AreCompleted (e : Elab) (es : List (Vec PropSetting Global)) (before after : List Fault) : Type 0 where
   pub all_nodes : length es ≡ e.count
   pub noted : after ≡ with_all (flat_map of_node (nodes_of e)) before
   pub told : (j : ℕ) (m : Instance) → j < e.count → IsAt (lineages_of e) j m → AreEntries (nodes_of e) (entries_at es j) (applied_to m)
 
 -- The entries of the node of this number were completed, and nothing else changes.
-pub record IsCompletedAt (tree : OpenTree) (layers : LayerTable) (count : ℕ) (r : Node) (o : Spot) (k : ℕ) (old new : List (Vec Entry Global)) (before after : List Fault) : Type 0 where
+pub record IsCompletedAt (tree : OpenTree) (layers : LayerTable) (count : ℕ) (r : Node) (o : Spot) (k : ℕ) (old new : List (Vec PropSetting Global)) (before after : List Fault) : Type 0 where
   pub same_length : length new ≡ length old
   pub others : (j : ℕ) → j ≢ k → entries_at new j ≡ entries_at old j
   pub here : (e : Elab) (n : Instance) → IsScene e tree layers count → IsNode e tree r o n → AreEntries (nodes_of e) (entries_at old k) (flat_map (from_above n) (standing n.above)) → AreEntries (nodes_of e) (entries_at new k) (applied_to n)
@@ -64,7 +64,7 @@ abbrev pub all_of : Elab → List Fault
 all_of e = of_layers (root e.source.now) ++ of_nodes (nodes_of e) ++ flat_map of_dynamics (nodes_of e) ++ flat_map of_node (nodes_of e)
 
 -- All failures of the phase were put in, and the entries of each node tell of all that applies to it.
-pub record AreGathered (e : Elab) (es : List (Vec Entry Global)) (before after : List Fault) : Type 0 where
+pub record AreGathered (e : Elab) (es : List (Vec PropSetting Global)) (before after : List Fault) : Type 0 where
   pub all_nodes : length es ≡ e.count
   pub noted : after ≡ with_all (all_of e) before
   pub told : (j : ℕ) (m : Instance) → j < e.count → IsAt (lineages_of e) j m → AreEntries (nodes_of e) (entries_at es j) (applied_to m)

@@ -4,7 +4,7 @@ use Rattle.rdl_tree.specs.declared.node.Elab.{Elab}
 use Rattle.rdl_layers.specs.Answers.{Answers4, IsSettled}
 use Rattle.rdl_failures.specs.declared.error.PhaseError.{PhaseError}
 use Rattle.rdl_rules.specs.Facts.{AreFacts}
-use Rattle.rdl_settle.specs.declared.settling.Settled.{Settled}
+use Rattle.rdl_rules.specs.declared.settled.Settled.{Settled}
 
 -- No rule on settings fails; the settings are seen as the tree that they are of, and the facts are those of its fields and signals.
 pub record IsSettledAs (e : Elab) (s : Settled) : Type 0 where

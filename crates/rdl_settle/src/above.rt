@@ -19,7 +19,7 @@ ghost use Rattle.rdl_settle.specs.Gathered.{AreAssigned, IsAssigned};
 use rb_base::NoMemory;
 use rdl_dynamic::judge_dynamics;
 use rdl_failures::Failures;
-use rdl_layers::Entry;
+use rdl_layers::PropSetting;
 use rdl_nodes::Row;
 use rdl_open_bodies::{OpenTree, Spot};
 use rdl_open_settings::LayerTable;
@@ -29,7 +29,7 @@ use std::alloc::Global;
 
 // No entries, for so many nodes.
 #[tactic(auto, using(crate::proofs::Assigning::none_push))]
-fn no_entries<'a>(alloc: Global, count: usize) -> Result<Vec<Vec<Entry<'a>>>, NoMemory>
+fn no_entries<'a>(alloc: Global, count: usize) -> Result<Vec<Vec<PropSetting<'a>>>, NoMemory>
     ensures size { IfOk result (λ r. length r.items ≡ count) }
     ensures none { IfOk result (λ r. (j : ℕ) → entries_at r.items j ≡ []) }
 {
@@ -49,7 +49,7 @@ fn assign<'a>(
     tree: &OpenTree<'a>,
     layers: &LayerTable<'a>,
     spot: &Spot,
-    entries: &mut Vec<Vec<Entry<'a>>>,
+    entries: &mut Vec<Vec<PropSetting<'a>>>,
     failures: &mut Failures,
 ) -> Result<(), NoMemory>
     ensures { OnOk result ((e : Elab) (n : Instance) (held : List Fault) → AreRows e rows.now → AreContents e contents.now → AreLayers tree.now.walk.bodies held layers.now → HasLayers layers.now spot.now.body → IsAt (lineages_of e) (out-Node row.now.node.now).id n → IsSpot e tree.now.walk.bodies spot.now n
@@ -95,7 +95,7 @@ pub(crate) fn assign_all<'a>(
     tree: &OpenTree<'a>,
     layers: &LayerTable<'a>,
     failures: &mut Failures,
-) -> Result<Vec<Vec<Entry<'a>>>, NoMemory>
+) -> Result<Vec<Vec<PropSetting<'a>>>, NoMemory>
     ensures { IfOk result (λ r. (e : Elab) (before : List Fault) (held : List Fault) → IsClean e → AreRows e rows.now → IsOpenTree e tree.now → AreLayersOf e tree.now layers.now before held → AreAssigned e (nodes_of e) r.items failures.old failures.new) }
 {
     let contents = contents_of(alloc, rows)?;

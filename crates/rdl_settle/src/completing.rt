@@ -11,7 +11,7 @@ ghost use Rattle.rdl_settle.specs.Gathered.{AreAssigned, AreCompleted, IsComplet
 use crate::above::spot_at;
 use rb_base::NoMemory;
 use rdl_failures::Failures;
-use rdl_layers::{Entry, assigned_from_above};
+use rdl_layers::{PropSetting, assigned_from_above};
 use rdl_nodes::Row;
 use rdl_open_bodies::{OpenTree, Spot};
 use rdl_open_settings::{LayerTable, complete_node};
@@ -26,7 +26,7 @@ fn complete_at<'a>(
     row: &Row<'a>,
     spot: &Spot,
     at: usize,
-    entries: &mut Vec<Vec<Entry<'a>>>,
+    entries: &mut Vec<Vec<PropSetting<'a>>>,
     failures: &mut Failures,
 ) -> Result<(), NoMemory>
     requires { at < length entries.old.items }
@@ -52,7 +52,7 @@ pub(crate) fn complete_all<'a>(
     tree: &OpenTree<'a>,
     layers: &LayerTable<'a>,
     count: u32,
-    entries: &mut Vec<Vec<Entry<'a>>>,
+    entries: &mut Vec<Vec<PropSetting<'a>>>,
     failures: &mut Failures,
 ) -> Result<(), NoMemory>
     requires { length rows.now ≡ length entries.old.items }

@@ -5,4 +5,4 @@ mod above;
 mod completing;
 mod settling;
 
-pub use settling::{Settled, settle};
+pub use settling::settle;

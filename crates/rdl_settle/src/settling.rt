@@ -11,30 +11,21 @@ use bumpalo::Bump;
 use rb_base::NoMemory;
 use rdl_facts::facts_of;
 use rdl_failures::{Failures, PhaseError};
-use rdl_layers::{Entry, Props};
+use rdl_layers::{PropSetting, Props};
 use rdl_merge::entries_say;
 use rdl_nodes::{Row, rows};
 use rdl_open_bodies::{OpenTree, open_tree};
 use rdl_open_settings::judge_layers;
-use rdl_rules::Fact;
+use rdl_rules::Settled;
 use rdl_tree::Elab;
 use std::alloc::Global;
-
-/// What is known of the nodes of a tree of which no rule on settings fails.
-#[derive(Drop)]
-pub struct Settled<'a> {
-    /// What their properties are set to.
-    pub props: Props<'a>,
-    /// What is known of the fields and signals beside that, each at its number.
-    pub facts: Vec<Fact>,
-}
 
 /// The nodes of a tree, the bodies that are open for them, and what decides their properties.
 #[derive(Drop)]
 struct Gathered<'a> {
     rows: Vec<Row<'a>>,
     tree: OpenTree<'a>,
-    entries: Vec<Vec<Entry<'a>>>,
+    entries: Vec<Vec<PropSetting<'a>>>,
 }
 
 // Puts in all failures of the phase, and gives the entries of each node.

@@ -7,6 +7,6 @@ pub mod Offsets
 mod Runs
 pub mod Settled
 pub mod Sizing
-mod Spotting
+mod Placing
 mod Sums
 pub mod Turns

@@ -12,7 +12,8 @@ use Rattle.rdl_values.specs.Parts.{dims_of, is_empty}
 use Rattle.rdl_values.specs.Paths.{in_node, path_in}
 use Rattle.rdl_values.specs.Uses.{Seen, parent_of}
 use Rattle.rdl_values.specs.Values.{Outcome}
-use Rattle.rdl_values.proofs.Given.{each-append, each-imp, seen-parents}
+use Rattle.rdl_values.proofs.Given.{seen-parents}
+use Rattle.plain_lemmas.proofs.Lists.{each-append, each-imp}
 use Rattle.rdl_addr.specs.Layout.{group, grouped, has_address, instances}
 use Rattle.rdl_sizes.specs.Bodies.{addressed, all_zero, is_first, runs, with_one}
 use Rattle.rdl_sizes.proofs.Gathered.{placed-by-kind}

@@ -11,7 +11,7 @@ use Rattle.rdl_layout.specs.declared.part.Mode.{Mode}
 use Rattle.rdl_layout.specs.declared.part.Part.{Part}
 use Rattle.rdl_layout.specs.Parts as parts
 use Rattle.rdl_addr.specs.Layout as layout
-use Rattle.rdl_addr.specs.Layout.{Group, elements_from, greatest, group, grouped, has_address, instances, offsets}
+use Rattle.rdl_addr.specs.Layout.{Group, elements_from, greatest, group, grouped, has_address}
 use Rattle.rdl_addr.specs.Parts.{ArePartsOf, mode_of}
 use Rattle.rdl_addr.specs.Rules as rule
 use Rattle.rdl_addr.proofs.Covers.{filter-append, placed_groups}
@@ -19,6 +19,7 @@ use Rattle.rdl_addr.proofs.Grouped.{ending, starting, strides}
 use Rattle.rdl_sizes.specs.declared.lot.Lot.{Lot}
 use Rattle.rdl_sizes.specs.Elements.{element_starts, elements}
 use Rattle.rdl_sizes.specs.Lots.{AreLotsOf, IsLotOf, greatest_access, lot_faults, parts_in}
+use Rattle.plain_lemmas.proofs.Numbers.{max_assoc as max-assoc}
 
 pub parts-are : (ls : List Lot) (gs : List Group) → AreLotsOf ls gs → ArePartsOf (parts_in ls) gs
 parts-are [] [] h = tt
@@ -61,9 +62,6 @@ starts-are m before (p ∷ ps) (g ∷ gs) h =
     (λ i. here i ++ rest i) ∙ sym (map-append (λ c. c.1) (elements_from (layout.start (mode_of m) before g) (layout.stride (mode_of m) g) (g.first ∷ g.others)) (placed_groups (mode_of m) (layout.end (mode_of m) before g) gs))
 
 -- the greatest access width
-
-max-assoc : (a b c : ℕ) → max (max a b) c ≡ max a (max b c)
-max-assoc a b c = omega arith
 
 greatest-append : (xs ys : List ℕ) → greatest (xs ++ ys) ≡ max (greatest xs) (greatest ys)
 greatest-append [] ys = omega arith

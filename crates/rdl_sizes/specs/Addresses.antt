@@ -15,12 +15,12 @@ address_by as_ None offset = 0
 address_by as_ (Some p) offset = address_at as_ p + offset
 
 -- the node stands here, and what is in it where it then does
-unfoldable pub IsSpot : Elab → Lineage → ℕ → Type 0
-IsSpot e l at = (p : Placed) → Contains (placed_from (levels l.ancestors) (mode_under l.ancestors) at l.node) p → Contains (layout (Some (top_name e)) e.source.now) p
+unfoldable pub IsArea : Elab → Lineage → ℕ → Type 0
+IsArea e l at = (p : Placed) → Contains (placed_from (levels l.ancestors) (mode_under l.ancestors) at l.node) p → Contains (layout (Some (top_name e)) e.source.now) p
 
 -- The addresses are those of the first nodes.
 pub record AreFirst (e : Elab) (as_ : List ℕ) : Type 0 where
-  pub spots : (k : ℕ) (l : Lineage) → k < length as_ → slice_get (lineages_of e) k ≡ Some l → has_address l.node ≡ true → IsSpot e l (address_at as_ k)
+  pub areas : (k : ℕ) (l : Lineage) → k < length as_ → slice_get (lineages_of e) k ≡ Some l → has_address l.node ≡ true → IsArea e l (address_at as_ k)
 
 -- of all nodes
 pub record AreAddresses (e : Elab) (as_ : List ℕ) : Type 0 where

@@ -38,7 +38,8 @@ use Rattle.rdl_rules.specs.FieldRules.{at_node, bad_pulse, counter_parts, is_abo
 use Rattle.rdl_rules.specs.Fields.{class_of, field_of, latch_of, reset_signals, shown_of, showing}
 use Rattle.rdl_rules.specs.Numbers.{Numbered, all_signals, number_of}
 use Rattle.rdl_sound_laws.specs.Faultless.{IsFaultless, Leads}
-use Rattle.rdl_sound_laws.proofs.Counting.{IsNarrow, count-fits, fits, narrow}
+use Rattle.rdl_sound_laws.proofs.Counting.{IsNarrow, count-fits, narrow}
+use Rattle.plain_lemmas.proofs.Numbers.{fits}
 use Rattle.rdl_sound_laws.proofs.Fed.{gate-fed, gated-has, none-both, when-none}
 
 -- The rules on a field of which none fails.

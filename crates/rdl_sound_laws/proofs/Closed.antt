@@ -1,7 +1,7 @@
 -- The nodes of a source with all that stands in them.
 use Rattle.std.proofs.Common.{◌≡◌, ◌∙◌, ◌⊎◌, inl, inr, true, length, ℕ, zero, suc, ◌<◌, List, [], ◌∷◌, ◌++◌, flat_map, Option, None, Some, option_to_list, slice_get, refl, sym, ap, subst, arith}
 use Rattle.std.specs.List.{AllByRecursion}
-use Rattle.plain_lemmas.proofs.Lists.{each-both as all-both, each-flat as split-flat, each-right as right-part}
+use Rattle.plain_lemmas.proofs.Lists.{each-append, each-both as all-both, each-flat as split-flat, each-flat_map, each-imp, each-right as right-part}
 use Rattle.rdl_tree.specs.declared.item.Source.{Source}
 use Rattle.rdl_values.specs.Bodies.{Body, Step, standing, standing_from}
 use Rattle.rdl_values.specs.Given.{IsGivenBy}
@@ -12,7 +12,7 @@ use Rattle.rdl_values.specs.Bodies as bodies
 use Rattle.rdl_values.specs.Instances.{kind_of}
 use Rattle.rdl_values.specs.Top.{top_seen, top_use_of}
 use Rattle.rdl_values.specs.Uses.{Seen, Use, parent_of, seen, uses}
-use Rattle.rdl_values.proofs.Given.{IsAtRoot, each-append, each-flat_map, each-imp, each-map, given-all, held, signals-given}
+use Rattle.rdl_values.proofs.Given.{IsAtRoot, each-map, given-all, held, signals-given}
 use Rattle.rdl_values.proofs.Numbered.{At, Deep, bottom, lower, tops_deep}
 use Rattle.rdl_nodes.proofs.Paths.{paths_differ}
 use Rattle.rdl_nodes.proofs.Members.{In, get-read, get-within, in-left, in-place, in-right}

@@ -1,5 +1,5 @@
 -- Numbers of counters that their fields can hold.
-use Rattle.std.proofs.Common.{◌≡◌, ℕ, ◌<◌, ◌≤◌, ◌^◌, ◌==◌, ◌||◌, Bool, true, false, nat_lt, nat_le, List, [], ◌∷◌, Option, None, Some, refl, arith}
+use Rattle.std.proofs.Common.{◌≡◌, ℕ, ◌<◌, ◌≤◌, ◌^◌, ◌==◌, ◌||◌, Bool, true, false, nat_lt, List, [], ◌∷◌, Option, None, Some, refl, arith}
 use Rattle.std.specs.List.{list_any}
 use Rattle.std.proofs.Math.Pow.{pow_mono}
 use Rattle.std.proofs.lemmas.Bool.Decides.{nat_tests}
@@ -23,10 +23,9 @@ use Rattle.rb_model.specs.References.{WithSome}
 use Rattle.rb_model.specs.SoundField.{AmountFits, CountFits, LevelFits, PartFits, is_fed}
 use Rattle.rdl_rules.specs.Feeds.{count_of, item_at, level_at, level_or, ones_of, part_at, when_some}
 use Rattle.rdl_rules.specs.FieldRules.{bad_count_width, is_above, numbers, too_wide}
+use Rattle.plain_lemmas.proofs.Numbers.{fits}
 
 -- a number that isn't above fits
-pub fits : (b k : ℕ) → nat_le b k ≡ false → k < b
-fits b k e = grind (arith, nat_tests)
 
 -- Amounts.
 

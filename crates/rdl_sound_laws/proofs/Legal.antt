@@ -6,12 +6,12 @@ use Rattle.rb_base.specs.declared.place.Place.{Place}
 use Rattle.rdl_base.specs.declared.rule.Rule.TheVariants as rules
 use Rattle.rdl_tree.specs.Kinds.{same_kind}
 use Rattle.rdl_props.specs.Same.{same_prop}
-use Rattle.rdl_props.specs.Table.{Default, default_of, group_of, is_legal, row, takes_of}
+use Rattle.rdl_props.specs.Table.{Default, default_of, group_of, row, takes_of}
 use Rattle.rdl_props.specs.Table as table
 use Rattle.rdl_props.specs.declared.prop.Prop.{Prop}
 use Rattle.rdl_props.specs.declared.prop.Prop.TheVariants as prop
 use denote.Enum.Bare.{same_true}
-use Rattle.plain_lemmas.proofs.Lists.{each-filter, filter-each as passes}
+use Rattle.plain_lemmas.proofs.Lists.{each-append, each-filter, each-flat_map, each-imp, filter-each as passes}
 use Rattle.rdl_props.specs.contracts.prop.Prop as of_prop
 use Rattle.rdl_tree.specs.declared.expr.Name.{Name}
 use Rattle.rdl_tree.specs.declared.expr.Path.{Path}
@@ -24,7 +24,7 @@ use Rattle.rdl_values.specs.Faults.{at_, when}
 use Rattle.rdl_values.specs.Instances.{Instance, body, children, kind_of, nodes}
 use Rattle.rdl_values.specs.Parts.{is_empty}
 use Rattle.rdl_values.specs.Values.{Outcome, number_of}
-use Rattle.rdl_values.proofs.Given.{each-append, each-flat_map, each-imp, each-map, none_in}
+use Rattle.rdl_values.proofs.Given.{each-map, none_in}
 use Rattle.rdl_nodes.proofs.Members.{In, each-in}
 use Rattle.rdl_refs.proofs.OneTarget.{is_same_path}
 use Rattle.rdl_layers.specs.declared.rank.Rank.{Rank}

@@ -8,7 +8,7 @@ use Rattle.rdl_base.specs.declared.rule.Rule.TheVariants as rules
 use Rattle.rdl_values.specs.Bodies.{standing_from}
 use Rattle.rdl_values.specs.Faults.{at_, when}
 use Rattle.rdl_values.specs.Instances.{Instance, upto}
-use Rattle.rdl_values.proofs.Given.{each-append, each-imp}
+use Rattle.plain_lemmas.proofs.Lists.{each-append, each-imp}
 use Rattle.rdl_layers.specs.Fields.{fields_of}
 use Rattle.rdl_nodes.proofs.Apart.{Across, Apart, all-of, apart-append, apart-flat_map, apart-imp, apart-map}
 use Rattle.rdl_nodes.proofs.Members.{In, each-in, in-left, in-map, in-right, map-in}

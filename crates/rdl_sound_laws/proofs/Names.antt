@@ -4,7 +4,7 @@ use Rattle.std.specs.Char.{is_ascii_digit}
 use Rattle.std.specs.List.{AllByRecursion, list_all}
 use Rattle.std.proofs.lemmas.List.{append_cancel_left, map-append}
 use Rattle.std.proofs.lemmas.List.Elements.{recursion_from_All}
-use Rattle.plain_lemmas.proofs.Lists.{each-filter, filter-each as passed, flat_map-alike as flat-same, map-map}
+use Rattle.plain_lemmas.proofs.Lists.{each-append, each-filter, each-flat_map, each-imp, filter-each as passed, flat_map-alike as flat-same, map-map}
 use Rattle.plain_lemmas.proofs.Bools.{and-left}
 use Rattle.rb_model.specs.declared.block.Block.{Block}
 use Rattle.rb_model.specs.Ports.{signal_name}
@@ -24,7 +24,7 @@ use Rattle.rdl_values.specs.Instances.{Instance, children, kind_of, most_names, 
 use Rattle.rdl_values.specs.Lineages.{Lineage, lineages, nodes_in}
 use Rattle.rdl_values.specs.NoNode.{may_hold}
 use Rattle.rdl_values.specs.Paths.{Path, Step, at_root, below_top, of_signal, path_text}
-use Rattle.rdl_values.proofs.Given.{IsAtRoot, each-append, each-flat_map, each-imp, held, signals-given, tops-given}
+use Rattle.rdl_values.proofs.Given.{IsAtRoot, held, signals-given, tops-given}
 use Rattle.rdl_nodes.proofs.Apart.{Across, Apart, across, apart-flat_map, apart-imp}
 use Rattle.rdl_nodes.proofs.Lineages.{all_nodes}
 use Rattle.rdl_nodes.proofs.Paths.{Differ, IsChild, IsUnder, are_children, children_apart, nodes_apart, under}

@@ -23,6 +23,7 @@ use Rattle.rdl_rules.specs.Words.{slot, slots_from}
 use Rattle.rdl_sound_laws.proofs.Meeting.{each-of, none-any}
 use Rattle.rdl_sound_laws.proofs.Placed.{nil-left, nil-right, when-nil}
 use Rattle.rdl_sound_laws.proofs.Shown.{SlotIn, slot-from, when-in}
+use Rattle.plain_lemmas.proofs.Numbers.{most as at-most}
 
 -- Which fields may not clash.
 
@@ -81,9 +82,6 @@ shared true true true e f h = refl
 shared true true false e f h = cc h
 shared true false z e f h = cc f
 shared false y z e f h = cc e
-
-at-most : (x y : ℕ) → x ≤ y → nat_le x y ≡ true
-at-most x y l = grind (arith, nat_tests, l)
 
 may-share : (b c : Bits) → Clear b c → b.low ≤ c.high → c.low ≤ b.high → may_share_bits (setting c.node prop.Sw) (setting b.node prop.Sw) ≡ true
 may-share b c clear l m = shared (nat_le c.low b.high) (nat_le b.low c.high) (may_share_bits (setting c.node prop.Sw) (setting b.node prop.Sw)) (at-most c.low b.high m) (at-most b.low c.high l) clear

@@ -5,10 +5,9 @@ use Rattle.std.specs.List.{AllByRecursion, join_with_byte, list_all}
 use Rattle.std.specs.Str.Parse.{AllDigits}
 use Rattle.std.proofs.lemmas.Fmt.{decimal_injective, decimal_is_IsNumeral}
 use Rattle.std.proofs.lemmas.Str.Parse.{tells_digits}
-use Rattle.plain_lemmas.proofs.Lists.{nil-cons as one_is_none}
+use Rattle.plain_lemmas.proofs.Lists.{each-append, nil-cons as one_is_none}
 use Rattle.rdl_tree.specs.Words.{is_in_word, is_letter, is_word}
 use Rattle.rdl_values.specs.Paths.{Step, joined, words_of}
-use Rattle.rdl_values.proofs.Given.{each-append}
 use Rattle.v_design.specs.Lexemes.{is_name_byte}
 use Rattle.rdl_sound_laws.proofs.Cut.{IsPlain, IsText, head_or, joined_once, rest_of}
 

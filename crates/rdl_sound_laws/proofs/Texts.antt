@@ -3,7 +3,7 @@ use Rattle.std.proofs.Common.{◌≡◌, ◌∙◌, ℕ, zero, suc, ◌+◌, ◌
 use Rattle.std.specs.List.{AllByRecursion, list_all}
 use Rattle.std.proofs.lemmas.List.{length-append, length-drop, length-map}
 use Rattle.std.proofs.lemmas.List.Elements.{All-contains, All-from_recursion, recursion_from_All}
-use Rattle.plain_lemmas.proofs.Lists.{each-left as part-left, each-right as part-right}
+use Rattle.plain_lemmas.proofs.Lists.{each-append, each-flat_map, each-imp, each-left as part-left, each-right as part-right}
 use Rattle.rdl_tree.specs.declared.item.Kind.{Kind}
 use Rattle.rdl_tree.specs.declared.item.Source.{Source}
 use Rattle.rdl_tree.specs.declared.node.Elab.{Elab}
@@ -21,7 +21,7 @@ use Rattle.rdl_values.specs.Top.{root}
 use Rattle.rdl_values.specs.Uses.{Seen, seen}
 use Rattle.rdl_values.specs.Values.{Outcome}
 use Rattle.rdl_values.proofs.Clean.{none_over}
-use Rattle.rdl_values.proofs.Given.{each-append, each-flat_map, each-imp, seen-parents, tops-given}
+use Rattle.rdl_values.proofs.Given.{seen-parents, tops-given}
 use Rattle.rdl_values.proofs.Sorted.{none_fails}
 use Rattle.rdl_refs.specs.Leads.{is_at_root}
 use Rattle.v_design.specs.Lexemes.{is_name_byte}

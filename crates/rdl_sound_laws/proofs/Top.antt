@@ -15,7 +15,8 @@ use Rattle.rdl_values.specs.Top.{is_addrmap, is_wanted, root, top_at, top_named,
 use Rattle.rdl_values.specs.Uses.{Use}
 use Rattle.rdl_values.specs.Views.{item_is}
 use Rattle.rdl_values.proofs.Clean.{nearest_is, unreversed}
-use Rattle.rdl_values.proofs.Given.{each-append, each-imp, given-all}
+use Rattle.rdl_values.proofs.Given.{given-all}
+use Rattle.plain_lemmas.proofs.Lists.{each-append, each-imp}
 
 abbrev OfMap : Option Use → Type 0
 OfMap None = Unit {0}

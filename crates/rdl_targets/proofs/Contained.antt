@@ -14,7 +14,7 @@ use Rattle.rdl_values.specs.Instances.{Instance, children}
 use Rattle.rdl_values.specs.Lineages.{Lineage, lineages_of}
 use Rattle.rdl_nodes.specs.Rows.{AreInside, AreRows, AreRowsFrom}
 use Rattle.rdl_nodes.specs.declared.table.Row.{Row}
-use Rattle.rdl_targets.specs.Keyed.{Key, nodes_of, same_key}
+use Rattle.rdl_nodes.specs.Keyed.{Key, nodes_under, same_key}
 use Rattle.rdl_targets.specs.At.{AreAt, IsAt, id_of}
 use Rattle.rdl_targets.specs.Contents.{AddsNodes, AreContents, element_key, is_element, is_named, name_key, under}
 use Rattle.rdl_targets.specs.declared.contents.Contents.{Contents}
@@ -37,12 +37,12 @@ puts-more : (key : ℕ → Node → Key) (b : ℕ) (rs : List Node) (r : Node) (
 puts-more key b rs r old between new h one k = one k ∙ ap (λ xs. xs ++ under key k b (r ∷ [])) (h k) ∙ append_assoc (old k) (under key k b rs) (under key k b (r ∷ [])) ∙ ap (λ xs. old k ++ xs) (sym (under-append key k b rs (r ∷ [])))
 
 pub none_put : (b : ℕ) (c : Contents) → AddsNodes b [] c c
-none_put b c = record { names_ = puts-none name_key b (nodes_of c.names); elements_ = puts-none element_key b (nodes_of c.elements) }
+none_put b c = record { names_ = puts-none name_key b (nodes_under c.names); elements_ = puts-none element_key b (nodes_under c.elements) }
 
 pub more_put : (b : ℕ) (rs : List Node) (i : ℕ) (r : Node) (old between new : Contents) → i < length rs → r ≡ get_or rs i r → AddsNodes b (take i rs) old between → AddsNodes b (r ∷ []) between new → AddsNodes b (take (i + 1) rs) old new
 more_put b rs i r old between new l at h one = subst (λ ss. AddsNodes b ss old new) (ap (λ s. take i rs ++ (s ∷ [])) at ∙ sym (take_more rs i r l)) (record {
-  names_ = puts-more name_key b (take i rs) r (nodes_of old.names) (nodes_of between.names) (nodes_of new.names) h.names_ one.names_;
-  elements_ = puts-more element_key b (take i rs) r (nodes_of old.elements) (nodes_of between.elements) (nodes_of new.elements) h.elements_ one.elements_;
+  names_ = puts-more name_key b (take i rs) r (nodes_under old.names) (nodes_under between.names) (nodes_under new.names) h.names_ one.names_;
+  elements_ = puts-more element_key b (take i rs) r (nodes_under old.elements) (nodes_under between.elements) (nodes_under new.elements) h.elements_ one.elements_;
 })
 
 pub all_put : (b : ℕ) (rs : List Node) (i : ℕ) (old new : Contents) → length rs ≤ i → AddsNodes b (take i rs) old new → AddsNodes b rs old new
@@ -55,10 +55,10 @@ of-row key k x = under key k (out-Node x.node.now).id (out-Node x.node.now).chil
 
 -- the nodes in the bodies that these rows say
 pub record AreUnder (rows : List Row) (c : Contents) : Type 0 where
-  pub names_ : (k : Key) → nodes_of c.names k ≡ flat_map (of-row name_key k) rows
-  pub elements_ : (k : Key) → nodes_of c.elements k ≡ flat_map (of-row element_key k) rows
+  pub names_ : (k : Key) → nodes_under c.names k ≡ flat_map (of-row name_key k) rows
+  pub elements_ : (k : Key) → nodes_under c.elements k ≡ flat_map (of-row element_key k) rows
 
-pub no_bodies : (c : Contents) → ((k : Key) → nodes_of c.names k ≡ []) → ((k : Key) → nodes_of c.elements k ≡ []) → AreUnder [] c
+pub no_bodies : (c : Contents) → ((k : Key) → nodes_under c.names k ≡ []) → ((k : Key) → nodes_under c.elements k ≡ []) → AreUnder [] c
 no_bodies c names elements = record { names_ = names; elements_ = elements }
 
 row-more : (f : Row → List ℕ) (rows : List Row) (i : ℕ) (x : Row) (old new : List ℕ) → i < length rows → x ≡ get_or rows i x → old ≡ flat_map f (take i rows) → new ≡ old ++ f x → new ≡ flat_map f (take (i + 1) rows)
@@ -68,8 +68,8 @@ row-more f rows i x old new l at h put =
 
 pub more_bodies : (rows : List Row) (i : ℕ) (x : Row) (old new : Contents) → i < length rows → x ≡ get_or rows i x → AreUnder (take i rows) old → AddsNodes (out-Node x.node.now).id (out-Node x.node.now).children.now old new → AreUnder (take (i + 1) rows) new
 more_bodies rows i x old new l at h put = record {
-  names_ = λ k. row-more (of-row name_key k) rows i x (nodes_of old.names k) (nodes_of new.names k) l at (h.names_ k) (put.names_ k);
-  elements_ = λ k. row-more (of-row element_key k) rows i x (nodes_of old.elements k) (nodes_of new.elements k) l at (h.elements_ k) (put.elements_ k);
+  names_ = λ k. row-more (of-row name_key k) rows i x (nodes_under old.names k) (nodes_under new.names k) l at (h.names_ k) (put.names_ k);
+  elements_ = λ k. row-more (of-row element_key k) rows i x (nodes_under old.elements k) (nodes_under new.elements k) l at (h.elements_ k) (put.elements_ k);
 }
 
 pub all_bodies : (rows : List Row) (i : ℕ) (c : Contents) → length rows ≤ i → AreUnder (take i rows) c → AreUnder rows c

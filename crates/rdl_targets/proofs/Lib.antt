@@ -1,5 +1,4 @@
 pub mod Contained
-mod Keyed
 mod Leading
 pub mod Numbered
 mod Stepping

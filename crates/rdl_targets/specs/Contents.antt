@@ -7,7 +7,7 @@ use Rattle.rdl_values.specs.Elaborated.{index_of}
 use Rattle.rdl_values.specs.Instances.{Instance, children}
 use Rattle.rdl_values.specs.Lineages.{lineages_of}
 use Rattle.rdl_values.specs.Values.{Around}
-use Rattle.rdl_targets.specs.Keyed.{Key, nodes_of, same_key}
+use Rattle.rdl_nodes.specs.Keyed.{Key, nodes_under, same_key}
 use Rattle.rdl_layers.specs.Assignments.{is_step}
 use Rattle.rdl_targets.specs.At.{AreAt, IsAt, id_of}
 use Rattle.rdl_targets.specs.Steps.{Wants}
@@ -33,13 +33,13 @@ under key k b rs = map id_of (filter (λ r. same_key (key b r) k) rs)
 
 -- Nodes are put into the body of this number.
 pub record AddsNodes (b : ℕ) (rs : List Node) (old new : Contents) : Type 0 where
-  pub names_ : (k : Key) → nodes_of new.names k ≡ nodes_of old.names k ++ under name_key k b rs
-  pub elements_ : (k : Key) → nodes_of new.elements k ≡ nodes_of old.elements k ++ under element_key k b rs
+  pub names_ : (k : Key) → nodes_under new.names k ≡ nodes_under old.names k ++ under name_key k b rs
+  pub elements_ : (k : Key) → nodes_under new.elements k ≡ nodes_under old.elements k ++ under element_key k b rs
 
 -- The nodes in each body by their names, and by their names and indices.
 pub record AreContents (e : Elab) (c : Contents) : Type 0 where
-  pub named : (k : ℕ) (n : Instance) (name : List ℕ) → IsAt (lineages_of e) k n → AreAt (lineages_of e) (nodes_of c.names (record { body = k; name = name; index = [] })) (filter (is_named name) (children n))
-  pub indexed : (k : ℕ) (n : Instance) (name index : List ℕ) → IsAt (lineages_of e) k n → AreAt (lineages_of e) (nodes_of c.elements (record { body = k; name = name; index = index })) (filter (is_element name index) (children n))
+  pub named : (k : ℕ) (n : Instance) (name : List ℕ) → IsAt (lineages_of e) k n → AreAt (lineages_of e) (nodes_under c.names (record { body = k; name = name; index = [] })) (filter (is_named name) (children n))
+  pub indexed : (k : ℕ) (n : Instance) (name index : List ℕ) → IsAt (lineages_of e) k n → AreAt (lineages_of e) (nodes_under c.elements (record { body = k; name = name; index = index })) (filter (is_element name index) (children n))
 
 -- Those in the body of a node that a step leads to are put behind others.
 pub record AddsFound (c : Contents) (k : ℕ) (t : Step) (w : Wanted) (old new : List ℕ) : Type 0 where

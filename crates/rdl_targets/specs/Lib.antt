@@ -1,4 +1,3 @@
 pub mod At
 pub mod Contents
-pub mod Keyed
 pub mod Steps

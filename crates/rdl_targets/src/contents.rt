@@ -5,23 +5,22 @@ ghost use Rattle.rdl_tree.specs.declared.node.Elab.{Elab};
 ghost use Rattle.rdl_nodes.specs.Rows.{AreRows};
 ghost use Rattle.rdl_targets.specs.Contents.{AreContents};
 
-use crate::keys::Keys;
 use rb_base::NoMemory;
-use rdl_nodes::Row;
+use rdl_nodes::{NodeIndex, Row};
 use rdl_tree::Node;
 use std::alloc::Global;
 
 /// The nodes in the bodies of the nodes of a tree, by their names, and by their names and indices.
 #[derive(Drop)]
 pub struct Contents<'a> {
-    pub(crate) names: Keys<'a>,
-    pub(crate) elements: Keys<'a>,
+    pub(crate) names: NodeIndex<'a>,
+    pub(crate) elements: NodeIndex<'a>,
 }
 
 impl<'a> Contents<'a> {
     ghost use Rattle.std.specs.Prelude.{◌≡◌, ◌∷◌, [], OnOk};
     ghost use Rattle.rdl_tree.specs.declared.node.Node.{out-Node};
-    ghost use Rattle.rdl_targets.specs.Keyed.{nodes_of};
+    ghost use Rattle.rdl_nodes.specs.Keyed.{nodes_under};
     ghost use Rattle.rdl_targets.specs.Contents.{AddsNodes};
 
     // Puts a node into a body.
@@ -50,8 +49,8 @@ pub fn contents_of<'a>(alloc: Global, rows: &[Row<'a>]) -> Result<Contents<'a>, 
     ensures { IfOk result (λ r. (e : Elab) → AreRows e rows.now → AreContents e r) }
 {
     let mut contents = Contents {
-        names: Keys::new(alloc),
-        elements: Keys::new(alloc),
+        names: NodeIndex::new(alloc),
+        elements: NodeIndex::new(alloc),
     };
     for row in rows {
         contents.add_body(alloc, row.node)?;

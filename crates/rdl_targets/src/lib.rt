@@ -2,10 +2,8 @@
 #![tactic(auto)]
 
 mod contents;
-mod keys;
 mod matching;
 mod paths;
 
 pub use contents::{Contents, contents_of, row_at};
-pub use keys::Keys;
 pub use paths::targets;

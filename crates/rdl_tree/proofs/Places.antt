@@ -16,7 +16,7 @@ use Rattle.rdl_tree.specs.declared.item.Item.{Item}
 use Rattle.rdl_tree.specs.declared.item.Arg.{Arg}
 use Rattle.rdl_tree.specs.declared.item.Def.{Def, out-Def}
 use Rattle.rdl_tree.specs.declared.item.Entry.{Entry}
-use Rattle.rdl_tree.specs.declared.item.Given.{Given}
+use Rattle.rdl_tree.specs.declared.item.Assigned.{Assigned}
 use Rattle.rdl_tree.specs.declared.item.Inst.{Inst}
 use Rattle.rdl_tree.specs.declared.item.Insts.{Insts}
 use Rattle.rdl_tree.specs.declared.item.Param.{Param}
@@ -112,11 +112,11 @@ mutual
   indices_pass tree.no_index = stay
   indices_pass (tree.next_index o d c is) = both (taken o) (both (expr_passes d) (both (taken c) (indices_pass is)))
 
-given_passes : {ts us : List Token} {v : Given} → DerivesGiven ts us v → Passes ts us
+given_passes : {ts us : List Token} {v : Assigned} → DerivesGiven ts us v → Passes ts us
 given_passes (tree.value d) = expr_passes d
 given_passes (tree.word v p) = taken p
 
-assigned_passes : {ts us : List Token} {v : Option Given} → DerivesAssigned ts us v → Passes ts us
+assigned_passes : {ts us : List Token} {v : Option Assigned} → DerivesAssigned ts us v → Passes ts us
 assigned_passes tree.none = stay
 assigned_passes (tree.some p d) = both (taken p) (given_passes d)
 

@@ -19,7 +19,7 @@ use Rattle.rdl_tree.specs.declared.item.Item.{Item}
 use Rattle.rdl_tree.specs.declared.item.Arg.{Arg}
 use Rattle.rdl_tree.specs.declared.item.Def.{Def}
 use Rattle.rdl_tree.specs.declared.item.Entry.{Entry}
-use Rattle.rdl_tree.specs.declared.item.Given.{Given}
+use Rattle.rdl_tree.specs.declared.item.Assigned.{Assigned}
 use Rattle.rdl_tree.specs.declared.item.Inst.{Inst}
 use Rattle.rdl_tree.specs.declared.item.Insts.{Insts}
 use Rattle.rdl_tree.specs.declared.item.Kind.{Kind}
@@ -156,11 +156,11 @@ kind_reads words.Field x g fs ts e r = rule (second (second (second (first r))))
 kind_reads words.Signal x g fs ts e r = rule (second (second (second (second r))))
 kind_reads _ x g fs ts e r = cc
 
-given_reads : {ts us : List Token} {v : Given} → DerivesGiven ts us v → Reading (Non rules.Given) ts us
+given_reads : {ts us : List Token} {v : Assigned} → DerivesGiven ts us v → Reading (Non rules.Given) ts us
 given_reads (tree.value d) g fs r = rule (first (expr_reads d g fs r))
 given_reads {ts = ts} (tree.word {k = k} v p) g fs r = value_word_reads k g fs ts v (taken p g fs r)
 
-assigned_reads : {ts us : List Token} {v : Option Given} → DerivesAssigned ts us v → Reading (Opt (rules.mark marks.Equals then Non rules.Given)) ts us
+assigned_reads : {ts us : List Token} {v : Option Assigned} → DerivesAssigned ts us v → Reading (Opt (rules.mark marks.Equals then Non rules.Given)) ts us
 assigned_reads tree.none g fs r = none r
 assigned_reads (tree.some p d) g fs r = some (both (taken p g _ (given_reads d g fs r)))
 

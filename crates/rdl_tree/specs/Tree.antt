@@ -17,8 +17,8 @@ use Rattle.rdl_tree.specs.declared.expr.Step.{Step}
 use Rattle.rdl_tree.specs.declared.item.Arg.{Arg}
 use Rattle.rdl_tree.specs.declared.item.Def.{Def, out-Def}
 use Rattle.rdl_tree.specs.declared.item.Entry.{Entry}
-use Rattle.rdl_tree.specs.declared.item.Given.{Given}
-use Rattle.rdl_tree.specs.declared.item.Given.TheVariants as given
+use Rattle.rdl_tree.specs.declared.item.Assigned.{Assigned}
+use Rattle.rdl_tree.specs.declared.item.Assigned.TheVariants as given
 use Rattle.rdl_tree.specs.declared.item.Inst.{Inst}
 use Rattle.rdl_tree.specs.declared.item.Insts.{Insts}
 use Rattle.rdl_tree.specs.declared.item.Item.{Item}
@@ -198,14 +198,14 @@ pub data SkipsInternal : List Token → List Token → Type 0 where
   some : {t : Token} {ts us : List Token} → IsWord words.Internal ts t us → SkipsInternal ts us
 
 -- given = expr | a word .
-pub data DerivesGiven : List Token → List Token → Given → Type 0 where
+pub data DerivesGiven : List Token → List Token → Assigned → Type 0 where
   value : {ts us : List Token} {e : Expr} → DerivesExpr ts us e → DerivesGiven ts us (given.Expr e)
   word : {t : Token} {ts us : List Token} {k : Keyword} → IsTrue (is_value k) → IsWord k ts t us → DerivesGiven ts us (given.Word k)
 
 -- [ "=" given ]
-pub data DerivesAssigned : List Token → List Token → Option Given → Type 0 where
+pub data DerivesAssigned : List Token → List Token → Option Assigned → Type 0 where
   none : {ts : List Token} → DerivesAssigned ts ts None
-  some : {t : Token} {ts us vs : List Token} {g : Given} → IsMark marks.Equals ts t us → DerivesGiven us vs g → DerivesAssigned ts vs (Some g)
+  some : {t : Token} {ts us vs : List Token} {g : Assigned} → IsMark marks.Equals ts t us → DerivesGiven us vs g → DerivesAssigned ts vs (Some g)
 
 abbrev pub edge_of : Keyword → Option Edge
 edge_of words.Posedge = Some edges.Posedge
@@ -222,7 +222,7 @@ StartsAt (t ∷ ts) place = place ≡ t.place
 
 -- local = prop [ "=" given ] ";" | edge prop ";" .
 pub data DerivesLocal (place : Place) : List Token → List Token → Set → Type 0 where
-  assigned : {t : Token} {ts us vs ws : List Token} {n : Name} {g : Option Given} → DerivesProp ts us n → DerivesAssigned us vs g → IsMark marks.Semicolon vs t ws
+  assigned : {t : Token} {ts us vs ws : List Token} {n : Name} {g : Option Assigned} → DerivesProp ts us n → DerivesAssigned us vs g → IsMark marks.Semicolon vs t ws
       → DerivesLocal place ts ws (record { prop = n; edge = None; value = g; place = place })
   edged : {t u : Token} {ts us vs ws : List Token} {k : Keyword} {e : Edge} {n : Name} → edge_of k ≡ Some e → IsWord k ts t us → DerivesProp us vs n → IsMark marks.Semicolon vs u ws
       → DerivesLocal place ts ws (record { prop = n; edge = Some e; value = None; place = place })
@@ -309,7 +309,7 @@ mutual
         → DerivesItem ts ys (items.Made a n i)
     default : {t : Token} {ts us vs : List Token} {s : Set} → IsWord words.Default ts t us → s.place ≡ t.place → DerivesLocal s.place us vs s → DerivesItem ts vs (items.Default s)
     local : {ts us : List Token} {s : Set} → DerivesSet ts us s → DerivesItem ts us (items.Local s)
-    dynamic : {t u : Token} {ts us vs ws xs ys : List Token} {p : Path} {n : Name} {g : Option Given} {place : Place} → StartsAt ts place → DerivesPath ts us p → IsMark marks.Arrow us t vs → DerivesProp vs ws n
+    dynamic : {t u : Token} {ts us vs ws xs ys : List Token} {p : Path} {n : Name} {g : Option Assigned} {place : Place} → StartsAt ts place → DerivesPath ts us p → IsMark marks.Arrow us t vs → DerivesProp vs ws n
         → DerivesAssigned ws xs g → IsMark marks.Semicolon xs u ys → DerivesItem ts ys (items.Dynamic p (record { prop = n; edge = None; value = g; place = place }))
 
   -- component = [ "internal" ] kind ( name [ params ] body [ [ "internal" ] insts ] | body [ "internal" ] inst { "," inst } ) ";" .

@@ -58,7 +58,7 @@ pub enum PType {
 
 /// What is assigned to a property: an expression, or a word of the standard.
 #[derive(Clone, Copy)]
-pub enum Given<'a> {
+pub enum Assigned<'a> {
     Expr(Expr<'a>),
     Word(Keyword),
 }
@@ -69,7 +69,7 @@ pub enum Given<'a> {
 pub struct Set<'a> {
     pub prop: Name<'a>,
     pub edge: Option<Edge>,
-    pub value: Option<Given<'a>>,
+    pub value: Option<Assigned<'a>>,
     pub place: Place,
 }
 

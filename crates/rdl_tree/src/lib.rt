@@ -10,7 +10,7 @@ mod token;
 mod value;
 
 pub use expr::{Expr, Name, Op, Path, Step};
-pub use item::{Arg, Def, Entry, Given, Inst, Insts, Item, Kind, PType, Param, Set, Source};
+pub use item::{Arg, Assigned, Def, Entry, Inst, Insts, Item, Kind, PType, Param, Set, Source};
 pub use laws::{derived_in_order, derived_is_source};
 pub use node::{Elab, Node};
 pub use token::{Mark, Terminal, Token, TokenKind};

@@ -28,19 +28,12 @@ use Rattle.rdl_uses.specs.Binding.{IsBinding}
 use Rattle.rdl_uses.specs.Bound.{names_of_args, names_of_params}
 use Rattle.rdl_uses.specs.declared.arguments.Arguments.{Arguments}
 use Rattle.rdl_uses.specs.declared.binding.Binding.{Binding}
+use Rattle.plain_lemmas.proofs.Lists.{position_from-least as above}
 
 -- the value at a place
 abbrev pub found_at : List Arg → Option ℕ → Option Expr
 found_at args None = None
 found_at args (Some k) = option_map (λ a. a.value) (slice_get args k)
-
-above : (f : List ℕ → Bool) (i : ℕ) (xs : List (List ℕ)) (k : ℕ) → position_from f i xs ≡ Some k → i ≤ k
-above f i [] k e = cc
-above f i (x ∷ xs) k e = go (f x) e (above f (i + 1) xs k)
-  where
-    go : (b : Bool) → cond b (Some i) (position_from f (i + 1) xs) ≡ Some k → (position_from f (i + 1) xs ≡ Some k → i + 1 ≤ k) → i ≤ k
-    go true e ih = let same : i ≡ k = cc in omega (arith, same)
-    go false e ih = let l = ih e in omega (arith, l)
 
 -- the value at a place, counted from this one
 abbrev pub value_from : ℕ → List Arg → Option ℕ → Option Expr

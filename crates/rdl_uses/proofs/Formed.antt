@@ -10,7 +10,7 @@ use Rattle.rdl_tree.specs.declared.item.Kind.TheVariants as kinds
 use Rattle.rdl_values.specs.Parts.{is_empty, is_unit}
 use Rattle.rdl_values.specs.Phase3.{is_bad_form, is_field}
 use Rattle.rdl_values.specs.Uses.{Use, form_of}
-use Rattle.rdl_values.proofs.Copied.{some_copied}
+use Rattle.plain_lemmas.proofs.Options.{some_copied}
 
 pub same_field : (k : Kind) → sameb of_kind.the_type k kinds.Field ≡ is_field k
 same_field kinds.Addrmap = refl

@@ -21,7 +21,7 @@ use Rattle.rdl_uses.specs.Given.{IsType, TypeUsed, given_in, pair_of, seen_behin
 use Rattle.rdl_uses.specs.Judged.{IsSeen, of_values}
 use Rattle.rdl_uses.specs.declared.earlier.Earlier.{Earlier}
 use Rattle.rdl_uses.specs.declared.holder.Parent.{Parent}
-use Rattle.rdl_uses.specs.declared.instances.Given.{Given}
+use Rattle.rdl_uses.specs.declared.instances.SizedInst.{SizedInst}
 use Rattle.rdl_uses.specs.declared.instances.Visited.{Visited}
 
 module _ (t : TypeUsed) (us : List Use) where
@@ -84,7 +84,7 @@ given-is {V = V} items t s i r inst e h = go r (is_empty (no_node s)) refl e h
     go (Some v) true q e h = sym (ap (λ b. cond b parts []) q ∙ (λ j. flat_map (λ i. map (λ ds. (i, ds)) (option_to_list (result_ok (h j)))) (option_to_list (inst j))))
 
 -- What was done for some instances of a type, behind others of the body.
-pub record Done (t : TypeUsed) (us : List Use) (is : List Inst) (e : Earlier) (l0 l1 : List Fault) (list : List Given) : Type 0 where
+pub record Done (t : TypeUsed) (us : List Use) (is : List Inst) (e : Earlier) (l0 l1 : List Fault) (list : List SizedInst) : Type 0 where
   pub earlier : AreEarlier e (us ++ map (use_by t) is)
   pub noted : l1 ≡ with_all (flat_map of_use (seens t us is)) l0
   pub given : map pair_of list ≡ flat_map (given_in t) (seens t us is)
@@ -92,7 +92,7 @@ pub record Done (t : TypeUsed) (us : List Use) (is : List Inst) (e : Earlier) (l
 abbrev Dims : Type 0
 Dims = Vec ℕ Global
 
-pub one_more : (t : TypeUsed) (us : List Use) (v : Visited) (parent : Parent) (visible : Chain) (l0 : List Fault) → IsType v parent visible l0 t → (is : List Inst) (k : ℕ) → k < length is → (e e' : Earlier) (l1 l2 : List Fault) (list list' : List Given) (i : Inst) → i ≡ get_or is k i
+pub one_more : (t : TypeUsed) (us : List Use) (v : Visited) (parent : Parent) (visible : Chain) (l0 : List Fault) → IsType v parent visible l0 t → (is : List Inst) (k : ℕ) → k < length is → (e e' : Earlier) (l1 l2 : List Fault) (list list' : List SizedInst) (i : Inst) → i ≡ get_or is k i
     → (dims : Option Dims) (none single : Bool) → Done t us (take k is) e l0 l1 list
     → ((s : Seen) (c : Closure) → IsSeen i v.def.now v.alias parent visible e s c → Holds l1 (of_values s.use_ c) → v.given ≡ is_empty (of_values s.use_ c) → (l2 ≡ with_all (of_use s) l1) × (is_some dims ≡ is_empty (no_node s)))
     → ((s : Seen) (c : Closure) → IsSeen i v.def.now v.alias parent visible e s c → IfSome dims (λ ds. dims_of s.use_ c.def.kind ≡ Ok ds.items))

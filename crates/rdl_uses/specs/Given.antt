@@ -17,7 +17,7 @@ use Rattle.rdl_failures.specs.Shown.{IsShown}
 use Rattle.rdl_uses.specs.Judged.{of_values}
 use Rattle.rdl_uses.specs.Placed.{IsParent}
 use Rattle.rdl_uses.specs.declared.holder.Parent.{Parent}
-use Rattle.rdl_uses.specs.declared.instances.Given.{Given}
+use Rattle.rdl_uses.specs.declared.instances.SizedInst.{SizedInst}
 use Rattle.rdl_uses.specs.declared.instances.Visited.{Visited}
 
 -- A type that is used in a body, with its arguments; what its name means; and where the body stands.
@@ -52,7 +52,7 @@ pub record IsType (v : Visited) (parent : Parent) (visible : Chain) (held : List
   pub given : (i : Inst) → v.given ≡ is_empty (of_values (use_by t i) t.closure)
 
 -- an instance with its dimensions
-abbrev pub pair_of : Given → Inst × List ℕ
+abbrev pub pair_of : SizedInst → Inst × List ℕ
 pair_of g = (g.inst.now, g.dims.items)
 
 -- that of a use that gives nodes

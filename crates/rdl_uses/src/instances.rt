@@ -27,7 +27,7 @@ pub struct Visited<'d, 'a> {
 
 /// An instance that gives nodes, and its dimensions.
 #[derive(Drop)]
-pub struct Given<'a> {
+pub struct SizedInst<'a> {
     pub inst: &'a Inst<'a>,
     pub dims: Vec<u64>,
 }
@@ -41,7 +41,7 @@ fn is_no_alias(alias: &Option<Name>) -> bool
 
 // Puts an instance behind the others, if it gives nodes.
 fn add<'a>(
-    list: &mut Vec<Given<'a>>,
+    list: &mut Vec<SizedInst<'a>>,
     inst: &'a Inst<'a>,
     dims: Option<Vec<u64>>,
 ) -> Result<(), NoMemory>
@@ -49,7 +49,7 @@ fn add<'a>(
 {
     match dims {
         Some(dims) => {
-            list.push(Given { inst, dims })?;
+            list.push(SizedInst { inst, dims })?;
             Ok(())
         }
         None => Ok(()),
@@ -66,7 +66,7 @@ pub fn judge_instances<'a>(
     visible: &Chain<'_, '_, '_, 'a>,
     earlier: &mut Earlier<'a>,
     failures: &mut Failures,
-) -> Result<Vec<Given<'a>>, NoMemory>
+) -> Result<Vec<SizedInst<'a>>, NoMemory>
     ensures earlier { IfOk result (λ r. (t : TypeUsed) (us : List Use) → IsType of.now parent visible.now failures.old t → AreEarlier earlier.old us → AreEarlier earlier.new (us ++ map (use_by t) insts.now)) }
     ensures noted { IfOk result (λ r. (t : TypeUsed) (us : List Use) → IsType of.now parent visible.now failures.old t → AreEarlier earlier.old us → failures.new ≡ with_all (flat_map of_use (seens t us insts.now)) failures.old) }
     ensures given { IfOk result (λ r. (t : TypeUsed) (us : List Use) → IsType of.now parent visible.now failures.old t → AreEarlier earlier.old us → map pair_of r.items ≡ flat_map (given_in t) (seens t us insts.now)) }

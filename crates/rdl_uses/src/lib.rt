@@ -21,7 +21,7 @@ pub use binding::{Binding, bind};
 pub use earlier::Earlier;
 pub use holder::{Holder, Parent};
 pub use instance::judge_instance;
-pub use instances::{Given, Visited, judge_instances};
+pub use instances::{SizedInst, Visited, judge_instances};
 pub use lengths::{MOST_BYTES, text_len};
 pub use parts::{is_bad_form, judge_parts};
 pub use standing::Standing;

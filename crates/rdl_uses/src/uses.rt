@@ -14,7 +14,7 @@ ghost use Rattle.rdl_uses.specs.Given.{TypeUsed, given_in, pair_of, seens, use_b
 use crate::binding::Binding;
 use crate::earlier::Earlier;
 use crate::holder::Parent;
-use crate::instances::{Given, Visited, judge_instances};
+use crate::instances::{SizedInst, Visited, judge_instances};
 use crate::values::judge_values;
 use rb_base::{NoMemory, Place};
 use rdl_failures::Failures;
@@ -26,7 +26,7 @@ use std::alloc::Global;
 #[derive(Drop)]
 pub struct Uses<'a> {
     pub binding: Option<Binding<'a>>,
-    pub given: Vec<Given<'a>>,
+    pub given: Vec<SizedInst<'a>>,
 }
 
 /// Puts in all failures of the uses of a visible definition by the instances of one item, which are aliases of a primary where one is

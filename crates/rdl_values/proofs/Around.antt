@@ -18,7 +18,8 @@ use Rattle.rdl_values.specs.Uses.{Use, Seen, seen, uses, uses_of_item, uses_of_i
 use Rattle.rdl_values.specs.Values.{nearest}
 use Rattle.rdl_values.specs.Views as view
 use Rattle.rdl_values.specs.Views.{ItemIs, item_is}
-use Rattle.rdl_values.proofs.Given.{each-append, each-flat_map, each-map, each-imp, given-all}
+use Rattle.rdl_values.proofs.Given.{each-map, given-all}
+use Rattle.plain_lemmas.proofs.Lists.{each-append, each-flat_map, each-imp}
 
 -- Bodies among more.
 

@@ -24,7 +24,8 @@ use Rattle.rdl_values.specs.Values.{nearest}
 use Rattle.rdl_values.specs.Verdict.{IsListOf}
 use Rattle.rdl_values.specs.Views as view
 use Rattle.rdl_values.specs.Views.{ItemIs, item_is}
-use Rattle.rdl_values.proofs.Given.{each-append, each-imp, given-all}
+use Rattle.rdl_values.proofs.Given.{given-all}
+use Rattle.plain_lemmas.proofs.Lists.{bytes_eq-itself as same_bytes, each-append, each-imp}
 use Rattle.rdl_values.proofs.Sorted.{none_fails}
 pub use Rattle.rdl_values.specs.Primary.{Somewhere}
 
@@ -170,9 +171,6 @@ somewhere-imp : {X : Type 0} (P Q : X → Type 0) (xs : List X) → ((x : X) →
 somewhere-imp P Q (x ∷ xs) f (inl h) = inl (f x h)
 somewhere-imp P Q (x ∷ xs) f (inr h) = inr (somewhere-imp P Q xs f h)
 somewhere-imp P Q [] f h = h
-
-same_bytes : (xs : List ℕ) → bytes_eq xs xs ≡ true
-same_bytes xs = (bytes_decides xs xs).1 refl
 
 -- the top that an item gives
 abbrev top_by : Option (List ℕ) → Scope → ItemIs → Option Use

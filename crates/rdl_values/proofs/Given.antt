@@ -15,24 +15,13 @@ use Rattle.rdl_values.specs.Top.{root, top_seen, top_use_of}
 use Rattle.rdl_values.specs.Uses.{Use, Seen, seen, uses, parent_of}
 use Rattle.rdl_values.specs.Given.{IsGivenBy}
 use Rattle.rdl_values.specs.Values.{Outcome}
+use Rattle.plain_lemmas.proofs.Lists.{each-append, each-flat_map, each-imp}
 
 -- Lists.
-
-pub each-append : {X : Type 0} (P : X → Type 0) (xs ys : List X) → AllByRecursion P xs → AllByRecursion P ys → AllByRecursion P (xs ++ ys)
-each-append P [] ys h g = g
-each-append P (x ∷ xs) ys h g = (h.0, each-append P xs ys h.1 g)
-
-pub each-flat_map : {X Y : Type 0} (P : Y → Type 0) (f : X → List Y) (xs : List X) → AllByRecursion (λ x. AllByRecursion P (f x)) xs → AllByRecursion P (flat_map f xs)
-each-flat_map P f [] h = tt
-each-flat_map P f (x ∷ xs) h = each-append P (f x) (flat_map f xs) h.0 (each-flat_map P f xs h.1)
 
 pub each-map : {X Y : Type 0} (P : Y → Type 0) (f : X → Y) (xs : List X) → ((x : X) → P (f x)) → AllByRecursion P (map f xs)
 each-map P f [] h = tt
 each-map P f (x ∷ xs) h = (h x, each-map P f xs h)
-
-pub each-imp : {X : Type 0} (P Q : X → Type 0) (xs : List X) → ((x : X) → P x → Q x) → AllByRecursion P xs → AllByRecursion Q xs
-each-imp P Q [] f h = tt
-each-imp P Q (x ∷ xs) f h = (f x h.0, each-imp P Q xs f h.1)
 
 pub none_in : (xs ys : List Fault) → is_empty (xs ++ ys) ≡ true → (is_empty xs ≡ true) × (is_empty ys ≡ true)
 none_in [] ys h = (refl, h)

@@ -12,7 +12,8 @@ use Rattle.rdl_values.specs.Elaborated.{Says, IsTreeOf, AreTreesOf, node, none, 
 use Rattle.rdl_values.specs.Instances.{Instance, kind_of, children, signals, top_of, with_below, nodes, most_names}
 use Rattle.rdl_values.specs.NoNode.{may_hold, is_signal, holds}
 use Rattle.rdl_values.specs.Paths.{in_node, path_in, depth_in}
-use Rattle.rdl_values.proofs.Given.{each-imp, IsChildOf, IsAtRoot, held, shallow, children-given, signals-given, tops-given}
+use Rattle.rdl_values.proofs.Given.{IsChildOf, IsAtRoot, held, shallow, children-given, signals-given, tops-given}
+use Rattle.plain_lemmas.proofs.Lists.{each-imp}
 
 -- so many levels below the node are all: of a signal at the root none
 abbrev pub At : Path → ℕ → Instance → Type 0

@@ -17,6 +17,7 @@ use Rattle.rdl_values.specs.Primary.{IsPrimaryNode, HasPrimary, Somewhere}
 use Rattle.rdl_values.specs.Uses.{Use, Seen, seen, uses, values, parent_of}
 use Rattle.rdl_values.specs.Values.{Outcome}
 use Rattle.rdl_values.proofs.Given.{none_in, when_none, of_visible, all_empty, judged_of}
+use Rattle.plain_lemmas.proofs.Bools.{true-of_not as not_false}
 
 -- Elements that are somewhere.
 
@@ -144,10 +145,6 @@ no_type s e h =
     let p = none_in (name_twice s) (of_type s s.use_.closure) h in
     let q : is_empty (of_type s None) ≡ true = subst (λ o. is_empty (of_type s o) ≡ true) e p.1 in
     cc
-
-not_false : (b : Bool) → not b ≡ false → b ≡ true
-not_false true h = refl
-not_false false h = cc
 
 named_primary : (s : Seen) → is_empty (no_node s) ≡ true → (n : Name) → s.use_.alias ≡ Some n → has_primary s.earlier n ≡ true
 named_primary s clean n a = go s.use_.closure refl

@@ -6,6 +6,7 @@ use Rattle.std.proofs.lemmas.List.{map-append}
 use Rattle.std.proofs.lemmas.Nat.{div-mul-add}
 use Rattle.rdl_values.specs.Instances.{upto, rows}
 use Rattle.rdl_values.specs.Rows.{product, row}
+use Rattle.plain_lemmas.proofs.Lists.{map-map as map_twice}
 
 upto-add : (m n : ℕ) → upto (m + n) ≡ upto m ++ map (λ k. m + k) (upto n)
 upto-add m zero = let e : m + 0 ≡ m = omega arith in ap upto e ∙ sym (append-nil (upto m))
@@ -19,10 +20,6 @@ map_upto f g (suc n) h =
     let rest = map_upto f g n (λ k l. h k (omega (arith, l))) in
     let last : f n ≡ g n = h n (omega arith) in
     map-append f (upto n) (n ∷ []) ∙ ap (λ xs. xs ++ (f n ∷ [])) rest ∙ ap (λ x. map g (upto n) ++ (x ∷ [])) last ∙ sym (map-append g (upto n) (n ∷ []))
-
-map_twice : {X Y Z : Type 0} (f : Y → Z) (g : X → Y) (xs : List X) → map f (map g xs) ≡ map (λ x. f (g x)) xs
-map_twice f g [] = refl
-map_twice f g (x ∷ xs) = ap (λ ys. f (g x) ∷ ys) (map_twice f g xs)
 
 -- a row in block d
 in_block : (ds : List ℕ) (d j : ℕ) → j < product ds → (d * product ds + j) / product ds ∷ row ds ((d * product ds + j) % product ds) ≡ d ∷ row ds j

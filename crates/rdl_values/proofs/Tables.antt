@@ -13,15 +13,7 @@ use Rattle.rdl_tree.specs.declared.expr.Name.{Name}
 use Rattle.rdl_values.specs.Seen.{val_of}
 use Rattle.rdl_values.specs.Table.{bound_by, entries_by, enums_by, is_enum_named}
 use Rattle.rdl_values.specs.Values.{EnumOf, entry_named}
-
-turned : (a b : List ℕ) → bytes_eq a b ≡ bytes_eq b a
-turned a b = go (bytes_eq a b) (bytes_eq b a) refl refl
-  where
-    go : (x y : Bool) → bytes_eq a b ≡ x → bytes_eq b a ≡ y → x ≡ y
-    go true true p q = refl
-    go false false p q = refl
-    go true false p q = let e : bytes_eq b a ≡ true = (bytes_decides b a).1 (sym ((bytes_decides a b).0 p)) in cc
-    go false true p q = let e : bytes_eq a b ≡ true = (bytes_decides a b).1 (sym ((bytes_decides b a).0 q)) in cc
+use Rattle.plain_lemmas.proofs.Lists.{bytes_eq-swap as turned}
 
 pub lookup-named : {X Y : Type 0} (f : X → Y) (n : List ℕ) (es : List (Bor (List ℕ) × X)) → entry_named n (map (λ e. (e.0.now, f e.1)) es) ≡ option_map f (lookup (λ k. bytes_eq n k.now) es)
 lookup-named f n [] = refl

@@ -18,7 +18,7 @@ use rdl_check::check;
 use rdl_failures::PhaseError;
 use rdl_lexer::spelled_in_order;
 use rdl_nodes::{derived_forms_are_single, forms_are_single, names_are_words};
-use rdl_settle::Settled;
+use rdl_rules::Settled;
 use rdl_tree::{Elab, derived_in_order};
 use rdl_values::name_decides_the_top;
 use std::alloc::Global;

@@ -25,7 +25,8 @@ use rdl_layers::Props;
 use rdl_parser::{ParseError, parse};
 use rdl_place::place;
 use rdl_refs::Refs;
-use rdl_settle::{Settled, settle};
+use rdl_rules::Settled;
+use rdl_settle::settle;
 use rdl_tree::{Elab, Source};
 use std::alloc::Global;
 

@@ -3,7 +3,7 @@
 ghost use Rattle.std.specs.Prelude.{◌≡◌};
 ghost use Rattle.rdl_walk.specs.Walking.{holder_for};
 
-use crate::walk::{Judgement, Spot, Walk};
+use crate::walk::{Judgement, JudgementKey, Walk};
 use bumpalo::Bump;
 use rb_base::NoMemory;
 use rdl_children::{Child, judge_children};
@@ -35,7 +35,7 @@ impl<'a> Walk<'a> {
     fn find_judged(&self, number: usize, standing: Standing) -> Option<Judgement<'a>>
         ensures { IfSome result (λ j. (k : ℕ) × (slice_get self.now.judgements.items k ≡ Some j) × (j.body ≡ number) × (j.standing ≡ standing)) }
     {
-        let spot = Spot {
+        let spot = JudgementKey {
             body: number,
             depth: standing.depth,
             prefix: standing.prefix,
@@ -57,7 +57,7 @@ impl<'a> Walk<'a> {
         ensures count { self.new.count ≡ self.old.count }
         ensures judgements { OnOk result (self.new.judgements.items ≡ self.old.judgements.items ++ (judgement.entry ∷ [])) }
     {
-        let spot = Spot {
+        let spot = JudgementKey {
             body: judgement.body,
             depth: judgement.standing.depth,
             prefix: judgement.standing.prefix,

@@ -20,7 +20,7 @@ pub struct Judgement<'a> {
 
 /// By what a judgement is looked up: the body, how many names a path has in it, and how many bytes its text has before them.
 #[derive(Clone, Copy, PartialEq, Eq, Hash)]
-pub(crate) struct Spot {
+pub(crate) struct JudgementKey {
     pub body: usize,
     pub depth: u8,
     pub prefix: u16,
@@ -36,7 +36,7 @@ pub struct Walk<'a> {
     pub count: u32,
     pub(crate) judgements: Vec<Judgement<'a>>,
     // Which judgement to try.
-    pub(crate) known: IndexMap<Spot, usize>,
+    pub(crate) known: IndexMap<JudgementKey, usize>,
 }
 
 impl<'a> Walk<'a> {

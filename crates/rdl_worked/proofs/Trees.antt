@@ -10,8 +10,8 @@ use Rattle.rdl_tree.specs.declared.expr.Path.{Path, roll-Path}
 use Rattle.rdl_tree.specs.declared.expr.Step.{Step}
 use Rattle.rdl_tree.specs.declared.item.Arg.{Arg}
 use Rattle.rdl_tree.specs.declared.item.Def.{Def}
-use Rattle.rdl_tree.specs.declared.item.Given.{Given}
-use Rattle.rdl_tree.specs.declared.item.Given.TheVariants as given
+use Rattle.rdl_tree.specs.declared.item.Assigned.{Assigned}
+use Rattle.rdl_tree.specs.declared.item.Assigned.TheVariants as given
 use Rattle.rdl_tree.specs.declared.item.Inst.{Inst}
 use Rattle.rdl_tree.specs.declared.item.Insts.{Insts}
 use Rattle.rdl_tree.specs.declared.item.Item.{Item}
@@ -36,13 +36,13 @@ step_to n index = record { name = n; index = lend index }
 abbrev pub path_of : List Step → Path
 path_of steps = roll-Path (record { steps = lend steps })
 
-abbrev pub word : Keyword → Option Given
+abbrev pub word : Keyword → Option Assigned
 word k = Some (given.Word k)
 
-abbrev pub value : Expr → Option Given
+abbrev pub value : Expr → Option Assigned
 value e = Some (given.Expr e)
 
-abbrev pub assign : Name → Option Edge → Option Given → ℕ → Set
+abbrev pub assign : Name → Option Edge → Option Assigned → ℕ → Set
 assign prop edge v place = record { prop = prop; edge = edge; value = v; place = at place }
 
 -- an instance without any part but its name

@@ -1,9 +1,8 @@
 -- One node more at the end.
 use Rattle.std.specs.List.{list_any}
-use Rattle.std.proofs.Common.{ℕ, ◌+◌, ◌≡◌, ◌<◌, ◌^◌, Bool, true, false, ◌||◌, List, [], ◌∷◌, ◌++◌, length, get_or, refl, ap, sym, ◌∙◌, subst, arith, length-append, append-nil}
+use Rattle.std.proofs.Common.{ℕ, ◌+◌, ◌≡◌, ◌<◌, ◌^◌, ◌||◌, List, [], ◌∷◌, ◌++◌, length, get_or, refl, ap, sym, ◌∙◌, subst, arith, length-append, append-nil}
 use Rattle.std.proofs.lemmas.List.Sums.{sum_by-append}
 use Rattle.std.proofs.lemmas.List.Folds.{list_any-append}
-use Rattle.std.proofs.lemmas.Grind.{common_steps}
 use Rattle.rtl_net.specs.Value.{At, node_width, node_value}
 use Rattle.rtl_net.specs.Net.{Net, Settles, Stands, is_clock, Extends, Keeps, Grows, IsNode, CanWire, widths, width_in, registers_of, undriven}
 use Rattle.rtl_net.specs.Made.{IsMade, IsNodeMade}
@@ -14,16 +13,8 @@ use Rattle.rtl_net.specs.declared.node.NetNode.TheVariants.{Input, Register, Wir
 use Rattle.rtl_net.proofs.Places.{slice_get-front, slice_get-end}
 use Rattle.rtl_net.proofs.NodeLists.{widths_after-push, length-widths}
 use Rattle.rtl_net.proofs.Nets.{expr_value-same}
-
-get_or-front : (xs : List ℕ) (y i : ℕ) → i < length xs → get_or (xs ++ y ∷ []) i 0 ≡ get_or xs i 0
-get_or-front xs y i h = grind (arith, common_steps)
-
-get_or-end : (xs : List ℕ) (y i : ℕ) → i ≡ length xs → get_or (xs ++ y ∷ []) i 0 ≡ y
-get_or-end xs y i h = grind (arith, common_steps)
-
-or-left : (a b : Bool) → a ≡ true → (a || b) ≡ true
-or-left true b h = refl
-or-left false b h = cc
+use Rattle.plain_lemmas.proofs.Bools.{or-left}
+use Rattle.plain_lemmas.proofs.Lists.{get_or-end, get_or-front}
 
 pub registers_of-push : (ns : List NetNode) (n : NetNode) → registers_of (ns ++ n ∷ []) ≡ registers_of ns ++ registers_of (n ∷ [])
 registers_of-push [] n = refl

@@ -20,7 +20,7 @@ use Rattle.rtl_net.specs.declared.node.NetNode.TheVariants.{Input, Register, Wir
 use Rattle.rtl_net.specs.declared.node.NetExpr.{NetExpr}
 use Rattle.rtl_net.specs.declared.node.NetReset.{NetReset}
 use Rattle.rtl_net.specs.declared.node.Seat.{Seat}
-use Rattle.rtl_net.specs.declared.node.Taken.TheVariants as takes
+use Rattle.rtl_net.specs.declared.node.Occupant.TheVariants as takes
 use Rattle.rtl_net.proofs.Places.{slice_get-end, one_item}
 use Rattle.rtl_net.proofs.Nets.{Extends-trans, Has-stands}
 use Rattle.rtl_net.proofs.Added.{pushed, pushed_extends, pushed_keeps, pushed_stands, pushed_wire, pushed_grows, registers_of-push, undriven-push, width-end}

@@ -2,7 +2,7 @@
 use Rattle.std.specs.List.{slice_get, list_any, IsDistinct, AllByRecursion}
 use Rattle.std.specs.Str.{bytes_eq}
 use Rattle.std.specs.Cmp.Lexicographic.{nat_list_eq_equiv}
-use Rattle.std.proofs.Common.{zero, suc, ℕ, ◌≡◌, true, false, List, [], ◌∷◌, map, Option, Some, None, refl, ap, sym, ◌∙◌, subst}
+use Rattle.std.proofs.Common.{zero, suc, ℕ, ◌≡◌, false, List, [], ◌∷◌, map, Option, Some, None, refl, ap, sym, ◌∙◌, subst}
 use Rattle.std.proofs.lemmas.Bool.{or_parts, false_from_ne_true, true≢false}
 use Rattle.std.proofs.lemmas.Slice.Eq.{bytes_eq-Decides}
 use Rattle.rtl_net.specs.Names.{Lacks}
@@ -14,18 +14,16 @@ use Rattle.rtl_net.specs.declared.node.NetNode.{NetNode}
 use Rattle.rtl_net.specs.declared.node.NetNode.TheVariants as nodes
 use Rattle.rtl_net.specs.declared.node.NetReset.{NetReset}
 use Rattle.rtl_net.specs.declared.node.Seat.{Seat}
-use Rattle.rtl_net.specs.declared.node.Taken.{Taken}
-use Rattle.rtl_net.specs.declared.node.Taken.TheVariants.{Input, Output}
+use Rattle.rtl_net.specs.declared.node.Occupant.{Occupant}
+use Rattle.rtl_net.specs.declared.node.Occupant.TheVariants.{Input, Output}
 use Rattle.rtl_net.proofs.Seating.{seat_of}
+use Rattle.plain_lemmas.proofs.Lists.{bytes_eq-itself as same_bytes}
 
 abbrev pub Differ : List ℕ → List ℕ → Type 0
 Differ a b = bytes_eq a b ≡ false
 
 pub Differ-sym : (a b : List ℕ) → Differ a b → Differ b a
 Differ-sym a b h = nat_list_eq_equiv.symm b a ∙ h
-
-same_bytes : (a : List ℕ) → bytes_eq a a ≡ true
-same_bytes a = (bytes_eq-Decides a a).1 refl
 
 pub not_same : (a b : List ℕ) → Differ a b → a ≡ b → ⊥
 not_same a b h e = true≢false (sym ((bytes_eq-Decides a b).1 e) ∙ h)
@@ -94,7 +92,7 @@ all_at P [] i x a h = absurd (let q : None ≡ Some x = h in cc)
 all_at P (y ∷ xs) zero x a h = let q : y ≡ x = cc in subst P q a.0
 all_at P (y ∷ xs) (suc i) x a h = all_at P xs i x a.1 h
 
-taken_of : Option Seat → Option Taken
+taken_of : Option Seat → Option Occupant
 taken_of None = None
 taken_of (Some s) = s.taken
 

@@ -1,20 +1,17 @@
 -- Expressions as keys.
 use Rattle.std.specs.Map.{lookup}
-use Rattle.std.proofs.Common.{◌≡◌, ℕ, zero, suc, ◌<◌, Bool, true, false, cond, List, [], ◌∷◌, ◌++◌, length, get_or, Option, Some, None, Contains, IfNone, inl, inr, ◌⊎◌, refl, ap, sym, ◌∙◌, rules, arith, Decides, if◌then◌else◌}
+use Rattle.std.proofs.Common.{◌≡◌, ℕ, zero, suc, ◌<◌, true, false, cond, List, [], ◌∷◌, ◌++◌, length, get_or, Option, Some, None, Contains, IfNone, inl, inr, ◌⊎◌, refl, ap, sym, ◌∙◌, rules, arith, Decides, if◌then◌else◌}
 use Rattle.indexmap.specs.IndexMap.{insert_entry}
 use Rattle.rtl_net.specs.declared.node.Id.{Id}
 use Rattle.rtl_net.specs.declared.node.NetExpr.{NetExpr}
 use Rattle.rtl_net.specs.contracts.node.NetExprPartialEq.TheImpl.{eq-value}
+use Rattle.plain_lemmas.proofs.Bools.{true_or_false as told}
 
 pub same_expr : (a b : NetExpr) → Decides (eq-value.it a b) (a ≡ b)
 same_expr a b = search rules
 
 pub same_expr-true : (a b : NetExpr) → eq-value.it a b ≡ true → a ≡ b
 same_expr-true a b = (same_expr a b).0
-
-told : (b : Bool) → (b ≡ true) ⊎ (b ≡ false)
-told true = inl refl
-told false = inr refl
 
 some_none : {x : Id} → Some x ≡ None → ⊥
 some_none h = cc

@@ -2,7 +2,6 @@
 use Rattle.std.specs.List.{slice_get, AllByRecursion, IsDistinct}
 use Rattle.std.specs.Str.{bytes_eq}
 use Rattle.std.proofs.Common.{zero, suc, ℕ, ◌≡◌, ◌<◌, Bool, true, false, if◌then◌else◌, List, [], ◌∷◌, map, filter, length, Option, Some, None, refl, ap, sym, ◌∙◌, subst, arith}
-use Rattle.std.proofs.lemmas.Slice.Eq.{bytes_eq-Decides}
 use Rattle.rb_base.specs.declared.ports.Pin.{Pin}
 use Rattle.rtl_net.specs.Value.{At, Values, node_value, under, operands}
 use Rattle.rtl_net.specs.Net.{Net, IsEdge, widths, registers_of}
@@ -15,11 +14,12 @@ use Rattle.rtl_net.specs.declared.node.NetNode.{NetNode}
 use Rattle.rtl_net.specs.declared.node.NetNode.TheVariants.{Input, Register, Wire}
 use Rattle.rtl_net.specs.declared.node.NetReset.{NetReset}
 use Rattle.rtl_net.specs.declared.node.Seat.{Seat}
-use Rattle.rtl_net.specs.declared.node.Taken.{Taken}
-use Rattle.rtl_net.specs.declared.node.Taken.TheVariants as takes
+use Rattle.rtl_net.specs.declared.node.Occupant.{Occupant}
+use Rattle.rtl_net.specs.declared.node.Occupant.TheVariants as takes
 use Rattle.rtl_net.proofs.Places.{slice_get-within}
 use Rattle.rtl_net.proofs.Values.{expr_value-same}
-use Rattle.rtl_net.proofs.Pins.{each_one, values_of_same}
+use Rattle.rtl_net.proofs.Pins.{values_of_same}
+use Rattle.plain_lemmas.proofs.Lists.{bytes_eq-itself as same_name, each-imp as each_one}
 use Rattle.rtl_net.proofs.OneRun.{under_same, reset_below, same_refl}
 
 if-true : (b : Bool) (x y : ℕ) → b ≡ true → (if b then x else y) ≡ x
@@ -29,9 +29,6 @@ if-true false x y h = cc
 if-false : (b : Bool) (x y : ℕ) → b ≡ false → (if b then x else y) ≡ y
 if-false true x y h = cc
 if-false false x y h = refl
-
-same_name : (n : List ℕ) → bytes_eq n n ≡ true
-same_name n = (bytes_eq-Decides n n).1 refl
 
 -- the number of the first item with the name
 module _ {X : Type 0} (name : X → List ℕ) (number : X → ℕ) where
@@ -97,7 +94,7 @@ kept_differ keep (s ∷ ss) d = elim (keep s) as (λ (b : Bool). IsDistinct byte
 abbrev shown : (ℕ → ℕ) → Seat → ℕ
 shown f s = shown_by s.taken
   where
-    shown_by : Option Taken → ℕ
+    shown_by : Option Occupant → ℕ
     shown_by None = 0
     shown_by (Some (takes.Input id)) = 0
     shown_by (Some (takes.Output from)) = f from.0

@@ -19,8 +19,8 @@ use Rattle.rtl_net.specs.declared.node.NetExpr.TheVariants as exprs
 use Rattle.rtl_net.specs.declared.node.NetReset.{NetReset}
 use Rattle.rtl_net.specs.declared.node.NetReset.TheVariants as resets
 use Rattle.rtl_net.specs.declared.node.Seat.{Seat}
-use Rattle.rtl_net.specs.declared.node.Taken.{Taken}
-use Rattle.rtl_net.specs.declared.node.Taken.TheVariants.{Input, Output}
+use Rattle.rtl_net.specs.declared.node.Occupant.{Occupant}
+use Rattle.rtl_net.specs.declared.node.Occupant.TheVariants.{Input, Output}
 use Rattle.rtl_net.proofs.Places.{slice_get-front, slice_get-end, push_cases, slice_get-within}
 use Rattle.rtl_net.proofs.Nets.{Extends-trans, Stands-extends, CanWire-extends, CanReset-extends, expr_width-same}
 use Rattle.rtl_net.proofs.Added.{pushed, pushed_extends, registers_of-push}
@@ -47,7 +47,7 @@ module _ (a b : Net) (p : Extends a b) where
     let q : expr_width (widths b) e ≡ expr_width (widths a) e = expr_width-same a b p.width e h.0 in omega (arith, h.2),
   )
 
-  pub IsTakenBy-extends : (name : List ℕ) (w : ℕ) (t : Option Taken) → IsTakenBy a name w t → IsTakenBy b name w t
+  pub IsTakenBy-extends : (name : List ℕ) (w : ℕ) (t : Option Occupant) → IsTakenBy a name w t → IsTakenBy b name w t
   IsTakenBy-extends name w None h = tt
   IsTakenBy-extends name w (Some (Input id)) h = p.inputs id name w h
   IsTakenBy-extends name w (Some (Output from)) h = Stands-extends a b from w p h

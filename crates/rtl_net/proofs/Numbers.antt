@@ -1,6 +1,6 @@
 -- Numbers and bits.
 use Rattle.std.proofs.Common.{zero, suc, ℕ, ◌+◌, ◌*◌, ◌-◌, ◌%◌, ◌^◌, ◌≡◌, ◌<◌, ◌≤◌, ◌==◌, Bool, true, false, ◌&&◌, if◌then◌else◌, refl, ap, ◌∙◌, subst, arith, bit_and, bit_or, bit_xor}
-use Rattle.std.proofs.Math.Nat.{mod-eq_of_lt, mod-add-mod}
+use Rattle.std.proofs.Math.Nat.{mod-eq_of_lt}
 use Rattle.std.proofs.lemmas.Nat.{mod_below, and_mod, or_mod, xor_mod, pow_pos, pow-add}
 use Rattle.std.proofs.Math.Pow.{pow_mono}
 use Rattle.rtl_net.specs.Value.{bit_of}
@@ -75,8 +75,3 @@ no_wrap w u a b p q =
     let l : a + b < 2 ^ (2 + w) = omega (arith, e) in
     ap (λ n. n % 2 ^ (2 + w)) s ∙ mod-eq_of_lt l
 
-pub wrap_down : (a m d : ℕ) → d < m → (a % m + m - d) % m ≡ (a + m - d) % m
-wrap_down a m d h =
-    let p : a % m + m - d ≡ a % m + (m - d) = omega arith in
-    let q : a + (m - d) ≡ a + m - d = omega arith in
-    ap (λ n. n % m) p ∙ mod-add-mod a m (m - d) ∙ ap (λ n. n % m) q

@@ -17,12 +17,13 @@ use Rattle.rtl_net.specs.declared.node.NetReset.TheVariants as resets
 use Rattle.rtl_net.specs.declared.node.NetExpr.{NetExpr}
 use Rattle.rtl_net.specs.declared.node.NetExpr.TheVariants as exprs
 use Rattle.rtl_net.specs.declared.node.Seat.{Seat}
-use Rattle.rtl_net.specs.declared.node.Taken.{Taken}
-use Rattle.rtl_net.specs.declared.node.Taken.TheVariants as takes
+use Rattle.rtl_net.specs.declared.node.Occupant.{Occupant}
+use Rattle.rtl_net.specs.declared.node.Occupant.TheVariants as takes
 use Rattle.rtl_net.proofs.Places.{item_at, slice_get-within}
 use Rattle.rtl_net.proofs.Widths.{width_at, input_width}
 use Rattle.rtl_net.proofs.Values.{expr_value-same}
-use Rattle.rtl_net.proofs.Pins.{each_two, seat_at_pin, each_seat_pin, register_at_pin, each_register_pin, same_of_values, values_of_same}
+use Rattle.rtl_net.proofs.Pins.{seat_at_pin, each_seat_pin, register_at_pin, each_register_pin, same_of_values, values_of_same}
+use Rattle.plain_lemmas.proofs.Lists.{each-both as each_two}
 
 -- what holds of each number where it holds of all smaller ones
 pub each_number : (P : ℕ → Type 0) → ((i : ℕ) → ((j : ℕ) → j < i → P j) → P i) → (k i : ℕ) → i < k → P i
@@ -117,7 +118,7 @@ module _ (net : Net) (made : IsMade net) where
     one_value id h = each_number Agrees agrees_at (suc id.0) id.0 (omega arith) h.0 h.1
 
     -- the outputs are the same
-    out_agrees : (i : ℕ) (s : Seat) → slice_get net.seats i ≡ Some s → (t : Option Taken) → s.taken ≡ t → is_output s ≡ true → u.outs s.name ≡ v.outs s.name
+    out_agrees : (i : ℕ) (s : Seat) → slice_get net.seats i ≡ Some s → (t : Option Occupant) → s.taken ≡ t → is_output s ≡ true → u.outs s.name ≡ v.outs s.name
     out_agrees i s g None e k = absurd (let z : false ≡ true = sym (ap (λ t. by_output t) e) ∙ k in cc)
     out_agrees i s g (Some (takes.Input id)) e k = absurd (let z : false ≡ true = sym (ap (λ t. by_output t) e) ∙ k in cc)
     out_agrees i s g (Some (takes.Output from)) e k =

@@ -9,12 +9,12 @@ use Rattle.rtl_net.specs.Names.{Lacks}
 use Rattle.rtl_net.specs.Net.{Net}
 use Rattle.rtl_net.specs.Ports.{seat_names, register_names, has_room, seated, IsNew, IsFree}
 use Rattle.rtl_net.specs.declared.node.Seat.{Seat}
-use Rattle.rtl_net.specs.declared.node.Taken.{Taken}
+use Rattle.rtl_net.specs.declared.node.Occupant.{Occupant}
 use Rattle.rtl_net.proofs.PortLists.{taken_by}
 use Rattle.rtl_net.proofs.Seating.{seat_names-seated}
 use Rattle.rtl_net.proofs.Distinct.{Differ}
 
-module _ (a : List ℕ) (u : ℕ) (t : Taken) (m : List ℕ) (d : Differ m a) where
+module _ (a : List ℕ) (u : ℕ) (t : Occupant) (m : List ℕ) (d : Differ m a) where
   other_here : (r : Seat) → bytes_eq a r.name ≡ true → bytes_eq m r.name ≡ false
   other_here r b = ap (bytes_eq m) (sym ((bytes_eq-Decides a r.name).0 b)) ∙ d
 
@@ -35,7 +35,7 @@ module _ (a : List ℕ) (u : ℕ) (t : Taken) (m : List ℕ) (d : Differ m a) wh
   ]
 
 -- an input or output of another name is added
-module _ (old new : Net) (a : List ℕ) (u : ℕ) (t : Taken) (es : new.seats ≡ seated old.seats a u t) (er : register_names new ≡ register_names old) (m : List ℕ) (d : Differ m a) where
+module _ (old new : Net) (a : List ℕ) (u : ℕ) (t : Occupant) (es : new.seats ≡ seated old.seats a u t) (er : register_names new ≡ register_names old) (m : List ℕ) (d : Differ m a) where
   pub IsNew-seated : IsNew old m → IsNew new m
   IsNew-seated h = record {
     seats = subst (λ ss. Lacks (seat_names ss) m) (sym es) (Lacks-seated a u t m d old.seats h.seats);

@@ -13,13 +13,6 @@ use Rattle.rtl_net.specs.declared.node.NetReset.{NetReset}
 use Rattle.rtl_net.specs.declared.node.Seat.{Seat}
 
 -- what holds of each
-pub each_one : {X : Type 0} (P Q : X → Type 0) (xs : List X) → ((x : X) → P x → Q x) → AllByRecursion P xs → AllByRecursion Q xs
-each_one P Q [] f h = tt
-each_one P Q (x ∷ xs) f h = (f x h.0, each_one P Q xs f h.1)
-
-pub each_two : {X : Type 0} (P Q R : X → Type 0) (xs : List X) → ((x : X) → P x → Q x → R x) → AllByRecursion P xs → AllByRecursion Q xs → AllByRecursion R xs
-each_two P Q R [] f h k = tt
-each_two P Q R (x ∷ xs) f h k = (f x h.0 k.0, each_two P Q R xs f h.1 k.1)
 
 -- what holds of the pins of the seats that are kept
 module _ (P : Pin → Type 0) (keep : Seat → Bool) where

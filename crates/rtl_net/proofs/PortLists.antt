@@ -1,21 +1,14 @@
 -- Seats in lists.
 use Rattle.std.specs.List.{list_any}
 use Rattle.std.specs.Str.{bytes_eq}
-use Rattle.std.proofs.Common.{◌≡◌, ℕ, zero, suc, Bool, true, false, ◌||◌, if◌then◌else◌, List, [], ◌∷◌, ◌++◌, take, slice_get, Some, None, refl, ap, sym, ◌∙◌}
+use Rattle.std.proofs.Common.{◌≡◌, ℕ, zero, suc, true, false, ◌||◌, if◌then◌else◌, List, [], ◌∷◌, ◌++◌, take, slice_get, Some, None, refl, ap, sym, ◌∙◌}
 use Rattle.std.proofs.Math.ListN.{set}
 use Rattle.std.proofs.lemmas.Slice.Eq.{bytes_eq-Decides}
 use Rattle.rtl_net.specs.Names.{Lacks}
 use Rattle.rtl_net.specs.Ports.{seat_names, seated, taken_in}
 use Rattle.rtl_net.specs.declared.node.Seat.{Seat}
-use Rattle.rtl_net.specs.declared.node.Taken.{Taken}
-
-pub or-left_false : (a b : Bool) → (a || b) ≡ false → a ≡ false
-or-left_false true b h = h
-or-left_false false b h = refl
-
-pub or-right_false : (a b : Bool) → (a || b) ≡ false → b ≡ false
-or-right_false true b h = cc
-or-right_false false b h = h
+use Rattle.rtl_net.specs.declared.node.Occupant.{Occupant}
+use Rattle.plain_lemmas.proofs.Bools.{or-left_false, or-right_false}
 
 -- the seat that has the name at this place
 pub seat_at : (ss : List Seat) (i : ℕ) (name : List ℕ) → slice_get (seat_names ss) i ≡ Some name → (s : Seat) × (slice_get ss i ≡ Some s) × (s.name ≡ name)
@@ -23,10 +16,10 @@ seat_at [] i name h = absurd (let e : None ≡ Some name = h in cc)
 seat_at (s ∷ ss) zero name h = (s, refl, cc)
 seat_at (s ∷ ss) (suc i) name h = seat_at ss i name h
 
-abbrev pub taken_by : Seat → Taken → Seat
+abbrev pub taken_by : Seat → Occupant → Seat
 taken_by s t = record { name = s.name; width = s.width; taken = Some t }
 
-module _ (name : List ℕ) (w : ℕ) (t : Taken) where
+module _ (name : List ℕ) (w : ℕ) (t : Occupant) where
   pub seated-found : (ss : List Seat) (i : ℕ) (s : Seat) → slice_get ss i ≡ Some s → s.name ≡ name → Lacks (take i (seat_names ss)) name
       → seated ss name w t ≡ set ss i (taken_by s t)
   seated-found [] i s h e l = absurd (let q : None ≡ Some s = h in cc)

@@ -12,16 +12,16 @@ use Rattle.rtl_net.specs.Net.{Net, Extends}
 use Rattle.rtl_net.specs.Ports.{seat_names, has_room, seated}
 use Rattle.rtl_net.specs.Made.{AreNames}
 use Rattle.rtl_net.specs.declared.node.Seat.{Seat}
-use Rattle.rtl_net.specs.declared.node.Taken.{Taken}
+use Rattle.rtl_net.specs.declared.node.Occupant.{Occupant}
 use Rattle.rtl_net.proofs.Places.{slice_get-front}
 use Rattle.rtl_net.proofs.PortLists.{taken_by}
 
-abbrev pub seat_of : List ℕ → ℕ → Taken → Seat
+abbrev pub seat_of : List ℕ → ℕ → Occupant → Seat
 seat_of name w t = record { name = name; width = w; taken = Some t }
 
 -- each taken seat stays where it is
 pub record KeepsTaken (old new : List Seat) : Type 0 where
-  pub stays : (i : ℕ) (name : List ℕ) (w : ℕ) (t : Taken) → slice_get old i ≡ Some (seat_of name w t) → slice_get new i ≡ Some (seat_of name w t)
+  pub stays : (i : ℕ) (name : List ℕ) (w : ℕ) (t : Occupant) → slice_get old i ≡ Some (seat_of name w t) → slice_get new i ≡ Some (seat_of name w t)
 
 pub KeepsTaken-refl : (ss : List Seat) → KeepsTaken ss ss
 KeepsTaken-refl ss = record { stays = λ i name w t h. h }
@@ -45,7 +45,7 @@ seats_extend net ss k = record {
   clock = λ h. h;
 }
 
-module _ (name : List ℕ) (w : ℕ) (t : Taken) where
+module _ (name : List ℕ) (w : ℕ) (t : Occupant) where
   -- what stands at a place of the seats, by whether the first has the name
   here : (r : Seat) (ss : List Seat) → bytes_eq name r.name ≡ true → seated (r ∷ ss) name w t ≡ taken_by r t ∷ ss
   here r ss b = ap (λ x. if x then taken_by r t ∷ ss else r ∷ seated ss name w t) b
@@ -62,13 +62,13 @@ module _ (name : List ℕ) (w : ℕ) (t : Taken) where
   room_there : (r : Seat) (ss : List Seat) → bytes_eq name r.name ≡ false → has_room (r ∷ ss) name w ≡ true → has_room ss name w ≡ true
   room_there r ss b h = sym (ap (λ x. if x then is_none r.taken && r.width == w else has_room ss name w) b) ∙ h
 
-  open_seat : (r : Seat) (n : List ℕ) (u : ℕ) (s : Taken) → is_none r.taken ≡ true → r ≡ seat_of n u s → ⊥
-  open_seat r n u s e h = let p : is_none {T = Taken} (Some s) ≡ true = ap (λ x. is_none x.taken) (sym h) ∙ e in cc
+  open_seat : (r : Seat) (n : List ℕ) (u : ℕ) (s : Occupant) → is_none r.taken ≡ true → r ≡ seat_of n u s → ⊥
+  open_seat r n u s e h = let p : is_none {T = Occupant} (Some s) ≡ true = ap (λ x. is_none x.taken) (sym h) ∙ e in cc
 
   some_eq : {X : Type 0} {x y : X} → Some x ≡ Some y → x ≡ y
   some_eq h = cc
 
-  stays_at : (ss : List Seat) → has_room ss name w ≡ true → (i : ℕ) (n : List ℕ) (u : ℕ) (s : Taken) → slice_get ss i ≡ Some (seat_of n u s) → slice_get (seated ss name w t) i ≡ Some (seat_of n u s)
+  stays_at : (ss : List Seat) → has_room ss name w ≡ true → (i : ℕ) (n : List ℕ) (u : ℕ) (s : Occupant) → slice_get ss i ≡ Some (seat_of n u s) → slice_get (seated ss name w t) i ≡ Some (seat_of n u s)
   stays_at [] room i n u s h = absurd (let q : None ≡ Some (seat_of n u s) = h in cc)
   stays_at (r ∷ ss) room zero n u s h = elim (cases_Bool (bytes_eq name r.name)) [
     | inl b ↦ absurd (open_seat r n u s (room_here r ss b room).0 (some_eq h))
@@ -155,7 +155,7 @@ AreNames-register seats registers name a n p q = record {
   apart = AllByRecursion-push (Lacks seats) registers name a.apart p;
 }
 
-pub AreNames-seated : (ss : List Seat) (registers : List (List ℕ)) (name : List ℕ) (w : ℕ) (t : Taken) → AreNames (seat_names ss) registers → is_net_name name ≡ true → Lacks registers name
+pub AreNames-seated : (ss : List Seat) (registers : List (List ℕ)) (name : List ℕ) (w : ℕ) (t : Occupant) → AreNames (seat_names ss) registers → is_net_name name ≡ true → Lacks registers name
     → AreNames (seat_names (seated ss name w t)) registers
 AreNames-seated ss registers name w t a n q = elim (seat_names-seated name w t ss) [
   | inl p ↦ subst (λ xs. AreNames xs registers) (sym p.1) (AreNames-seat (seat_names ss) registers name a n p.0 q)

@@ -15,14 +15,15 @@ use Rattle.rtl_net.specs.declared.node.NetNode.TheVariants.{Input, Register, Wir
 use Rattle.rtl_net.specs.declared.node.NetReset.{NetReset}
 use Rattle.rtl_net.specs.declared.node.NetReset.TheVariants as resets
 use Rattle.rtl_net.specs.declared.node.Seat.{Seat}
-use Rattle.rtl_net.specs.declared.node.Taken.{Taken}
-use Rattle.rtl_net.specs.declared.node.Taken.TheVariants as takes
+use Rattle.rtl_net.specs.declared.node.Occupant.{Occupant}
+use Rattle.rtl_net.specs.declared.node.Occupant.TheVariants as takes
 use Rattle.rtl_net.proofs.Places.{item_at}
 use Rattle.rtl_net.proofs.Widths.{width_at}
 use Rattle.rtl_net.proofs.Values.{expr_fits}
 use Rattle.rtl_net.proofs.Numbers.{pick_fits}
 use Rattle.rtl_net.proofs.Nets.{fits_at}
-use Rattle.rtl_net.proofs.Pins.{each_two, each_seat_pin, register_at_pin, each_register_pin, fit_of_pins, pins_of_fit}
+use Rattle.rtl_net.proofs.Pins.{each_seat_pin, register_at_pin, each_register_pin, fit_of_pins, pins_of_fit}
+use Rattle.plain_lemmas.proofs.Lists.{each-both as each_two}
 use Rattle.rtl_net.proofs.OneRun.{each_number, operands_have, width_some, input_pin, none_waits}
 
 under_fits : (net : Net) (f : ℕ → ℕ) (w : ℕ) (reset : NetReset) (x : ℕ) → CanReset net w reset → x < 2 ^ w → under f reset x < 2 ^ w
@@ -56,7 +57,7 @@ module _ (net : Net) (made : IsMade net) (v : At) (p : IsEdge net v) (ins : Valu
   pub settles : Settles net v
   settles = record { edge = p; fits = λ id h. each_number Fits fits_step (suc id.0) id.0 (omega arith) h.0 h.1 }
 
-  out_fits : (i : ℕ) (s : Seat) → slice_get net.seats i ≡ Some s → (t : Option Taken) → s.taken ≡ t → is_output s ≡ true → v.outs s.name < 2 ^ s.width
+  out_fits : (i : ℕ) (s : Seat) → slice_get net.seats i ≡ Some s → (t : Option Occupant) → s.taken ≡ t → is_output s ≡ true → v.outs s.name < 2 ^ s.width
   out_fits i s g None e k = absurd (let z : false ≡ true = sym (ap (λ t. by_output t) e) ∙ k in cc)
   out_fits i s g (Some (takes.Input id)) e k = absurd (let z : false ≡ true = sym (ap (λ t. by_output t) e) ∙ k in cc)
   out_fits i s g (Some (takes.Output from)) e k =

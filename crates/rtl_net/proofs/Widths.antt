@@ -4,7 +4,6 @@ use Rattle.std.specs.Str.{bytes_eq}
 use Rattle.std.proofs.Common.{zero, suc, ℕ, ◌+◌, ◌≡◌, ◌<◌, ◌≤◌, Bool, true, false, ◌||◌, if◌then◌else◌, List, [], ◌∷◌, ◌++◌, length, get_or, take, Some, None, inl, inr, refl, ap, sym, ◌∙◌, arith, length-append}
 use Rattle.std.proofs.lemmas.Bool.{cases_Bool, cases_lt, OnTrue_at}
 use Rattle.std.proofs.lemmas.Slice.Eq.{bytes_eq-Decides}
-use Rattle.std.proofs.lemmas.Grind.{common_steps}
 use Rattle.rtl_net.specs.Names.{clock}
 use Rattle.rtl_net.specs.Value.{widths_after, node_width, expr_width, operands}
 use Rattle.rtl_net.specs.Net.{Net, widths, width_in, IsInput, HasClock, is_clock}
@@ -16,12 +15,7 @@ use Rattle.rtl_net.specs.declared.node.NetExpr.{NetExpr}
 use Rattle.rtl_net.specs.declared.node.NetExpr.TheVariants.{Const, Part, Cat, Not, All, Any, Odd, Add, Sub, And, Or, Xor, Eq, Lt, Pick}
 use Rattle.rtl_net.proofs.Places.{item_at}
 use Rattle.rtl_net.proofs.NodeLists.{length-widths}
-
-get_or-front : (xs : List ℕ) (y i : ℕ) → i < length xs → get_or (xs ++ y ∷ []) i 0 ≡ get_or xs i 0
-get_or-front xs y i h = grind (arith, common_steps)
-
-get_or-end : (xs : List ℕ) (y i : ℕ) → i ≡ length xs → get_or (xs ++ y ∷ []) i 0 ≡ y
-get_or-end xs y i h = grind (arith, common_steps)
+use Rattle.plain_lemmas.proofs.Lists.{get_or-end, get_or-front}
 
 longer : (ws : List ℕ) (w : ℕ) → length (ws ++ w ∷ []) ≡ length ws + 1
 longer ws w = simp length-append

@@ -14,8 +14,8 @@ use Rattle.rtl_net.specs.declared.node.NetExpr.{NetExpr}
 use Rattle.rtl_net.specs.declared.node.NetReset.{NetReset}
 use Rattle.rtl_net.specs.declared.node.NetReset.TheVariants as resets
 use Rattle.rtl_net.specs.declared.node.Seat.{Seat}
-use Rattle.rtl_net.specs.declared.node.Taken.{Taken}
-use Rattle.rtl_net.specs.declared.node.Taken.TheVariants.{Input, Output}
+use Rattle.rtl_net.specs.declared.node.Occupant.{Occupant}
+use Rattle.rtl_net.specs.declared.node.Occupant.TheVariants.{Input, Output}
 
 abbrev pub IsPinBelow : ℕ → NetReset → Type 0
 IsPinBelow i resets.None = Unit {0}
@@ -33,7 +33,7 @@ IsNodeMade net i (nodes.Register name w reset next) = IsWidth w × CanReset net 
 IsNodeMade net i (nodes.Wire e) = CanWire net e × AllByRecursion (λ a. a.0 < i) (operands e) × (expr_width (widths net) e ≤ 128)
 
 -- a seat is taken by an input of its name and width, or shows a node of its width
-abbrev pub IsTakenBy : Net → List ℕ → ℕ → Option Taken → Type 0
+abbrev pub IsTakenBy : Net → List ℕ → ℕ → Option Occupant → Type 0
 IsTakenBy net name w None = Unit {0}
 IsTakenBy net name w (Some (Input id)) = IsInput net id name w
 IsTakenBy net name w (Some (Output from)) = Stands net from w

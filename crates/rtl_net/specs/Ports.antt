@@ -5,7 +5,7 @@ use Rattle.std.specs.Prelude.{ℕ, ◌≡◌, ◌==◌, Bool, true, ◌&&◌, �
 use Rattle.rtl_net.specs.Names.{Lacks}
 use Rattle.rtl_net.specs.Net.{Net, registers_of}
 use Rattle.rtl_net.specs.declared.node.Seat.{Seat}
-use Rattle.rtl_net.specs.declared.node.Taken.{Taken}
+use Rattle.rtl_net.specs.declared.node.Occupant.{Occupant}
 
 abbrev pub seat_names : List Seat → List (List ℕ)
 seat_names ss = map (λ s. s.name) ss
@@ -29,12 +29,12 @@ pub record IsFree (net : Net) (name : List ℕ) (w : ℕ) : Type 0 where
   pub registers : Lacks (register_names net) name
 
 -- the seats after the one of the name is taken, or after a taken one is put at the end
-abbrev pub seated : List Seat → List ℕ → ℕ → Taken → List Seat
+abbrev pub seated : List Seat → List ℕ → ℕ → Occupant → List Seat
 seated [] name w t = record { name = name; width = w; taken = Some t } ∷ []
 seated (s ∷ ss) name w t = if bytes_eq name s.name then record { name = s.name; width = s.width; taken = Some t } ∷ ss else s ∷ seated ss name w t
 
 -- what has taken the seat of the name
-abbrev pub taken_in : List Seat → List ℕ → Option Taken
+abbrev pub taken_in : List Seat → List ℕ → Option Occupant
 taken_in [] name = None
 taken_in (s ∷ ss) name = if bytes_eq name s.name then s.taken else taken_in ss name
 

@@ -7,17 +7,17 @@ use Rattle.rtl_net.specs.Names.{clock}
 use Rattle.rtl_net.specs.Value.{At, Values}
 use Rattle.rtl_net.specs.Net.{Net, IsEdge, registers_of}
 use Rattle.rtl_net.specs.declared.node.Seat.{Seat}
-use Rattle.rtl_net.specs.declared.node.Taken.{Taken}
-use Rattle.rtl_net.specs.declared.node.Taken.TheVariants.{Input, Output}
+use Rattle.rtl_net.specs.declared.node.Occupant.{Occupant}
+use Rattle.rtl_net.specs.declared.node.Occupant.TheVariants.{Input, Output}
 
 -- what an input has taken
-abbrev pub by_input : Option Taken → Bool
+abbrev pub by_input : Option Occupant → Bool
 by_input None = false
 by_input (Some (Input id)) = true
 by_input (Some (Output from)) = false
 
 -- what an output has taken
-abbrev pub by_output : Option Taken → Bool
+abbrev pub by_output : Option Occupant → Bool
 by_output None = false
 by_output (Some (Input id)) = false
 by_output (Some (Output from)) = true

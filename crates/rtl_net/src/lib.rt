@@ -11,4 +11,4 @@ mod ports;
 
 pub use laws::{has_run, one_run, values_fit};
 pub use net::Netlist;
-pub use node::{Id, NetExpr, NetNode, NetReset, Seat, Taken};
+pub use node::{Id, NetExpr, NetNode, NetReset, Occupant, Seat};

@@ -14,7 +14,7 @@ ghost use Rattle.rtl_net.specs.declared.node.NetReset.{NetReset as ResetOf};
 
 use crate::bits::{difference, joined, odd, ones, part, sum};
 use crate::names::Names;
-use crate::node::{Id, NetExpr, NetNode, NetReset, Seat, Taken};
+use crate::node::{Id, NetExpr, NetNode, NetReset, Occupant, Seat};
 use crate::nodes::Nodes;
 use crate::ports::Ports;
 use rb_base::{NoMemory, Text};
@@ -79,7 +79,7 @@ fn add_input(
 ) -> Result<Id, NoMemory>
     ensures id { IfOk result (λ id. id.0 ≡ length nodes.old) }
     ensures nodes { OnOk result (nodes.new ≡ nodes.old ++ NetNode.Input name.now width ∷ []) }
-    ensures ports { IfOk result (λ id. ports.new ≡ seated ports.old name.now width (Taken.Input id)) }
+    ensures ports { IfOk result (λ id. ports.new ≡ seated ports.old name.now width (Occupant.Input id)) }
     ensures same_nodes { OnErr result (nodes.new ≡ nodes.old) }
     ensures same_ports { OnErr result (ports.new ≡ ports.old) }
 {
@@ -88,7 +88,7 @@ fn add_input(
         width,
     };
     let id = nodes.push(node, operand_width(name, width))?;
-    if ports.take(alloc, name, width, Taken::Input(id)).is_err() {
+    if ports.take(alloc, name, width, Occupant::Input(id)).is_err() {
         nodes.pop();
         return Err(NoMemory);
     }
@@ -209,7 +209,7 @@ impl Netlist {
         ensures awaits { Keeps self.old self.new }
         ensures registers { registers_of self.new.nodes ≡ registers_of self.old.nodes }
         ensures undriven { undriven self.new.nodes ≡ undriven self.old.nodes }
-        ensures seats { IfOk result (λ id. self.new.seats ≡ seated self.old.seats name.now width (Taken.Input id)) }
+        ensures seats { IfOk result (λ id. self.new.seats ≡ seated self.old.seats name.now width (Occupant.Input id)) }
         ensures nodes { OnOk result (AddsNode self.old self.new (NetNode.Input name.now width)) }
         ensures input { IfOk result (λ id. IsInput self.new id name.now width) }
         ensures node { IfOk result (λ id. OnFalse (bytes_eq name.now clock) (IsNode self.new id width (λ v. v.ins name.now))) }
@@ -274,13 +274,13 @@ impl Netlist {
         ensures older { Extends self.old self.new }
         ensures name { self.new.name ≡ self.old.name }
         ensures nodes { self.new.nodes ≡ self.old.nodes }
-        ensures seats { OnOk result (self.new.seats ≡ seated self.old.seats name.now (width_in self.old from) (Taken.Output from)) }
+        ensures seats { OnOk result (self.new.seats ≡ seated self.old.seats name.now (width_in self.old from) (Occupant.Output from)) }
         ensures shown { OnOk result ((v : At) → Settles self.new v → v.outs name.now ≡ v.node from.0) }
         ensures err { OnErr result (self.new ≡ self.old) }
     {
         let width = self.width(from);
         self.ports
-            .take(self.alloc, name, width, Taken::Output(from))?;
+            .take(self.alloc, name, width, Occupant::Output(from))?;
         Ok(())
     }
 

@@ -58,7 +58,7 @@ pub enum NetNode {
 
 /// What has taken a seat: an input, or an output that shows a node.
 #[derive(Clone, Copy, Debug, PartialEq, Eq)]
-pub enum Taken {
+pub enum Occupant {
     Input(Id),
     Output(Id),
 }
@@ -68,5 +68,5 @@ pub enum Taken {
 pub struct Seat {
     pub name: Text,
     pub width: u8,
-    pub taken: Option<Taken>,
+    pub taken: Option<Occupant>,
 }

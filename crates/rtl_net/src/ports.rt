@@ -6,7 +6,7 @@ ghost use Rattle.rtl_net.specs.Ports.{seat_names, seated, taken_in};
 ghost use Rattle.rtl_net.specs.declared.node.Seat.{Seat as SeatOf};
 
 use crate::names::Names;
-use crate::node::{Seat, Taken};
+use crate::node::{Occupant, Seat};
 use rb_base::{NoMemory, Text};
 use std::alloc::Global;
 use std::marker::Model;
@@ -37,7 +37,7 @@ fn push(
     names: &mut Names,
     name: &[u8],
     width: u8,
-    taken: Option<Taken>,
+    taken: Option<Occupant>,
 ) -> Result<(), NoMemory>
     requires { Lacks names.old name.now }
     ensures seats { OnOk result (seats.new.items ≡ seats.old.items ++ record { name = name.now; width = width; taken = taken } ∷ []) }
@@ -60,7 +60,7 @@ fn push(
 }
 
 /// Marks a seat as taken.
-fn mark(seats: &mut Vec<Seat>, at: usize, taken: Taken)
+fn mark(seats: &mut Vec<Seat>, at: usize, taken: Occupant)
     requires { at < length seats.old.items }
     ensures { (seat : SeatOf) → slice_get seats.old.items at ≡ Some seat
         → seats.new.items ≡ slice_set seats.old.items at (record { name = seat.name; width = seat.width; taken = Some taken }) }
@@ -70,7 +70,7 @@ fn mark(seats: &mut Vec<Seat>, at: usize, taken: Taken)
 }
 
 /// What has taken the seat at a place.
-fn taken_at(seats: &[Seat], at: usize) -> Option<Taken>
+fn taken_at(seats: &[Seat], at: usize) -> Option<Occupant>
     requires { at < length seats.now }
     ensures { (seat : SeatOf) → slice_get seats.now at ≡ Some seat → result ≡ seat.taken }
 {
@@ -103,7 +103,7 @@ impl Ports {
     }
 
     /// What has taken the seat of the name.
-    pub(crate) fn taken(&self, name: &[u8]) -> Option<Taken>
+    pub(crate) fn taken(&self, name: &[u8]) -> Option<Occupant>
         ensures { result ≡ taken_in self.now name.now }
     {
         match self.find(name) {
@@ -118,7 +118,7 @@ impl Ports {
         alloc: Global,
         name: &[u8],
         width: u8,
-        taken: Option<Taken>,
+        taken: Option<Occupant>,
     ) -> Result<(), NoMemory>
         requires { Lacks (seat_names self.old) name.now }
         ensures ok { OnOk result (self.new ≡ self.old ++ record { name = name.now; width = width; taken = taken } ∷ []) }
@@ -133,7 +133,7 @@ impl Ports {
         alloc: Global,
         name: &[u8],
         width: u8,
-        taken: Taken,
+        taken: Occupant,
     ) -> Result<(), NoMemory>
         ensures ok { OnOk result (self.new ≡ seated self.old name.now width taken) }
         ensures err { OnErr result (self.new ≡ self.old) }

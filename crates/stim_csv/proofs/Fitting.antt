@@ -5,14 +5,14 @@ use Rattle.std.specs.Str.{bytes_eq}
 use Rattle.std.proofs.Common.{◌≡◌, ◌≢◌, ℕ, zero, suc, ◌+◌, ◌<◌, ◌^◌, nat_lt, ◌==◌, Bool, true, false, if◌then◌else◌, Option, Some, None, Ok, List, [], ◌∷◌, length, get_or, map, refl, ap, sym, subst, ◌∙◌, arith, unwrap_or}
 use Rattle.std.proofs.lemmas.Bool.{and_parts}
 use Rattle.std.proofs.lemmas.Bool.Decides.{nat_tests}
-use Rattle.plain_lemmas.proofs.Lists.{bytes_eq-itself as bytes_same, bytes_eq-same as same_bytes}
+use Rattle.plain_lemmas.proofs.Lists.{bytes_eq-itself as bytes_same, bytes_eq-same as same_bytes, differ_by as other_bytes}
 use Rattle.rb_base.specs.declared.ports.Pin.{Pin}
 use Rattle.stim_csv.specs.Numeral.{cell_value, fits}
 use Rattle.stim_csv.specs.PinTable.{Cells, first_problem, width_of, column_of, pin_problem, column_problem, value_problem, cell_problem, cells_problem, row_problem, is_too_many, header_problem, table_problem, number_of, number_under, vector_of, unless, table_under, table_of}
 use Rattle.stim_csv.specs.declared.error.StimError.{StimError}
 use Rattle.stim_csv.specs.declared.error.StimError.TheVariants.{MissingPin, TooMany, Form, TooWide}
 use Rattle.stim_csv.proofs.FirstProblem.{first_cons}
-use Rattle.stim_csv.proofs.Positions.{other_bytes, found_at}
+use Rattle.stim_csv.proofs.Positions.{found_at}
 use Rattle.stim_csv.proofs.Headers.{get_or-mapped, no_pin}
 use Rattle.stim_csv.proofs.Rows.{full_row}
 

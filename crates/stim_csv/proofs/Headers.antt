@@ -6,12 +6,12 @@ use Rattle.std.specs.Str.{bytes_eq}
 use Rattle.std.proofs.Math.ListN.{set}
 use Rattle.std.proofs.lemmas.List.{take_more, map-append}
 use Rattle.std.proofs.lemmas.Bool.{false≢true, cases_lt}
-use Rattle.plain_lemmas.proofs.Lists.{bytes_eq-itself as bytes_same, bytes_eq-same as same_bytes}
+use Rattle.plain_lemmas.proofs.Lists.{bytes_eq-itself as bytes_same, bytes_eq-same as same_bytes, differ_by as other_bytes}
 use Rattle.rb_base.specs.declared.ports.Pin.{Pin}
 use Rattle.stim_csv.specs.PinTable.{Cells, place_of, column_of, column_problem, pin_problem, first_problem, width_of}
 use Rattle.stim_csv.specs.Columns.{unfound_problem}
 use Rattle.stim_csv.specs.declared.error.StimError.TheVariants.{UnknownPin, TwicePin, MissingPin}
-use Rattle.stim_csv.proofs.Positions.{other_bytes, place_below, place_before, position-more, set-map}
+use Rattle.stim_csv.proofs.Positions.{place_below, place_before, position-more, set-map}
 
 pub unknown_pin : (pins : List Pin) (header : Cells) (c : ℕ) (name : List ℕ) → place_of pins name ≡ None → column_problem pins header c name ≡ Some (UnknownPin c)
 unfolding column_problem

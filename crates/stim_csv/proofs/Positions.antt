@@ -9,13 +9,6 @@ use Rattle.plain_lemmas.proofs.Lists.{bytes_eq-same as same_bytes}
 use Rattle.rb_base.specs.declared.ports.Pin.{Pin}
 use Rattle.stim_csv.specs.PinTable.{place_of}
 
-pub other_bytes : (xs ys : List ℕ) → (xs ≡ ys → ⊥) → bytes_eq xs ys ≡ false
-other_bytes xs ys h = go (bytes_eq xs ys) refl
-  where
-    go : (b : Bool) → bytes_eq xs ys ≡ b → b ≡ false
-    go true e = absurd (h (same_bytes xs ys e))
-    go false e = refl
-
 module _ {A : Type 0} (test : A → Bool) where
   -- a place that is found is there, and passes
   pub found_at : (k : ℕ) (xs : List A) (i : ℕ) (d : A) → position_from test k xs ≡ Some i → (n : ℕ) × (i ≡ k + n) × (n < length xs) × (test (get_or xs n d) ≡ true)

@@ -1,5 +1,5 @@
 -- What a read of a record does to the records that a reader has left.
-use Rattle.std.proofs.Common.{◌≡◌, ℕ, zero, suc, ◌+◌, ◌<◌, Bool, true, false, if◌then◌else◌, Option, Some, None, List, [], ◌∷◌, ◌++◌, length, refl, ap, sym, subst, ◌∙◌, arith, ◌⊎◌, inl, inr, IsSome, add-one}
+use Rattle.std.proofs.Common.{◌≡◌, ℕ, zero, suc, ◌+◌, ◌<◌, Bool, true, false, if◌then◌else◌, Option, Some, None, List, [], ◌∷◌, ◌++◌, length, refl, ap, sym, subst, ◌∙◌, arith, ◌⊎◌, inl, inr, add-one}
 use denote.Ref.{Bor}
 use Rattle.csv.specs.Machine.{Read, step, is_end, ends_at_end, fields_after, field_after, next_record}
 use Rattle.csv.specs.Reading.{Reached, ReadRecord, default_config, records_from, records_next}
@@ -9,6 +9,7 @@ use Rattle.csv.specs.declared.parser.State.TheVariants as st
 use Rattle.csv.proofs.ReadFacts.{rows-more, rows-end}
 use Rattle.stim_csv.specs.PinTable.{Cells}
 use Rattle.stim_csv.specs.Records.{Source, Reads, bytes_left, records_left, records_after}
+use Rattle.plain_lemmas.proofs.Options.{some_is}
 
 -- a read leaves fewer bytes, or none at a record's start
 abbrev Shrinks : ℕ → Read → Type 0
@@ -72,10 +73,6 @@ taken_after s s' xs ys cells (p, next, is, ended) =
 pub none_left : (s : State) (xs : List ℕ) → next_record default_config s [] [] xs ≡ None → records_after s (Some xs) ≡ []
 unfolding records_from
 none_left s xs h = rw (add-one (length xs), h) refl
-
-some_is : {A : Type 0} (o : Option A) → IsSome o → (x : A) × (o ≡ Some x)
-some_is None h = cc h
-some_is (Some x) h = (x, refl)
 
 reached_none : (s : State) (xs : List ℕ) → Reached default_config s xs [] s xs
 unfolding Reached

@@ -1,7 +1,7 @@
 //! Ports in their order, wires that are shared, and constants folded.
 
 use rb_base::NoMemory;
-use rtl_net::{NetExpr, NetNode, Netlist, Taken};
+use rtl_net::{NetExpr, NetNode, Netlist, Occupant};
 use std::alloc::Global;
 
 pub(crate) fn seats_keep_their_order(alloc: Global) -> Result<bool, NoMemory> {
@@ -14,7 +14,7 @@ pub(crate) fn seats_keep_their_order(alloc: Global) -> Result<bool, NoMemory> {
         [b, a] => Some((b.taken, a.taken)),
         _ => None,
     };
-    Ok(taken == Some((Some(Taken::Output(a)), Some(Taken::Input(a)))))
+    Ok(taken == Some((Some(Occupant::Output(a)), Some(Occupant::Input(a)))))
 }
 
 pub(crate) fn one_expression_is_one_wire(alloc: Global) -> Result<bool, NoMemory> {

@@ -9,6 +9,7 @@ use Rattle.topological_order.specs.declared.ranking.Ranking.{Ranking}
 use Rattle.topological_order.specs.declared.ranking.Waiter.{Waiter}
 use Rattle.topological_order.specs.Levels.{AreLevels, AreWithin, lists, need_at, rank_at}
 use Rattle.topological_order.specs.Waiting.{Advances, AllWait, IsRanked, IsSound, StopsAt, Waits, list_at, waiter_at}
+use Rattle.plain_lemmas.proofs.Lists.{get-at, get-front, get-last as get-last, get-within}
 
 -- lists that are written at one place
 pub lists-set : {X : Type 0} (vs : List (Vec X Global)) (i : ℕ) (v : Vec X Global) → lists (set vs i v) ≡ set (lists vs) i v.items
@@ -25,25 +26,7 @@ pub length-lists : {X : Type 0} (vs : List (Vec X Global)) → length (lists vs)
 length-lists [] = refl
 length-lists (x ∷ xs) = ap suc (length-lists xs)
 
-pub get-at : {X : Type 0} (xs : List X) (i : ℕ) (d : X) → i < length xs → slice_get xs i ≡ Some (get_or xs i d)
-get-at [] i d l = absurd (omega (arith, l))
-get-at (x ∷ xs) zero d l = refl
-get-at (x ∷ xs) (suc i) d l = get-at xs i d (omega (arith, l))
-
-pub get-within : {X : Type 0} (xs : List X) (i : ℕ) (x : X) → slice_get xs i ≡ Some x → i < length xs
-get-within [] i x h = cc h
-get-within (y ∷ ys) zero x h = omega arith
-get-within (y ∷ ys) (suc i) x h = let l = get-within ys i x h in omega (arith, l)
-
 -- one element more at the end
-get-front : {X : Type 0} (xs ys : List X) (m : ℕ) (x : X) → slice_get xs m ≡ Some x → slice_get (xs ++ ys) m ≡ Some x
-get-front [] ys m x h = cc h
-get-front (y ∷ xs) ys zero x h = h
-get-front (y ∷ xs) ys (suc m) x h = get-front xs ys m x h
-
-get-last : {X : Type 0} (xs : List X) (w : X) → slice_get (xs ++ w ∷ []) (length xs) ≡ Some w
-get-last [] w = refl
-get-last (y ∷ xs) w = get-last xs w
 
 get-pushed : {X : Type 0} (xs : List X) (w x : X) (m : ℕ) → slice_get (xs ++ w ∷ []) m ≡ Some x → (slice_get xs m ≡ Some x) ⊎ ((m ≡ length xs) × (x ≡ w))
 get-pushed [] w x zero h = inr (refl, cc)
@@ -225,10 +208,6 @@ module _ (needs : List (List ℕ)) (old new : Ranking) (by : ℕ) (sound : IsSou
   }
 
 -- ranks that are read
-pub any-default : {X : Type 0} (xs : List X) (i : ℕ) (d e : X) → i < length xs → get_or xs i d ≡ get_or xs i e
-any-default [] i d e l = absurd (omega (arith, l))
-any-default (x ∷ xs) zero d e l = refl
-any-default (x ∷ xs) (suc i) d e l = any-default xs i d e (omega (arith, l))
 
 pub ranked-from : (ranks : List (Option ℕ)) (i : ℕ) (o : Option ℕ) → rank_at ranks i ≡ o → is_some o ≡ true → IsRanked ranks i
 ranked-from ranks i None h s = cc s

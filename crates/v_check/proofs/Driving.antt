@@ -18,6 +18,7 @@ use Rattle.v_check.specs.declared.drivers.Drivers.{Drivers}
 use Rattle.v_check.specs.declared.nets.Net.{Net as NetOf}
 use Rattle.v_check.specs.Drivers.{AreDrivers, driven_names, driver_at}
 use Rattle.v_check.specs.Nets.{net_seen, nets_seen, texts}
+use Rattle.plain_lemmas.proofs.Lists.{take-get_more as front_more}
 
 -- a text among others
 pub lists-among : (ts : List (Bor (List ℕ))) (n : List ℕ) → list_any (λ t. bytes_eq t.now n) ts ≡ among (texts ts) n
@@ -60,10 +61,6 @@ driven-statement s (event.Reset k n t a) (Clocked c to x) h = absurd h.spells
 driven-statement s (event.Reset k n t a) (Resettable c low reset negated test to width value again x) h =
     let first : s.to ≡ to = ap (λ y. y.to) h.does in rw (first, h.spells.3) refl
 
-pub well-driven : (b c : Bool) → b ≡ true → (b && c) ≡ c
-well-driven true c h = refl
-well-driven false c h = cc h
-
 -- the statement of a number
 pub statement-at : (xs : List Stmt) (es : List Event) (ts : List Statement) (i : ℕ) (x : Stmt) (d : Event) → AreStatements xs es ts → i < length xs → x ≡ get_or xs i x
     → (t : Statement) × (slice_get ts i ≡ Some t) × IsStatement x (get_or es i d) t
@@ -83,12 +80,6 @@ statement-within (y ∷ ys) (e ∷ es) (u ∷ ts) zero t h at = omega arith
 statement-within (y ∷ ys) (e ∷ es) (u ∷ ts) (suc i) t h at = let l = statement-within ys es ts i t h.1 at in omega (arith, l)
 
 -- elements of a front
-front_more : {A : Type 0} (xs : List A) (n i : ℕ) (x : A) → slice_get (take n xs) i ≡ Some x → slice_get (take (suc n) xs) i ≡ Some x
-front_more [] zero i x h = cc h
-front_more [] (suc n) i x h = cc h
-front_more (y ∷ ys) zero i x h = cc h
-front_more (y ∷ ys) (suc n) zero x h = h
-front_more (y ∷ ys) (suc n) (suc i) x h = front_more ys n i x h
 
 front_last : {A : Type 0} (xs : List A) (i : ℕ) (x : A) → slice_get xs i ≡ Some x → slice_get (take (suc i) xs) i ≡ Some x
 front_last [] i x h = cc h

@@ -14,11 +14,9 @@ use Rattle.v_check.specs.Drivers.{AreDrivers, IsMisdriven, IsUndriven, driver_at
 use Rattle.v_check.specs.Found.{either_found, Finds, Stands}
 use Rattle.v_check.specs.Loops.{IsLooping}
 use Rattle.v_check.specs.Nets.{IsTwice, IsUndeclared, is_unknown, token_places}
-use Rattle.v_check.proofs.Finding.{le-true, le-false, finds_as}
-
-not-true : (b : Bool) → not b ≡ true → b ≡ false
-not-true true h = cc h
-not-true false h = refl
+use Rattle.v_check.proofs.Finding.{finds_as}
+use Rattle.plain_lemmas.proofs.Numbers.{at-most as le-true, fits as le-false}
+use Rattle.plain_lemmas.proofs.Bools.{false-of_not as not-true, or-neither as or-false-both}
 
 -- a name that is not declared is a name
 unknown-name : (declared : List (List ℕ)) (x : Token) → is_unknown declared x ≡ true → (n : List ℕ) × (x ≡ Name n) × (among declared n ≡ false)
@@ -36,10 +34,6 @@ both-false : (a b : Bool) → (a && not b) ≡ false → (a ≡ false) ⊎ (b �
 both-false false b h = inl refl
 both-false true true h = inr refl
 both-false true false h = cc h
-
-or-false-both : (a b : Bool) → (a || b) ≡ false → (a ≡ false) × (b ≡ false)
-or-false-both true b h = cc h
-or-false-both false b h = (refl, h)
 
 -- the lesser of what two searches find
 pub finds_either : (P Q : ℕ → Type 0) (r q : Option Place) → Finds P r → Finds Q q → Finds (λ k. P k ⊎ Q k) (either_found r q)

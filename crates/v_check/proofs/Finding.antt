@@ -1,6 +1,5 @@
 -- The least place of what is wrong, as it is found one thing after the other.
 use Rattle.std.proofs.Common.{◌≡◌, ℕ, zero, suc, ◌+◌, ◌<◌, ◌≤◌, nat_le, Bool, true, false, not, if◌then◌else◌, Option, Some, None, List, [], ◌∷◌, length, slice_get, get_or, refl, ap, sym, ◌∙◌, subst, ◌⊎◌, inl, inr, arith}
-use Rattle.std.proofs.lemmas.Bool.Decides.{nat_tests}
 use Rattle.rb_base.specs.declared.place.Place.{Place}
 use Rattle.rb_grammar.specs.Spelling.{At}
 use Rattle.v_design.specs.Lexemes.{Token}
@@ -10,17 +9,7 @@ use Rattle.v_design.specs.declared.design.Stmt.{Stmt}
 use Rattle.v_check.specs.Sizes.{stmt_places}
 use Rattle.v_check.specs.Nets.{IsUndeclared, is_unknown, numbers, token_places}
 use Rattle.v_check.specs.Found.{noted, Finds, Stands, StandsBefore}
-
-pub get-within : {X : Type 0} (xs : List X) (i : ℕ) (x : X) → slice_get xs i ≡ Some x → i < length xs
-get-within [] i x h = cc h
-get-within (y ∷ ys) zero x h = omega arith
-get-within (y ∷ ys) (suc i) x h = let l = get-within ys i x h in omega (arith, l)
-
-pub le-true : (a b : ℕ) → nat_le a b ≡ true → a ≤ b
-le-true a b h = grind (arith, nat_tests)
-
-pub le-false : (a b : ℕ) → nat_le a b ≡ false → b < a
-le-false a b h = grind (arith, nat_tests)
+use Rattle.plain_lemmas.proofs.Numbers.{at-most as le-true, fits as le-false}
 
 -- one more place is judged
 pub note_finds : (P Q : ℕ → Type 0) (r : Option Place) (b : Bool) (p : Place) → Finds P r → (b ≡ true → Q p.0) → ((k : ℕ) → P k → Q k) → ((k : ℕ) → Q k → P k ⊎ ((b ≡ true) × (k ≡ p.0)))
@@ -141,11 +130,6 @@ pub element-at : {X : Type 0} (xs : List X) (i : ℕ) (x : X) → i < length xs 
 element-at [] i x l is = absurd (omega (arith, l))
 element-at (y ∷ ys) zero x l is = ap Some (sym is)
 element-at (y ∷ ys) (suc i) x l is = element-at ys i x (omega (arith, l)) is
-
-pub element-within : {X : Type 0} (xs : List X) (i : ℕ) (x : X) → slice_get xs i ≡ Some x → i < length xs
-element-within [] i x h = cc h
-element-within (y ∷ ys) zero x h = omega arith
-element-within (y ∷ ys) (suc i) x h = let l = element-within ys i x h in omega (arith, l)
 
 -- a test of an element decides what holds of the element at its place
 pub some-test : {X : Type 0} (xs : List X) (i : ℕ) (x : X) (well : X → Bool) (b : Bool) → slice_get xs i ≡ Some x → b ≡ not (well x)

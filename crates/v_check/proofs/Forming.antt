@@ -1,5 +1,5 @@
 -- A tree without problems is well-formed, and a well-formed tree has none.
-use Rattle.std.specs.List.{AllByRecursion, list_all, list_any, flat_map}
+use Rattle.std.specs.List.{list_all, list_any, flat_map}
 use Rattle.std.specs.Str.{bytes_eq}
 use Rattle.std.proofs.Common.{◌≡◌, ℕ, zero, suc, ◌+◌, ◌<◌, Bool, true, false, not, ◌||◌, Some, List, [], ◌∷◌, map, take, slice_get, refl, ap, sym, ◌∙◌, subst, inl, inr, arith}
 use Rattle.std.proofs.lemmas.Bool.{cases_lt, or_cases}
@@ -17,7 +17,8 @@ use Rattle.v_syntax.specs.Faulty.{Problem, Twice, Undeclared, Driver, Width, Loo
 use Rattle.v_check.specs.Drivers.{IsSingle}
 use Rattle.v_check.proofs.Driving.{any-append}
 use Rattle.v_check.proofs.Faults.{Lacks}
-use Rattle.v_check.proofs.Looping.{any-at, any-index, any-among, feeds-assign}
+use Rattle.v_check.proofs.Looping.{any-index, any-among, feeds-assign}
+use Rattle.plain_lemmas.proofs.Lists.{all-get, any-get as any-at, each-get}
 use Rattle.v_check.proofs.Spelled.{token-used, used-token}
 
 -- tests of all elements
@@ -28,11 +29,6 @@ all-from p (x ∷ xs) h = both (p x) (list_all p xs) (go (p x) refl) (all-from p
     go : (b : Bool) → p x ≡ b → p x ≡ true
     go true e = e
     go false e = absurd (h 0 x refl e)
-
-all-get : {X : Type 0} (p : X → Bool) (xs : List X) (i : ℕ) (x : X) → list_all p xs ≡ true → slice_get xs i ≡ Some x → p x ≡ true
-all-get p [] i x h at = cc at
-all-get p (y ∷ ys) zero x h at = let e : y ≡ x = cc in ap p (sym e) ∙ and-left (p y) (list_all p ys) h
-all-get p (y ∷ ys) (suc i) x h at = all-get p ys i x (and-right (p y) (list_all p ys) h) at
 
 all-named : (p : List ℕ → Bool) (ns : List (List ℕ)) → ((n : List ℕ) → among ns n ≡ true → p n ≡ true) → list_all p ns ≡ true
 all-named p [] h = refl
@@ -137,10 +133,6 @@ take-all p (s ∷ ss) zero h = refl
 take-all p (s ∷ ss) (suc i) h = both (p s) (list_all p (take i ss)) (and-left (p s) (list_all p ss) h) (take-all p ss i (and-right (p s) (list_all p ss) h))
 
 -- what holds of each element holds at a place
-each-get : {X : Type 0} (P : X → Type 0) (xs : List X) (i : ℕ) (x : X) → AllByRecursion P xs → slice_get xs i ≡ Some x → P x
-each-get P [] i x h at = cc at
-each-get P (y ∷ ys) zero x h at = let e : y ≡ x = cc in subst P e h.0
-each-get P (y ∷ ys) (suc i) x h at = each-get P ys i x h.1 at
 
 below-get : (rank : List ℕ → ℕ) (r : ℕ) (ns : List (List ℕ)) (n : List ℕ) → AllBelow rank ns r → among ns n ≡ true → rank n < r
 below-get rank r [] n h a = cc a

@@ -2,7 +2,7 @@
 use Rattle.std.specs.List.{AllByRecursion, list_any}
 use Rattle.std.specs.Option.{option_map_or}
 use Rattle.std.specs.Str.{bytes_eq}
-use Rattle.std.proofs.Common.{◌≡◌, ℕ, zero, suc, ◌+◌, ◌<◌, Bool, true, false, not, if◌then◌else◌, Option, Some, None, IfNone, is_some, List, [], ◌∷◌, ◌++◌, length, map, take, get_or, slice_get, refl, ap, sym, ◌∙◌, subst, inl, inr, add-one, arith, Bor}
+use Rattle.std.proofs.Common.{◌≡◌, ℕ, zero, suc, ◌+◌, ◌<◌, Bool, true, false, not, if◌then◌else◌, Option, Some, None, IfNone, is_some, List, [], ◌∷◌, ◌++◌, length, take, get_or, slice_get, refl, ap, sym, ◌∙◌, subst, inl, inr, add-one, arith, Bor}
 use Rattle.std.proofs.lemmas.Bool.{cases_lt, or_cases}
 use Rattle.std.proofs.lemmas.List.{length-map, append-nil}
 use Rattle.rb_base.specs.declared.place.Place.{Place}
@@ -25,13 +25,9 @@ use Rattle.v_check.specs.Found.{Finds, Stands}
 use Rattle.v_check.specs.Loops.{IsLooping, IsUnranked, all_needs, numbers_of, stmt_needs, with_number}
 use Rattle.v_check.specs.Nets.{texts}
 use Rattle.v_check.proofs.Driving.{nets-statement, any-append}
-use Rattle.v_check.proofs.Finding.{get-within}
+use Rattle.plain_lemmas.proofs.Lists.{any-get as any-at, get-within, mapped-at, some-at}
 
 -- tests of some element
-pub any-at : {X : Type 0} (p : X → Bool) (xs : List X) (i : ℕ) (x : X) → slice_get xs i ≡ Some x → p x ≡ true → list_any p xs ≡ true
-any-at p [] i x h t = cc h
-any-at p (y ∷ ys) zero x h t = or-left (p y) (list_any p ys) (let e : y ≡ x = cc in ap p e ∙ t)
-any-at p (y ∷ ys) (suc i) x h t = or-right (p y) (list_any p ys) (any-at p ys i x h t)
 
 pub any-index : {X : Type 0} (p : X → Bool) (xs : List X) → list_any p xs ≡ true → (i : ℕ) × (x : X) × (slice_get xs i ≡ Some x) × (p x ≡ true)
 any-index p [] h = cc h
@@ -91,16 +87,6 @@ in-numbers number (m ∷ ms) k i h = go (number m) refl k h (λ k h. in-numbers 
     go None e k h rest = later (rest k h)
     go (Some j) e zero h rest = (m, or-left (bytes_eq m m) (among ms m) (same-refl m), e ∙ h)
     go (Some j) e (suc k) h rest = later (rest k h)
-
-mapped-at : {X Y : Type 0} (f : X → Y) (xs : List X) (i : ℕ) (x : X) (d : Y) → slice_get xs i ≡ Some x → get_or (map f xs) i d ≡ f x
-mapped-at f [] i x d h = cc h
-mapped-at f (y ∷ ys) zero x d h = let e : y ≡ x = cc in ap f e
-mapped-at f (y ∷ ys) (suc i) x d h = mapped-at f ys i x d h
-
-some-at : {X : Type 0} (xs : List X) (i : ℕ) → i < length xs → (x : X) × (slice_get xs i ≡ Some x)
-some-at [] i l = absurd (omega (arith, l))
-some-at (x ∷ xs) zero l = (x, refl)
-some-at (x ∷ xs) (suc i) l = some-at xs i (omega (arith, l))
 
 -- each need of a statement is a statement
 pub needs-within : (drivers : Drivers) (stmts : List Stmt) (needs : List (List ℕ)) → needs ≡ all_needs (driver_at drivers) stmts → AreNumbers drivers (length stmts) → AreWithin needs

@@ -18,7 +18,7 @@ use Rattle.v_check.specs.Nets.{declared_nets, net_seen, nets_seen, numbers}
 use Rattle.v_check.specs.declared.drivers.Drivers.{Drivers}
 use Rattle.v_check.specs.declared.nets.Net.{Net as NetOf}
 use Rattle.v_check.proofs.Looping.{same-count}
-use Rattle.v_check.proofs.Finding.{get-within}
+use Rattle.plain_lemmas.proofs.Lists.{get-within}
 
 pub nets-tree : (ts : List (At Token)) (x : Parsed) (t : Tree) (ns : List NetOf) (ports : List Port) (decls : List Decl) → IsSyntax ts x t → ports ≡ x.ports.items → decls ≡ x.decls.items → nets_seen ns ≡ declared_nets ports decls → nets_seen ns ≡ nets t
 nets-tree ts x t ns ports decls syn p d h = h ∙ (ap (λ a. declared_nets a decls) (p ∙ syn.ports) ∙ ap (declared_nets t.ports) (d ∙ syn.decls))

@@ -6,6 +6,7 @@ use Rattle.v_design.specs.Expr.{Expr, Exprs, Cat, none, more, Widths, width_of, 
 use Rattle.v_design.specs.Seen.{expr_seen}
 use Rattle.v_check.specs.Sizes.{sized_width}
 use Rattle.v_check.proofs.Exprs.{listed, behind}
+use Rattle.plain_lemmas.proofs.Numbers.{most as within-test}
 
 pub sized-yes : (ws : Widths) (e : Expr) (w : ℕ) → is_sized ws e ≡ true → w ≡ width_of ws e → Some w ≡ sized_width ws e
 sized-yes ws e w h is = ap Some is ∙ sym (ap (λ b. if b then Some (width_of ws e) else None) h)
@@ -74,9 +75,6 @@ part-of-all ws (x ∷ xs) (suc i) d l is = let r = part-of-all ws xs i d (omega 
 
 above-test : (a b : ℕ) → b < a → nat_le a b ≡ false
 above-test a b h = grind (arith, nat_tests)
-
-pub within-test : (a b : ℕ) → a ≤ b → nat_le a b ≡ true
-within-test a b h = grind (arith, nat_tests)
 
 pub cat-wide : (ws : Widths) (items : List VExpr) (i : ℕ) (d : VExpr) (total width : ℕ) → i < length items → d ≡ get_or items i d → SizedSoFar ws (listed (take i items)) total → Some width ≡ sized_width ws (expr_seen d)
     → 128 < total + width → None ≡ sized_width ws (Cat (listed items))

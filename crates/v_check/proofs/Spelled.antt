@@ -15,6 +15,7 @@ use Rattle.v_design.specs.Tree.{Tree, Term, Operand, Operands, Plain, Prefixed, 
 use Rattle.v_design.specs.Tree as tree
 use Rattle.v_design.specs.WellFormed.{used}
 use Rattle.v_syntax.specs.Syntax.{statements_from}
+use Rattle.plain_lemmas.proofs.Lists.{get-behind}
 
 -- the names among tokens
 abbrev pub names_in : List Token → List (List ℕ)
@@ -93,10 +94,6 @@ token-name (Name m ∷ ts) n h = elim (or_cases (bytes_eq m n) (among (names_in 
 token-name (Word w ∷ ts) n h = let (k, at) = token-name ts n h in (suc k, at)
 token-name (Number m ∷ ts) n h = let (k, at) = token-name ts n h in (suc k, at)
 token-name (Const w v ∷ ts) n h = let (k, at) = token-name ts n h in (suc k, at)
-
-get-behind : {X : Type 0} (xs ys : List X) (k : ℕ) → slice_get (xs ++ ys) (length xs + k) ≡ slice_get ys k
-get-behind [] ys k = ap (slice_get ys) (omega arith)
-get-behind (x ∷ xs) ys k = let e : length (x ∷ xs) + k ≡ suc (length xs + k) = omega arith in ap (slice_get (x ∷ (xs ++ ys))) e ∙ get-behind xs ys k
 
 -- the tokens of a module from its statements on
 front : Tree → List Token

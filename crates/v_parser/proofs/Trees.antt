@@ -16,10 +16,7 @@ use Rattle.v_parser.specs.Reading.{Spans, name_at, ReadsPort, AddsPorts, AddsDec
 use Rattle.v_parser.proofs.Spanning.{spans_one, spans_is, ◌then_spans◌, spans_as, span_length}
 use Rattle.v_parser.proofs.Walking.{Tokens}
 use Rattle.v_parser.proofs.Whole.{Shifts, shift_of, names_shift, starts_shift, names_with, all_tokens, ports_are, decls_are, statements_are}
-
-map_append : {X Y : Type 0} (f : X → Y) (xs ys : List X) → map f (xs ++ ys) ≡ map f xs ++ map f ys
-map_append f [] ys = refl
-map_append f (x ∷ xs) ys = ap (λ z. f x ∷ z) (map_append f xs ys)
+use Rattle.plain_lemmas.proofs.Lists.{map-append as map_append}
 
 span_all : {ts us : Tokens} {xs : List Token} → us ≡ [] → Spans ts us xs → tokens_of ts ≡ xs
 span_all e s = ap tokens_of (s.list ∙ (ap (λ z. s.front ++ z) e ∙ append-nil s.front)) ∙ s.are

@@ -20,12 +20,10 @@ use Rattle.v_design.specs.Header.{range_text}
 use Rattle.v_printer.specs.Module.{selected, node_name, wire_name, block}
 use Rattle.v_printer.specs.Layout.{term_text, operand_text, negation_text, constant_text, event_text, test_text, reset_value_text, next_text, stmt_text, line_text}
 use Rattle.v_printer.specs.declared.section.Section.TheVariants.{Wires}
+use Rattle.plain_lemmas.proofs.Numbers.{not-number as other_number}
 
 pub same_number : (a b : ℕ) → a ≡ b → (a == b) ≡ true
 same_number a b e = grind (arith, nat_tests)
-
-pub other_number : (a b : ℕ) → (a ≡ b → ⊥) → (a == b) ≡ false
-other_number a b e = grind (arith, nat_tests)
 
 pub range_is : (w : ℕ) → (w ≡ 1 → ⊥) → codes "[" ++ (decimal (w - 1) ++ codes ":0] ") ≡ range_text w
 range_is w n = ap (λ (b : Bool). if b then [] else codes "[" ++ (decimal (w - 1) ++ codes ":0] ")) (sym (other_number w 1 n))

@@ -19,8 +19,8 @@ use Rattle.rtl_net.specs.declared.node.NetNode.TheVariants.{Input, Register, Wir
 use Rattle.rtl_net.specs.declared.node.NetReset.{NetReset}
 use Rattle.rtl_net.specs.declared.node.NetReset.TheVariants as resets
 use Rattle.rtl_net.specs.declared.node.Seat.{Seat}
-use Rattle.rtl_net.specs.declared.node.Taken.{Taken}
-use Rattle.rtl_net.specs.declared.node.Taken.TheVariants as takes
+use Rattle.rtl_net.specs.declared.node.Occupant.{Occupant}
+use Rattle.rtl_net.specs.declared.node.Occupant.TheVariants as takes
 use Rattle.rtl_net.proofs.Places.{slice_get-within}
 use Rattle.rtl_net.proofs.Widths.{width_at, width_most}
 use Rattle.rtl_net.proofs.Making.{wire_width}
@@ -32,7 +32,8 @@ use Rattle.v_design.specs.Design as design
 use Rattle.v_design.specs.WellFormed.{Given, same_kind, port_kind, distinct, names, nets, target, driven}
 use Rattle.v_printer.specs.Module.{numbered, wire_name, node_name, side_of, port_of, ports, term_of, register_decl, wire_decl, decls, wire_stmt, shown_stmt, output_stmt, block, register_stmt, stmts, tree_of}
 use Rattle.v_printer.proofs.Entries.{Entry, Port, entry_name, entry_kind, entry_net, entries, register_entry, wire_entry, nets_are}
-use Rattle.v_printer.proofs.Places.{Apart, distinct_append, is_distinct, turned, all_append, all_map, all_of, list_all_of, numbered_all, numbered_has, any_at, place_left, place_right, place_map, same_bytes}
+use Rattle.v_printer.proofs.Places.{Apart, distinct_append, is_distinct, turned, all_append, all_map, all_of, list_all_of, numbered_all, numbered_has, any_at, place_left, place_right}
+use Rattle.plain_lemmas.proofs.Lists.{bytes_eq-itself as same_bytes, filter-append, get-map_at as place_map}
 use Rattle.v_printer.proofs.Named.{wire_names, names_differ, seats_regs, seats_wires, regs_wires, wires_distinct}
 
 -- the targets of the statements
@@ -50,7 +51,7 @@ output_targets : (net : Net) (k : ℕ) (ss : List Seat) → map target (numbered
 output_targets net k [] = refl
 output_targets net k (s ∷ ss) = go s.taken (output_targets net (k + 1) ss)
   where
-    go : (t : Option Taken) → map target (numbered (output_stmt net) (k + 1) ss) ≡ out_names ss
+    go : (t : Option Occupant) → map target (numbered (output_stmt net) (k + 1) ss) ≡ out_names ss
         → map target (shown_stmt net s.name t ++ numbered (output_stmt net) (k + 1) ss) ≡ (if by_output t then s.name ∷ out_names ss else out_names ss)
     go None e = e
     go (Some (takes.Input id)) e = e
@@ -168,7 +169,7 @@ module _ (net : Net) (made : IsMade net) (few : length net.nodes < 2 ^ 64) (all_
   or-right true b h = refl
   or-right false b h = h
 
-  seat_driven : (i : ℕ) (s : Seat) → slice_get net.seats i ≡ Some s → (t : Option Taken) → s.taken ≡ t → HasDriver (Port s)
+  seat_driven : (i : ℕ) (s : Seat) → slice_get net.seats i ≡ Some s → (t : Option Occupant) → s.taken ≡ t → HasDriver (Port s)
   seat_driven i s h None e = ap (λ x. same_kind (port_kind (side_of x)) Given || among targets s.name) e
   seat_driven i s h (Some (takes.Input id)) e = ap (λ x. same_kind (port_kind (side_of x)) Given || among targets s.name) e
   seat_driven i s h (Some (takes.Output from)) e = or-right (same_kind (port_kind (side_of s.taken)) Given) (among targets s.name) (is_target _ (output_stated i s from h e))
@@ -235,12 +236,6 @@ module _ (net : Net) (made : IsMade net) where
       two a b p q = rw (p, q)
 
 -- the pins of the module are the netlist's
-filter-append : {X : Type 0} (p : X → Bool) (xs ys : List X) → filter p (xs ++ ys) ≡ filter p xs ++ filter p ys
-filter-append p [] ys = refl
-filter-append p (x ∷ xs) ys = elim (p x) as (λ (b : Bool). (if b then x ∷ filter p (xs ++ ys) else filter p (xs ++ ys)) ≡ (if b then x ∷ filter p xs else filter p xs) ++ filter p ys) [
-  | true ↦ ap (λ l. x ∷ l) (filter-append p xs ys)
-  | false ↦ filter-append p xs ys
-]
 
 kept_registers : (k : ℕ) (ns : List NetNode) → map decl_pin (filter (λ d. d.reg) (numbered register_decl k ns)) ≡ registers_of ns
 kept_registers k [] = refl
@@ -261,12 +256,12 @@ registers_are net =
     ∙ (map-append decl_pin (filter (λ d. d.reg) (numbered register_decl 0 net.nodes)) []
     ∙ (append-nil (map decl_pin (filter (λ d. d.reg) (numbered register_decl 0 net.nodes))) ∙ kept_registers 0 net.nodes))
 
-input_side : (t : Option Taken) → is_some t ≡ true → is_input (side_of t) ≡ by_input t
+input_side : (t : Option Occupant) → is_some t ≡ true → is_input (side_of t) ≡ by_input t
 input_side None h = cc
 input_side (Some (takes.Input id)) h = refl
 input_side (Some (takes.Output from)) h = refl
 
-output_side : (t : Option Taken) → not (is_input (side_of t)) ≡ by_output t
+output_side : (t : Option Occupant) → not (is_input (side_of t)) ≡ by_output t
 output_side None = refl
 output_side (Some (takes.Input id)) = refl
 output_side (Some (takes.Output from)) = refl

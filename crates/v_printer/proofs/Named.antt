@@ -15,7 +15,8 @@ use Rattle.rtl_net.specs.declared.node.NetNode.TheVariants.{Input, Register, Wir
 use Rattle.rtl_net.specs.declared.node.Seat.{Seat}
 use Rattle.v_printer.specs.Module.{numbered, wire_name}
 use Rattle.v_printer.proofs.Entries.{Port, entry_name, entries, register_entry, wire_entry}
-use Rattle.v_printer.proofs.Places.{Apart, distinct_append, apart_of, turned, all_append, all_one, differ_by}
+use Rattle.v_printer.proofs.Places.{Apart, distinct_append, apart_of, turned, all_append, all_one}
+use Rattle.plain_lemmas.proofs.Lists.{differ_by}
 
 wire_tail : (k j : ℕ) → wire_name k ≡ wire_name j → decimal k ≡ decimal j
 wire_tail k j e = cc

@@ -15,8 +15,8 @@ use Rattle.rtl_net.specs.declared.node.NetNode.TheVariants.{Input, Register, Wir
 use Rattle.rtl_net.specs.declared.node.NetReset.{NetReset}
 use Rattle.rtl_net.specs.declared.node.NetReset.TheVariants as resets
 use Rattle.rtl_net.specs.declared.node.Id.{Id}
-use Rattle.rtl_net.specs.declared.node.Taken.{Taken}
-use Rattle.rtl_net.specs.declared.node.Taken.TheVariants as takes
+use Rattle.rtl_net.specs.declared.node.Occupant.{Occupant}
+use Rattle.rtl_net.specs.declared.node.Occupant.TheVariants as takes
 use Rattle.v_printer.specs.Module.{numbered, node_name, selected, term_of, wire_name, wire_stmt, shown_stmt, output_stmt, block, register_stmt, decls, stmts, tree_of}
 
 -- these tokens open as many brackets as they close
@@ -85,7 +85,7 @@ wire_balances net k (Input name w) rest = refl
 wire_balances net k (Register name w reset next) rest = refl
 wire_balances net k (Wire e) rest = single_balances (Assign (wire_name k) (term_of net e)) (assign_balances (wire_name k) (term_of net e) (expr_balances net e)) rest
 
-shown_balances : (net : Net) (name : List ℕ) (t : Option Taken) → Balances (stmts_tokens (shown_stmt net name t))
+shown_balances : (net : Net) (name : List ℕ) (t : Option Occupant) → Balances (stmts_tokens (shown_stmt net name t))
 shown_balances net name None rest = refl
 shown_balances net name (Some (takes.Input id)) rest = refl
 shown_balances net name (Some (takes.Output from)) rest = refl

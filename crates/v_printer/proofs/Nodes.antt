@@ -9,8 +9,8 @@ use Rattle.rtl_net.specs.declared.node.NetNode.{NetNode}
 use Rattle.rtl_net.specs.declared.node.NetNode.TheVariants.{Input, Register, Wire}
 use Rattle.rtl_net.specs.declared.node.NetReset.{NetReset}
 use Rattle.rtl_net.specs.declared.node.Seat.{Seat}
-use Rattle.rtl_net.specs.declared.node.Taken.{Taken}
-use Rattle.rtl_net.specs.declared.node.Taken.TheVariants as takes
+use Rattle.rtl_net.specs.declared.node.Occupant.{Occupant}
+use Rattle.rtl_net.specs.declared.node.Occupant.TheVariants as takes
 use Rattle.rtl_net.proofs.Places.{item_at, slice_get-within}
 use Rattle.rtl_net.proofs.Widths.{width_at}
 use Rattle.rtl_net.proofs.HasRun.{look_at}
@@ -21,11 +21,12 @@ use Rattle.v_design.specs.Expr.{Widths}
 use Rattle.v_design.specs.Design.{module_of}
 use Rattle.v_design.specs.Design as design
 use Rattle.v_design.specs.WellFormed as form
-use Rattle.v_design.specs.WellFormed.{Kind, Given, Wired, Kept, same_kind, has, is_pin, names, nets}
+use Rattle.v_design.specs.WellFormed.{Kind, Given, same_kind, has, is_pin, names, nets}
 use Rattle.v_design.proofs.Printing.{has_word}
 use Rattle.v_printer.specs.Module.{numbered, name_of, name_if, node_name, tree_of}
 use Rattle.v_printer.proofs.Entries.{Entry, Port, Kept_by, Wire_of, entry_name, entry_width, entry_kind, entry_net, entries, register_entry, wire_entry, nets_are, look, widths_are}
-use Rattle.v_printer.proofs.Places.{place_left, place_right, place_map, numbered_has, any_at, all_at, same_bytes, flipped}
+use Rattle.v_printer.proofs.Places.{place_left, place_right, numbered_has, any_at, all_at, flipped}
+use Rattle.plain_lemmas.proofs.Lists.{bytes_eq-itself as same_bytes, get-map_at as place_map}
 use Rattle.v_printer.proofs.Named.{names_differ, seats_named, regs_named, seats_regs}
 use Rattle.v_printer.proofs.Words.{net_word, wire_word}
 
@@ -36,7 +37,7 @@ node_entry net k (Register name w reset next) = Kept_by name w k
 node_entry net k (Wire e) = Wire_of (width_in net (record { 0 = k })) k
 
 -- behind how many assignments a net stands at most: an output stands behind all
-abbrev pub seat_rank : ℕ → Option Taken → ℕ
+abbrev pub seat_rank : ℕ → Option Occupant → ℕ
 seat_rank count None = 0
 seat_rank count (Some (takes.Input id)) = 0
 seat_rank count (Some (takes.Output from)) = count + 2

@@ -3,20 +3,13 @@ use Rattle.std.specs.List.{AllByRecursion, IsDistinct, list_any, list_all}
 use Rattle.std.specs.Str.{bytes_eq}
 use Rattle.std.specs.Cmp.Lexicographic.{nat_list_eq_equiv}
 use Rattle.std.proofs.Common.{zero, suc, ◌≡◌, ℕ, ◌+◌, Bool, true, false, ◌||◌, List, [], ◌∷◌, ◌++◌, map, slice_get, Some, None, refl, ap, ◌∙◌, subst, arith}
-use Rattle.std.proofs.lemmas.Bool.{or_parts, false_from_ne_true}
-use Rattle.std.proofs.lemmas.Slice.Eq.{bytes_eq-Decides}
+use Rattle.std.proofs.lemmas.Bool.{or_parts}
 use Rattle.v_design.specs.Lexemes.{among}
 use Rattle.v_design.specs.WellFormed.{distinct}
 use Rattle.v_printer.specs.Module.{numbered}
 
 pub flipped : (a b : List ℕ) → bytes_eq a b ≡ false → bytes_eq b a ≡ false
 flipped a b h = nat_list_eq_equiv.symm b a ∙ h
-
-pub same_bytes : (a : List ℕ) → bytes_eq a a ≡ true
-same_bytes a = (bytes_eq-Decides a a).1 refl
-
-pub differ_by : (a b : List ℕ) → (a ≡ b → ⊥) → bytes_eq a b ≡ false
-differ_by a b h = false_from_ne_true (bytes_eq a b) (λ t. h ((bytes_eq-Decides a b).0 t))
 
 -- what holds of each
 module _ {X : Type 0} where
@@ -58,11 +51,6 @@ module _ {X : Type 0} where
   pub place_right : (xs ys : List X) (i : ℕ) (x : X) → slice_get ys i ≡ Some x → (j : ℕ) × (slice_get (xs ++ ys) j ≡ Some x)
   place_right [] ys i x h = (i, h)
   place_right (y ∷ xs) ys i x h = let r = place_right xs ys i x h in (suc r.0, r.1)
-
-pub place_map : {X Y : Type 0} (f : X → Y) (xs : List X) (i : ℕ) (x : X) → slice_get xs i ≡ Some x → slice_get (map f xs) i ≡ Some (f x)
-place_map f [] i x h = absurd (let q : None ≡ Some x = h in cc)
-place_map f (y ∷ xs) zero x h = let q : y ≡ x = cc in ap (λ z. Some (f z)) q
-place_map f (y ∷ xs) (suc i) x h = place_map f xs i x h
 
 pub all_map : {X Y : Type 0} (P : Y → Type 0) (f : X → Y) (xs : List X) → AllByRecursion (λ x. P (f x)) xs → AllByRecursion P (map f xs)
 all_map P f [] h = tt

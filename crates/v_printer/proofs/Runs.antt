@@ -7,7 +7,7 @@ use Rattle.rtl_net.specs.Value.{At, Values, node_value, under, operands}
 use Rattle.rtl_net.specs.Net.{Net, widths, Has, Stands}
 use Rattle.rtl_net.specs.Made.{IsMade}
 use Rattle.rtl_net.specs.Run as run
-use Rattle.rtl_net.specs.Run.{by_input, by_output, NetEdge, NetRun, SameAt, values_at}
+use Rattle.rtl_net.specs.Run.{by_input, by_output, NetEdge, NetRun, values_at}
 use Rattle.rtl_net.specs.declared.node.Id.{Id}
 use Rattle.rtl_net.specs.declared.node.NetExpr.{NetExpr}
 use Rattle.rtl_net.specs.declared.node.NetNode.{NetNode}
@@ -15,8 +15,8 @@ use Rattle.rtl_net.specs.declared.node.NetNode.TheVariants.{Input, Register, Wir
 use Rattle.rtl_net.specs.declared.node.NetReset.{NetReset}
 use Rattle.rtl_net.specs.declared.node.NetReset.TheVariants as resets
 use Rattle.rtl_net.specs.declared.node.Seat.{Seat}
-use Rattle.rtl_net.specs.declared.node.Taken.{Taken}
-use Rattle.rtl_net.specs.declared.node.Taken.TheVariants as takes
+use Rattle.rtl_net.specs.declared.node.Occupant.{Occupant}
+use Rattle.rtl_net.specs.declared.node.Occupant.TheVariants as takes
 use Rattle.rtl_net.proofs.Places.{item_at}
 use Rattle.rtl_net.proofs.Values.{expr_value-same}
 use Rattle.rtl_net.proofs.Pins.{each_seat_pin, register_at_pin, values_of_same}
@@ -27,13 +27,14 @@ use Rattle.v_design.specs.Run.{Edge, Run, step_value, next_value, under_reset}
 use Rattle.v_printer.specs.Module.{numbered, wire_name, name_if, node_name, term_of, wire_stmt, shown_stmt, output_stmt, block, register_stmt, stmts, tree_of}
 use Rattle.v_printer.specs.TextOf.{IsWhole}
 use Rattle.v_printer.proofs.Entries.{Entry, Port, Kept_by, Wire_of, entries, look}
-use Rattle.v_printer.proofs.Places.{all_append, all_one, all_map, all_at, numbered_all, place_map}
+use Rattle.v_printer.proofs.Places.{all_append, all_one, all_map, all_at, numbered_all}
+use Rattle.plain_lemmas.proofs.Lists.{get-map_at as place_map}
 use Rattle.v_printer.proofs.Nodes.{node_entry, seat_placed, found, found_at, ws, wide}
 use Rattle.v_printer.proofs.Terms.{value_is}
 use Rattle.v_printer.proofs.Driven.{wire_stated, output_stated, block_stated, inputs_are, outputs_are}
 
 -- the value of a net
-abbrev seat_value : At → List ℕ → Option Taken → ℕ
+abbrev seat_value : At → List ℕ → Option Occupant → ℕ
 seat_value at name None = 0
 seat_value at name (Some (takes.Input id)) = at.ins name
 seat_value at name (Some (takes.Output from)) = at.outs name
@@ -106,12 +107,12 @@ module _ (net : Net) (made : IsMade net) (few : length net.nodes < 2 ^ 64) (whol
     seat_is : (i : ℕ) (s : Seat) → slice_get net.seats i ≡ Some s → values s.name ≡ seat_value e.at s.name s.taken
     seat_is i s h = found net made few (entry_value e.at) (Port s) (seat_placed net made few i s h)
 
-    given_at : (i : ℕ) (s : Seat) → slice_get net.seats i ≡ Some s → (t : Option Taken) → s.taken ≡ t → run.is_data_input s ≡ true → values s.name ≡ e.at.ins s.name
+    given_at : (i : ℕ) (s : Seat) → slice_get net.seats i ≡ Some s → (t : Option Occupant) → s.taken ≡ t → run.is_data_input s ≡ true → values s.name ≡ e.at.ins s.name
     given_at i s h None q k = absurd (let z : false ≡ true = sym (ap by_input q) ∙ (and_parts (by_input s.taken) _ k).0 in cc)
     given_at i s h (Some (takes.Input id)) q k = seat_is i s h ∙ ap (seat_value e.at s.name) q
     given_at i s h (Some (takes.Output from)) q k = absurd (let z : false ≡ true = sym (ap by_input q) ∙ (and_parts (by_input s.taken) _ k).0 in cc)
 
-    shown_at : (i : ℕ) (s : Seat) → slice_get net.seats i ≡ Some s → (t : Option Taken) → s.taken ≡ t → run.is_output s ≡ true → values s.name ≡ e.at.outs s.name
+    shown_at : (i : ℕ) (s : Seat) → slice_get net.seats i ≡ Some s → (t : Option Occupant) → s.taken ≡ t → run.is_output s ≡ true → values s.name ≡ e.at.outs s.name
     shown_at i s h None q k = absurd (let z : false ≡ true = sym (ap by_output q) ∙ k in cc)
     shown_at i s h (Some (takes.Input id)) q k = absurd (let z : false ≡ true = sym (ap by_output q) ∙ k in cc)
     shown_at i s h (Some (takes.Output from)) q k = seat_is i s h ∙ ap (seat_value e.at s.name) q
@@ -163,7 +164,7 @@ module _ (net : Net) (made : IsMade net) (few : length net.nodes < 2 ^ 64) (whol
     wires_good k (Register name w reset next) h = tt
     wires_good k (Wire x) h = ((wire_settled k x h, tt), tt)
 
-    shown_good : (i : ℕ) (s : Seat) → slice_get net.seats i ≡ Some s → (t : Option Taken) → s.taken ≡ t → AllByRecursion Good (shown_stmt net s.name t)
+    shown_good : (i : ℕ) (s : Seat) → slice_get net.seats i ≡ Some s → (t : Option Occupant) → s.taken ≡ t → AllByRecursion Good (shown_stmt net s.name t)
     shown_good i s h None q = tt
     shown_good i s h (Some (takes.Input id)) q = tt
     shown_good i s h (Some (takes.Output from)) q = ((shown_settled i s from h q, tt), tt)

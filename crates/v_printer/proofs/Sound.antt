@@ -2,7 +2,7 @@
 use Rattle.std.specs.Bool.{beq}
 use Rattle.std.specs.List.{AllByRecursion, list_all}
 use Rattle.std.specs.Str.{bytes_eq}
-use Rattle.std.proofs.Common.{◌≡◌, ℕ, ◌+◌, ◌<◌, ◌≤◌, ◌^◌, ◌==◌, Bool, true, false, not, ◌&&◌, List, [], ◌∷◌, length, slice_get, Option, Some, None, refl, ap, sym, ◌∙◌, subst, arith}
+use Rattle.std.proofs.Common.{◌≡◌, ℕ, ◌+◌, ◌<◌, ◌≤◌, ◌^◌, ◌==◌, Bool, true, false, ◌&&◌, List, [], ◌∷◌, length, slice_get, Option, Some, None, refl, ap, sym, ◌∙◌, subst, arith}
 use Rattle.rtl_net.specs.Names.{clock}
 use Rattle.rtl_net.specs.Value.{operands, expr_width}
 use Rattle.rtl_net.specs.Net.{Net, width_in, widths, Has, IsInput, Stands, CanWire}
@@ -14,8 +14,8 @@ use Rattle.rtl_net.specs.declared.node.NetNode.TheVariants.{Input, Register, Wir
 use Rattle.rtl_net.specs.declared.node.NetReset.{NetReset}
 use Rattle.rtl_net.specs.declared.node.NetReset.TheVariants as resets
 use Rattle.rtl_net.specs.declared.node.Seat.{Seat}
-use Rattle.rtl_net.specs.declared.node.Taken.{Taken}
-use Rattle.rtl_net.specs.declared.node.Taken.TheVariants as takes
+use Rattle.rtl_net.specs.declared.node.Occupant.{Occupant}
+use Rattle.rtl_net.specs.declared.node.Occupant.TheVariants as takes
 use Rattle.rtl_net.proofs.Places.{slice_get-within}
 use Rattle.rtl_net.proofs.Widths.{width_at, width_most}
 use Rattle.rtl_net.proofs.OneRun.{operands_have, reset_has}
@@ -28,21 +28,17 @@ use Rattle.v_design.proofs.TreeText.{stmt_cells}
 use Rattle.v_printer.specs.Module.{numbered, wire_name, node_name, side_of, term_of, wire_stmt, shown_stmt, output_stmt, block, register_stmt, stmts, tree_of}
 use Rattle.v_printer.proofs.Choices.{same_number}
 use Rattle.v_printer.proofs.Entries.{Entry, Port, Kept_by, Wire_of}
-use Rattle.v_printer.proofs.Places.{all_append, all_one, all_map, list_all_of, numbered_all, same_bytes}
+use Rattle.v_printer.proofs.Places.{all_append, all_one, all_map, list_all_of, numbered_all}
+use Rattle.plain_lemmas.proofs.Lists.{bytes_eq-itself as same_bytes}
 use Rattle.v_printer.proofs.Nodes.{seat_rank, seat_placed, node_placed, known, known_node, is_kind, pin_of, named_at, ws, wide, wide_entry, rank, rank_found, rank_most, seat_word, register_word, word_of_node, not_clock}
 use Rattle.v_printer.proofs.Terms.{nets_are_operands, width_is, sized_is}
 use Rattle.v_printer.proofs.Words.{wire_word}
 use Rattle.v_printer.proofs.Printable.{PrintsLine, expr_prints, assign_line, shown_line, clocked_line, resettable_line, const_fits}
-
-both : (a b : Bool) → a ≡ true → b ≡ true → (a && b) ≡ true
-both a b p q = rw (p, q)
+use Rattle.plain_lemmas.proofs.Bools.{and-both_true as both, not-of_false as not_is}
 
 none_among : (c : List ℕ) (ns : List (List ℕ)) → AllByRecursion (λ n. bytes_eq n c ≡ false) ns → among ns c ≡ false
 none_among c [] h = refl
 none_among c (n ∷ ns) h = rw (h.0, none_among c ns h.1)
-
-not_is : (b : Bool) → b ≡ false → not b ≡ true
-not_is b e = ap not e
 
 module _ (net : Net) (made : IsMade net) (few : length net.nodes < 2 ^ 64) where
   abbrev nm : Id → List ℕ
@@ -200,7 +196,7 @@ module _ (net : Net) (made : IsMade net) (few : length net.nodes < 2 ^ 64) where
   wires_sound k (Register name w reset next) h = tt
   wires_sound k (Wire e) h = (wire_sound k e h, tt)
 
-  shown_sound : (i : ℕ) (s : Seat) → slice_get net.seats i ≡ Some s → (t : Option Taken) → s.taken ≡ t → AllByRecursion IsSound (shown_stmt net s.name t)
+  shown_sound : (i : ℕ) (s : Seat) → slice_get net.seats i ≡ Some s → (t : Option Occupant) → s.taken ≡ t → AllByRecursion IsSound (shown_stmt net s.name t)
   shown_sound i s h None e = tt
   shown_sound i s h (Some (takes.Input id)) e = tt
   shown_sound i s h (Some (takes.Output from)) e = (output_sound i s from h e, tt)

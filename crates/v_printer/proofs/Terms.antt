@@ -1,6 +1,5 @@
 -- Printed expressions: the nets that they read, their widths, and their values.
 use Rattle.std.proofs.Common.{◌≡◌, ℕ, ◌+◌, ◌*◌, ◌-◌, ◌%◌, ◌^◌, ◌<◌, ◌≤◌, ◌==◌, Bool, true, false, ◌&&◌, if◌then◌else◌, nat_le, nat_lt, List, [], ◌∷◌, map, refl, ap, sym, ◌∙◌, arith}
-use Rattle.std.proofs.lemmas.Bool.Decides.{nat_tests}
 use Rattle.std.proofs.lemmas.Map.Views.{exact_unsigned_eq}
 use Rattle.std.proofs.lemmas.Nat.{and_mask}
 use Rattle.rb_base.specs.Bits.{part}
@@ -15,12 +14,7 @@ use Rattle.v_design.specs.declared.design.VTwo.TheVariants.{And}
 use Rattle.v_design.specs.Design.{expr_of}
 use Rattle.v_printer.specs.Module.{node_name, term_of}
 use Rattle.v_printer.proofs.Choices.{same_number}
-
-less : (a b : ℕ) → a < b → nat_lt a b ≡ true
-less a b h = grind (arith, nat_tests)
-
-most : (a b : ℕ) → a ≤ b → nat_le a b ≡ true
-most a b h = grind (arith, nat_tests)
+use Rattle.plain_lemmas.proofs.Numbers.{below-nat_lt as less, most}
 
 not_equal : (a b : ℕ) → (a == b) ≡ false → a ≡ b → ⊥
 not_equal a b h e = absurd (let q : true ≡ false = sym (same_number a b e) ∙ h in cc)

@@ -17,8 +17,8 @@ use Rattle.rtl_net.specs.declared.node.NetNode.TheVariants.{Input, Register, Wir
 use Rattle.rtl_net.specs.declared.node.NetReset.{NetReset}
 use Rattle.rtl_net.specs.declared.node.NetReset.TheVariants as resets
 use Rattle.rtl_net.specs.declared.node.Seat.{Seat}
-use Rattle.rtl_net.specs.declared.node.Taken.{Taken}
-use Rattle.rtl_net.specs.declared.node.Taken.TheVariants as takes
+use Rattle.rtl_net.specs.declared.node.Occupant.{Occupant}
+use Rattle.rtl_net.specs.declared.node.Occupant.TheVariants as takes
 
 -- what each item gives, where the first has the number k
 abbrev pub numbered : {X A : Type 0} → (ℕ → X → List A) → ℕ → List X → List A
@@ -70,7 +70,7 @@ term_of net (exprs.Lt a b) = Joined two.Lt (whole net a) (whole net b)
 term_of net (exprs.Pick c a b) = Chosen (whole net c) (whole net a) (whole net b)
 
 -- the side of a taken seat
-abbrev pub side_of : Option Taken → Dir
+abbrev pub side_of : Option Occupant → Dir
 side_of None = In
 side_of (Some (takes.Input id)) = In
 side_of (Some (takes.Output from)) = Out
@@ -102,7 +102,7 @@ wire_stmt net k (Register name w reset next) = []
 wire_stmt net k (Wire e) = Assign (wire_name k) (term_of net e) ∷ []
 
 -- the assignment of an output
-abbrev pub shown_stmt : Net → List ℕ → Option Taken → List Statement
+abbrev pub shown_stmt : Net → List ℕ → Option Occupant → List Statement
 shown_stmt net name None = []
 shown_stmt net name (Some (takes.Input id)) = []
 shown_stmt net name (Some (takes.Output from)) = Assign name (Plain (whole net from)) ∷ []

@@ -18,14 +18,14 @@ use crate::section::Section;
 use crate::write::put;
 use rb_edge::{Failed, Sink};
 use rb_page::Page;
-use rtl_net::{Id, Netlist, Seat, Taken};
+use rtl_net::{Id, Netlist, Occupant, Seat};
 
 /// The word of a port's side.
-fn side_word(taken: Option<Taken>) -> &'static [u8]
+fn side_word(taken: Option<Occupant>) -> &'static [u8]
     ensures { result.now ≡ dir_word (side_of taken) }
 {
     match taken {
-        Some(Taken::Output(_)) => b"output",
+        Some(Occupant::Output(_)) => b"output",
         _ => b"input",
     }
 }
@@ -34,7 +34,7 @@ fn side_word(taken: Option<Taken>) -> &'static [u8]
 fn put_port<K: Sink>(
     page: &mut Page,
     out: &mut K,
-    taken: Option<Taken>,
+    taken: Option<Occupant>,
     width: u8,
     name: &[u8],
 ) -> Result<(), Failed>
@@ -142,7 +142,7 @@ fn put_if_shown<K: Sink>(
         page.old page.new result (shown_text net.now at seat.now) }
 {
     match seat.taken {
-        Some(Taken::Output(from)) => put_shown(page, out, net, &seat.name.bytes, from),
+        Some(Occupant::Output(from)) => put_shown(page, out, net, &seat.name.bytes, from),
         _ => Ok(()),
     }
 }

@@ -3,7 +3,7 @@
 ghost use Rattle.std.specs.Prelude.{◌≡◌, ◌<◌, ◌^◌, ◌-◌, ◌++◌, OnOk, length};
 ghost use Rattle.verdict_text.specs.Lines.{broken_at, numbers, ok_line, rule_text, verdict_lines};
 
-use crate::spot::{START, spot_at};
+use crate::line_column::{START, spot_at};
 use rb_base::NoMemory;
 use rdl_base::{Fault, Rule};
 use std::alloc::Global;

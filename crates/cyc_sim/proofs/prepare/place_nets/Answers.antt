@@ -5,7 +5,8 @@ use Rattle.v_design.specs.Design.{inputs}
 use Rattle.v_design.specs.Seen.{module_seen, step_seen}
 use Rattle.v_design.specs.declared.design.Stmt.{Stmt}
 use Rattle.cyc_sim.specs.Order.{IsSettlingOrder}
-use Rattle.cyc_sim.proofs.Ordering.{get-at, step-at}
+use Rattle.cyc_sim.proofs.Ordering.{step-at}
+use Rattle.plain_lemmas.proofs.Lists.{get-at}
 use Rattle.cyc_sim.proofs.Stages.{net_prepared}
 use Rattle.cyc_sim.proofs.Standing.{before-more, knows-all, pins-still, ready-next}
 use Rattle.cyc_sim.proofs.Statements.{statement_acts, updated_at}

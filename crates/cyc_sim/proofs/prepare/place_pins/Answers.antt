@@ -6,8 +6,8 @@ use Rattle.rb_base.specs.declared.ports.Pin.{Pin}
 use Rattle.cyc_sim.specs.declared.listing.Wire.{Wire}
 use Rattle.cyc_sim.specs.Compiled.{Known, known_at}
 use Rattle.cyc_sim.specs.Preparing.{ArePlaced}
-use Rattle.cyc_sim.proofs.Knowing.{known_or_last, front_cases, front_more, front_last}
-use Rattle.cyc_sim.proofs.Ordering.{get-at}
+use Rattle.cyc_sim.proofs.Knowing.{known_or_last, front_cases, front_last}
+use Rattle.plain_lemmas.proofs.Lists.{get-at, take-get_more as front_more}
 use Rattle.cyc_sim.proofs.Standing.{now-known, still-known}
 use Rattle.cyc_sim.proofs.prepare.place_pins.Goals as goal
 

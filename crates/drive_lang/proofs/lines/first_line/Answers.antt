@@ -1,6 +1,7 @@
 use Rattle.std.proofs.Common.{◌+◌, [], ◌∷◌, drop, ap, sym, ◌∙◌}
 use Rattle.drive_lang.specs.Lines.{lines_of, uncommented}
-use Rattle.drive_lang.proofs.Splitting.{last_line, line_before, past}
+use Rattle.drive_lang.proofs.Splitting.{last_line, line_before}
+use Rattle.plain_lemmas.proofs.Lists.{take-rest as past}
 use Rattle.drive_lang.proofs.lines.first_line.Goals as goal
 
 pub returns-in-Some-clause-line : goal.returns-in-Some-clause-line

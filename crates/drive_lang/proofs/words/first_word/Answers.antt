@@ -1,7 +1,8 @@
 use Rattle.std.proofs.Common.{◌≡◌, ◌<◌, ℕ, ◌-◌, ◌∷◌, Some, List, false, not, drop, get_or, length, position, take, ap, sym, ◌∙◌, arith}
 use Rattle.std.proofs.lemmas.List.{length-drop, get_or-drop}
 use Rattle.drive_lang.specs.Lines.{is_blank, words_of}
-use Rattle.drive_lang.proofs.Splitting.{begins, from_word, last_word, no_word, past, word_before}
+use Rattle.drive_lang.proofs.Splitting.{begins, from_word, last_word, no_word, word_before}
+use Rattle.plain_lemmas.proofs.Lists.{take-rest as past}
 use Rattle.drive_lang.proofs.words.first_word.Goals as goal
 
 -- what stands from the first word on

@@ -1,7 +1,7 @@
 use Rattle.std.proofs.Common.{ap, drop, subst, ◌∙◌}
 use Rattle.drive_names.specs.Named.{named_pins}
 use Rattle.drive_names.specs.Names.{IsTableOf}
-use Rattle.drive_names.proofs.Tables.{past}
+use Rattle.plain_lemmas.proofs.Lists.{take-rest as past}
 use Rattle.drive_names.proofs.names.names_of.Goals as goal
 
 pub returns : goal.returns

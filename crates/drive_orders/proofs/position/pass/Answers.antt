@@ -1,7 +1,8 @@
 use Rattle.std.proofs.Common.{◌≡◌, ◌≤◌, ◌+◌, true, length, Some, option_copied, slice_get, ap, sym, subst, ◌∙◌, arith}
 use Rattle.drive_orders.specs.Steps.{vectors_of}
 use Rattle.drive_orders.specs.Left.{HasNext, are_held, is_held, left_of, vectors_in}
-use Rattle.drive_orders.proofs.Passing.{all_there, passed}
+use Rattle.drive_orders.proofs.Passing.{passed}
+use Rattle.plain_lemmas.proofs.Lists.{all-get as all_there}
 use Rattle.drive_orders.proofs.position.pass.Goals as goal
 
 pub loop-line-preserved : goal.loop-line-preserved

@@ -1,6 +1,6 @@
 use Rattle.rtl_net.specs.Net.{Settles}
 use Rattle.rtl_net.proofs.Nets.{IsNode-is, fits_at}
-use Rattle.gen_counters.proofs.Wraps.{wrap_down}
+use Rattle.plain_lemmas.proofs.Numbers.{wrap_down}
 use Rattle.gen_counters.proofs.sums.wrapped.Goals as goal
 
 pub returns-clause-node : goal.returns-clause-node

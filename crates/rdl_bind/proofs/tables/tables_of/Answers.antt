@@ -2,7 +2,7 @@ use Rattle.std.proofs.Common.{sym, subst}
 use Rattle.rdl_values.specs.Elaboration.{IsClean}
 use Rattle.rdl_nodes.specs.Rows.{AreRows}
 use Rattle.rdl_bind.specs.Numbered.{AreNumbers}
-use Rattle.rdl_ref_items.specs.Marks.{AreMarks}
+use Rattle.rdl_ref_items.specs.InterruptOutputs.{AreInterruptOutputs}
 use Rattle.rdl_members.specs.Covered.{AreOverViews}
 use Rattle.rdl_fields.specs.Touched.{touches}
 use Rattle.rdl_bind.proofs.Reading.{as-named}
@@ -22,7 +22,7 @@ edges-requires c =
     record {
       clean = subst IsClean (sym c.requires.tree) c.requires.clean;
       rows_ = subst (λ x. AreRows x c.args.rows.now) (sym c.requires.tree) c.requires.rows;
-      marks_ = subst (AreMarks m) (sym c.deref.ensures.value) c.in_ok-marks.ensures;
+      marks_ = subst (AreInterruptOutputs m) (sym c.deref.ensures.value) c.in_ok-marks.ensures;
       touched_ = subst (λ x. AreOverViews x touches c.deref-2.result.now) (sym c.requires.tree) (subst (AreOverViews e touches) (sym c.deref-2.ensures.value) c.in_ok-touched.ensures);
       numbers_ = subst (λ x. AreNumbers x c.in_ok-numbers.numbers) (sym c.requires.tree) c.in_ok-numbers.ensures;
       sized = names.0;

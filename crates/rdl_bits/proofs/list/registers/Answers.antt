@@ -22,7 +22,7 @@ add_register-requires-clause-row c =
     let r = row-at e c.args.rows.now c.requires.rows i x (get-made c.args.rows.now i x x c.loop-at-test.true (sym c.index-rows-at.is)) in
     let id = sym r.2.number in
     let low = (let many = rows-many e c.args.rows.now c.requires.rows in let long = c.requires.addresses.many in let test : i < length c.args.addresses.now = omega (arith, c.loop-at-test.true, many, long) in test) in
-    (r.0, subst (λ k. slice_get (lineages_of e) k ≡ Some r.0) id r.1, x, refl, subst (λ k. IsRow e (lineages_of e) k x r.0) id r.2, λ placed. c.requires.addresses.first.spots i r.0 low r.1 placed)
+    (r.0, subst (λ k. slice_get (lineages_of e) k ≡ Some r.0) id r.1, x, refl, subst (λ k. IsRow e (lineages_of e) k x r.0) id r.2, λ placed. c.requires.addresses.first.areas i r.0 low r.1 placed)
 
 pub add_register-requires-clause-before : goal.add_register-requires-clause-before
 add_register-requires-clause-before c =

@@ -13,7 +13,7 @@ use Rattle.rdl_layers.specs.Fields.{fields_of, is_a}
 use Rattle.rdl_layout.specs.Fields as fields
 use Rattle.rdl_nodes.specs.Rows.{AreInside}
 use Rattle.rdl_addr.specs.Fields.{AreFieldsOf}
-use Rattle.rdl_addr.specs.Spots.{bits_at}
+use Rattle.rdl_addr.specs.Areas.{bits_at}
 use Rattle.rdl_nodes.proofs.Members.{get-within}
 use Rattle.rdl_sizes.specs.Bodies.{IsBodyOf}
 use Rattle.rdl_sizes.proofs.Facts.{count-is, node-at}

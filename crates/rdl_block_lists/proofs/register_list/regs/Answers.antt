@@ -9,7 +9,7 @@ use Rattle.rdl_layers.specs.Fields.{is_a, is_alias}
 use Rattle.rdl_nodes.proofs.Members.{get-read}
 use Rattle.rdl_sizes.proofs.Facts.{count-is, node-at, nodes-many, row-at, rows-many}
 use Rattle.rdl_sizes.proofs.Turns.{read-at}
-use Rattle.rdl_ref_items.specs.Marks.{mark_at}
+use Rattle.rdl_ref_items.specs.InterruptOutputs.{mark_at}
 use Rattle.rdl_rules.specs.Block.{reg_of}
 use Rattle.rdl_block_lists.proofs.Marking.{halting, one-register, only-own, tells-alias}
 use Rattle.rdl_block_lists.proofs.register_list.regs.Goals as goal

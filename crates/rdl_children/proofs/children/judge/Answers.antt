@@ -1,7 +1,7 @@
 use Rattle.std.proofs.Common.{refl, subst, sym}
 use Rattle.rdl_values.specs.Uses.{seen}
 use Rattle.rdl_scopes.specs.Scopes.{AreOpen}
-use Rattle.rdl_children.specs.declared.item.Scene.{Scene}
+use Rattle.rdl_children.specs.declared.item.Surroundings.{Surroundings}
 use Rattle.rdl_children.proofs.Itemized.{body_scene, items_of}
 use Rattle.rdl_children.proofs.Reached.{seen_reach}
 use Rattle.rdl_children.proofs.children.judge.Goals as goal
@@ -13,7 +13,7 @@ pub returns : goal.returns
 returns c = λ above b open_ stands.
     let t = c.args.bodies.now in
     let y = c.args.body.now in
-    let s : Scene = record { components = c.components.result; tables = c.tables.result; numbers = y.numbers; outer = y.uptos; parent = c.args.parent } in
+    let s : Surroundings = record { components = c.components.result; tables = c.tables.result; numbers = y.numbers; outer = y.uptos; parent = c.args.parent } in
     let scene = body_scene t y b open_ s c.tables.ensures c.components.ensures refl refl stands in
     record {
       noted = c.in_ok-items.ensures.noted above b scene;

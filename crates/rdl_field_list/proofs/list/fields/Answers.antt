@@ -3,7 +3,7 @@ use Rattle.rdl_tree.specs.declared.node.Elab.{Elab}
 use Rattle.rdl_values.specs.Elaborated.{nodes_of}
 use Rattle.rdl_values.specs.Elaboration.{IsClean}
 use Rattle.rdl_values.specs.Lineages.{lineages_of}
-use Rattle.rdl_values.proofs.Given.{each-imp}
+use Rattle.plain_lemmas.proofs.Lists.{each-imp}
 use Rattle.rdl_layers.specs.Fields.{is_once}
 use Rattle.rdl_nodes.specs.Rows.{AreRows}
 use Rattle.rdl_refs.specs.Answers.{IsBound}

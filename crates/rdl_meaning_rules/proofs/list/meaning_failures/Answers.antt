@@ -9,7 +9,7 @@ use Rattle.rdl_layers.specs.Answers.{IsSettled}
 use Rattle.rdl_nodes.specs.Rows.{AreRows}
 use Rattle.rdl_refs.specs.Answers.{AreCircling, IsBound}
 use Rattle.rdl_rules.specs.Facts.{AreFacts}
-use Rattle.rdl_ref_items.specs.Marks.{AreMarks}
+use Rattle.rdl_ref_items.specs.InterruptOutputs.{AreInterruptOutputs}
 use Rattle.rdl_meaning_rules.specs.Collected.{collected, of_containers, of_count, of_fields, of_registers, of_resets, of_roots}
 use Rattle.rdl_meaning_rules.proofs.Put.{three}
 use Rattle.rdl_meaning_rules.proofs.Whole.{whole}
@@ -52,7 +52,7 @@ pub judge_settings-requires-clause-facts : goal.judge_settings-requires-clause-f
 judge_settings-requires-clause-facts c = subst (λ (e : Elab). AreFacts e c.args.facts.now) (sym c.requires.props) c.requires.facts
 
 pub judge_settings-requires-clause-marks : goal.judge_settings-requires-clause-marks
-judge_settings-requires-clause-marks c = subst (λ ms. AreMarks c.args.props.now ms) (sym c.deref-4.ensures.value) c.in_ok-marks.ensures
+judge_settings-requires-clause-marks c = subst (λ ms. AreInterruptOutputs c.args.props.now ms) (sym c.deref-4.ensures.value) c.in_ok-marks.ensures
 
 pub returns : goal.returns
 returns c =

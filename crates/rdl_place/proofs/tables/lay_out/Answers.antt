@@ -1,13 +1,13 @@
 use Rattle.std.proofs.Common.{◌∙◌, ◌++◌, refl, subst}
-use Rattle.rdl_place.specs.Kept.{AreSpots}
+use Rattle.rdl_place.specs.Kept.{AreAreas}
 use Rattle.rdl_place.specs.declared.tables.Laid.{Laid}
 use Rattle.rdl_place.proofs.Knowing.{all-known}
 use Rattle.rdl_place.proofs.tables.lay_out.Goals as goal
 
 pub returns : goal.returns
 returns c =
-    let x : Laid = record { spots = c.in_ok-spots.spots; bits = c.in_ok-table.table.bits; faults = c.add_all-2.new.faults } in
-    let kept = subst (λ as_. AreSpots as_ c.in_ok-sizes.sizes.measures.items x.spots.items) c.deref-8.ensures.value (subst (λ ms. AreSpots c.deref-8.result.now ms x.spots.items) c.deref-9.ensures.value c.in_ok-spots.ensures) in
+    let x : Laid = record { areas = c.in_ok-areas.areas; bits = c.in_ok-table.table.bits; faults = c.add_all-2.new.faults } in
+    let kept = subst (λ as_. AreAreas as_ c.in_ok-sizes.sizes.measures.items x.areas.items) c.deref-8.ensures.value (subst (λ ms. AreAreas c.deref-8.result.now ms x.areas.items) c.deref-9.ensures.value c.in_ok-areas.ensures) in
     let faults =
     c.in_ok-add_all-2.ensures
     ∙ ((λ i. c.in_ok-add_all.ensures i ++ c.deref-7.ensures.value i)

@@ -7,7 +7,8 @@ use Rattle.topological_order.specs.Levels.{lists, rank_at}
 use Rattle.rdl_refs.specs.Graph.{Edges, IsCircleOf}
 use Rattle.rdl_refs.specs.Walk.{IsWalk}
 use Rattle.rdl_refs.proofs.Ending.{need-unranked, unranked-need-refers}
-use Rattle.rdl_refs.proofs.Gets.{any-default, length-lists, some-from}
+use Rattle.rdl_refs.proofs.Gets.{length-lists, some-from}
+use Rattle.plain_lemmas.proofs.Lists.{any-default}
 use Rattle.rdl_refs.proofs.Walks.{circle-found, circle-within, first-within, walk-more, walk-short}
 use Rattle.rdl_refs.proofs.graph.circle_from.Goals as goal
 

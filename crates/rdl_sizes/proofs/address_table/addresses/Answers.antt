@@ -5,7 +5,7 @@ use Rattle.rdl_sizes.specs.Sized.{offset_at}
 use Rattle.rdl_sizes.proofs.Facts.{rows-many}
 use Rattle.rdl_sizes.proofs.Moding.{parent-below}
 use Rattle.rdl_sizes.specs.Addresses.{address_by}
-use Rattle.rdl_sizes.proofs.Spotting.{addresses-more, no-addresses}
+use Rattle.rdl_sizes.proofs.Placing.{addresses-more, no-addresses}
 use Rattle.rdl_sizes.proofs.address_table.addresses.Goals as goal
 
 pub index-offset-requires : goal.index-offset-requires

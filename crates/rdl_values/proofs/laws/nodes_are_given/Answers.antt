@@ -1,5 +1,6 @@
 use Rattle.rdl_values.specs.Instances.{children, signals}
-use Rattle.rdl_values.proofs.Given.{each-imp, children-given, signals-given}
+use Rattle.rdl_values.proofs.Given.{children-given, signals-given}
+use Rattle.plain_lemmas.proofs.Lists.{each-imp}
 use Rattle.rdl_values.proofs.laws.nodes_are_given.Goals as goal
 
 pub returns-clause-children : goal.returns-clause-children

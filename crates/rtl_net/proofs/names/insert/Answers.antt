@@ -2,7 +2,7 @@ use Rattle.std.proofs.Common.{◌≡◌, ◌∙◌, ap, sym, cond, ◌++◌, ◌
 use Rattle.std.specs.List.{list_any}
 use Rattle.std.specs.Str.{bytes_eq}
 use Rattle.std.proofs.lemmas.List.{map-append}
-use Rattle.rtl_net.proofs.NameLists.{list_any-map}
+use Rattle.plain_lemmas.proofs.Lists.{any-map as list_any-map}
 use Rattle.rtl_net.proofs.names.insert.Goals as goal
 
 pub returns-clause-ok : goal.returns-clause-ok

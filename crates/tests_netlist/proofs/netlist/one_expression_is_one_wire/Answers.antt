@@ -5,7 +5,7 @@ use Rattle.rtl_net.specs.Ports.{IsFree, has_room, seated}
 use Rattle.rtl_net.specs.declared.node.Id.{Id}
 use Rattle.rtl_net.specs.declared.node.Seat.{Seat}
 use Rattle.rtl_net.specs.declared.node.NetExpr.TheVariants.{And}
-use Rattle.rtl_net.specs.declared.node.Taken.TheVariants as takes
+use Rattle.rtl_net.specs.declared.node.Occupant.TheVariants as takes
 use Rattle.rtl_net.proofs.Nets.{Stands-has, Stands-extends, Stands-grows}
 use Rattle.tests_netlist.proofs.netlist.one_expression_is_one_wire.Goals as goal
 

@@ -3,7 +3,7 @@ use Rattle.rtl_net.specs.Net.{Net, registers_of, width_in}
 use Rattle.rtl_net.specs.Names.{Lacks}
 use Rattle.rtl_net.specs.Ports.{IsNew, IsFree, has_room, seat_names, seated}
 use Rattle.rtl_net.specs.declared.node.Seat.{Seat}
-use Rattle.rtl_net.specs.declared.node.Taken.TheVariants as takes
+use Rattle.rtl_net.specs.declared.node.Occupant.TheVariants as takes
 use Rattle.rtl_net.proofs.Nets.{Stands-has}
 use Rattle.tests_netlist.proofs.netlist.seats_keep_their_order.Goals as goal
 

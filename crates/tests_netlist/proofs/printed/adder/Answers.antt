@@ -6,7 +6,7 @@ use Rattle.rtl_net.specs.Ports.{IsFree, has_room, seated}
 use Rattle.rtl_net.specs.declared.node.Id.{Id}
 use Rattle.rtl_net.specs.declared.node.Seat.{Seat}
 use Rattle.rtl_net.specs.declared.node.NetExpr.TheVariants.{Add}
-use Rattle.rtl_net.specs.declared.node.Taken.TheVariants as takes
+use Rattle.rtl_net.specs.declared.node.Occupant.TheVariants as takes
 use Rattle.rtl_net.proofs.Nets.{Stands-has, Stands-extends}
 use Rattle.v_printer.specs.TextOf.{IsWhole}
 use Rattle.tests_netlist.proofs.printed.adder.Goals as goal

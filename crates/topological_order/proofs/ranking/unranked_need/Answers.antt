@@ -1,5 +1,6 @@
 use Rattle.std.proofs.Common.{arith}
-use Rattle.topological_order.proofs.Waiting.{more-ranked, get-within}
+use Rattle.topological_order.proofs.Waiting.{more-ranked}
+use Rattle.plain_lemmas.proofs.Lists.{get-within}
 use Rattle.topological_order.proofs.ranking.unranked_need.Goals as goal
 
 pub loop-place-preserved : goal.loop-place-preserved

@@ -1,7 +1,8 @@
 use Rattle.std.specs.List.{slice_get}
 use Rattle.std.proofs.Common.{◌≡◌, Some, length, ap, ◌∙◌, sym, arith}
 use Rattle.topological_order.specs.Waiting.{list_at}
-use Rattle.topological_order.proofs.Waiting.{list-at, get-at, waiter-within}
+use Rattle.topological_order.proofs.Waiting.{list-at, waiter-within}
+use Rattle.plain_lemmas.proofs.Lists.{get-at}
 use Rattle.topological_order.proofs.ranking.waiter_of.Goals as goal
 
 pub returns : goal.returns

@@ -3,7 +3,8 @@ use Rattle.v_design.specs.Lexemes.{among}
 use Rattle.v_design.specs.Expr.{nets_of}
 use Rattle.v_design.specs.WellFormed.{clock, drives_its_kind, expr}
 use Rattle.v_check.specs.Nets.{nets_seen}
-use Rattle.v_check.proofs.Driving.{nets-statement, well-driven}
+use Rattle.v_check.proofs.Driving.{nets-statement}
+use Rattle.plain_lemmas.proofs.Bools.{and-true_left as well-driven}
 use Rattle.v_check.proofs.drivers.drives_well.Goals as goal
 
 pub returns : goal.returns

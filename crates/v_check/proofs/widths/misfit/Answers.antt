@@ -2,7 +2,8 @@ use Rattle.std.proofs.Common.{not, ap, arith}
 use Rattle.v_design.specs.Seen.{step_seen}
 use Rattle.v_check.specs.Nets.{widths_at}
 use Rattle.v_check.specs.Sizes.{IsMisfit, step_fits, stmt_places}
-use Rattle.v_check.proofs.Finding.{finds_next, finds_all, stmt-place, element-test, element-within}
+use Rattle.v_check.proofs.Finding.{finds_next, finds_all, stmt-place, element-test}
+use Rattle.plain_lemmas.proofs.Lists.{get-within as element-within}
 use Rattle.v_check.proofs.widths.misfit.Goals as goal
 
 pub loop-stmt-preserved : goal.loop-stmt-preserved

@@ -14,13 +14,13 @@ use Rattle.block_plan.specs.Outlets.{outlet_seen}
 use Rattle.rb_model.specs.Run.{pins_of}
 use Rattle.rb_model.specs.Sound.{IsSound}
 use Rattle.block_plan.specs.Plan.{IsPlanOf}
-use Rattle.rb_machine.specs.declared.scene.Scene.{Scene}
+use Rattle.rb_machine.specs.declared.scene.EdgeState.{EdgeState}
 use Rattle.rb_machine.specs.declared.sight.FieldState.{FieldState}
 use Rattle.rb_machine.specs.Moves.{started_state}
 use Rattle.rb_machine.specs.Quiet.{AreNextBusy, brief_of}
 use Rattle.rb_machine.specs.Resets.{NoneReset}
 use Rattle.rb_machine.proofs.Resting.{next_kept}
-use Rattle.rb_machine.specs.Scene.{AreMarks, HoldsKept, IsScene, state_at}
+use Rattle.rb_machine.specs.Scene.{AreStrobes, HoldsKept, IsEdgeState, state_at}
 use Rattle.rb_machine.specs.Slots.{access_state}
 use Rattle.block_plan.specs.Wanted.{AreInOrder}
 use Rattle.rb_machine.specs.Table.{values_of}
@@ -47,9 +47,9 @@ show-requires c =
     let i : length c.deref-9.result.now ≡ length (outlets b) = ap length c.deref-9.ensures.value ∙ (sym (length-map c.args.self.now.plan.outlets.items outlet_seen) ∙ ap length c.requires.ready.planned.outlets) in
     omega (arith, c.requires.outs, o, length-map (outlets b) outlet_pin, i)
 
-is_scene : (s : Scene) (x : List ℕ) → IsSound s.block.now → IsPlanOf s.block.now s.plan.now → s.pins.now ≡ x → length x ≡ length (input_pins s.block.now) → length s.held.now.fields.items ≡ length s.block.now.fields
+is_scene : (s : EdgeState) (x : List ℕ) → IsSound s.block.now → IsPlanOf s.block.now s.plan.now → s.pins.now ≡ x → length x ≡ length (input_pins s.block.now) → length s.held.now.fields.items ≡ length s.block.now.fields
     → s.briefs.now ≡ map brief_of s.block.now.fields → AreNextBusy s.block.now.fields s.next.now → (held : List FieldState) → HoldsKept s.block.now.fields held → (s.is_reset ≡ false → s.held.now.fields.items ≡ held)
-    → (s.is_reset ≡ false → NoneReset s.block.now (pins_of s.block.now x)) → IsScene s
+    → (s.is_reset ≡ false → NoneReset s.block.now (pins_of s.block.now x)) → IsEdgeState s
 is_scene s x sound planned pins long sized briefs next held kept still calm = record {
   sound = sound;
   planned = planned;
@@ -82,7 +82,7 @@ returns-clause-edge c =
     let a = access_seen c.observe-vector.result.transfer.access in
     let pins = with_items_is s.pins c.observe-vector.new.pins (c.observe-vector.auto.pins ∙ c.deref_mut.ensures.len) ∙ c.observe-vector.ensures.pins in
     let marked = with_items_is s.marks c.mark_access.new.marks (c.mark_access.auto.marks ∙ c.deref_mut-2.ensures.len) in
-    let marks : AreMarks b a c.deref-3.result.now = subst (AreMarks b a) (sym (c.deref-3.ensures.value ∙ marked)) c.mark_access.ensures in
+    let marks : AreStrobes b a c.deref-3.result.now = subst (AreStrobes b a) (sym (c.deref-3.ensures.value ∙ marked)) c.mark_access.ensures in
     let table = with_items_is s.table c.settle.new.table (c.settle.auto.table ∙ c.deref_mut-3.ensures.len) in
     let states = with_items_is s.states c.move_fields.new.states (c.move_fields.auto.states ∙ c.deref_mut-4.ensures.len) in
     let listed = subst (AreInOrder b c.requires.ready.wanted) (sym c.deref-6.ensures.value) c.requires.ready.listed in

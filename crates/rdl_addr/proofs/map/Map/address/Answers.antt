@@ -10,5 +10,5 @@ returns c =
     let tables = c.self.invariant in
     let has : HasAddressAt c.self.inside.elab node = subst (λ e. HasAddressAt e node) (sym c.self.view_is) c.requires in
     let low = get-within (nodes_of c.self.inside.elab) node has.0 has.1 in
-    let is = read c.self.inside.spots.items node (record { address = 0; size = 0 }) c.index.result.now (let all = tables.all_placed in omega (arith, low, all)) c.index.ensures in
+    let is = read c.self.inside.areas.items node (record { address = 0; size = 0 }) c.index.result.now (let all = tables.all_placed in omega (arith, low, all)) c.index.ensures in
     subst (λ e. IsAddressAt e node c.index.result.now.address) c.self.view_is (subst (λ s. IsAddressAt c.self.inside.elab node s.address) is (tables.addresses node has))

@@ -1,5 +1,6 @@
 use Rattle.std.proofs.Common.{◌∙◌, ap, is_some, sym}
-use Rattle.rdl_open_settings.proofs.Knowing.{can_read, known_again, known_new, some_copied}
+use Rattle.rdl_open_settings.proofs.Knowing.{can_read, known_again, known_new}
+use Rattle.plain_lemmas.proofs.Options.{some_copied}
 use Rattle.rdl_open_settings.proofs.table.LayerTable.judge.Goals as goal
 
 pub returns-then-is_some : goal.returns-then-is_some

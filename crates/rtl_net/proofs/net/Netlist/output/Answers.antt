@@ -1,7 +1,7 @@
 use Rattle.std.proofs.Common.{◌≡◌, ◌∙◌, ap, sym, subst}
 use Rattle.rtl_net.specs.Net.{Has, width_in}
 use Rattle.rtl_net.specs.Ports.{IsFree, seated}
-use Rattle.rtl_net.specs.declared.node.Taken.TheVariants as takes
+use Rattle.rtl_net.specs.declared.node.Occupant.TheVariants as takes
 use Rattle.rtl_net.specs.contracts.net.Netlist.{the_view}
 use Rattle.rtl_net.proofs.Calls.{OutputAdded, output_added, with_seats}
 use Rattle.rtl_net.proofs.net.Netlist.output.Goals as goal

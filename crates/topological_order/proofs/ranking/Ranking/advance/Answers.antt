@@ -1,7 +1,8 @@
 use Rattle.std.proofs.Common.{◌∙◌, sym, refl, Result, Ok, Err, OnOk, arith}
 use Rattle.std.proofs.lemmas.Result.{on_ok_weaker}
 use Rattle.topological_order.specs.Levels.{lists}
-use Rattle.topological_order.proofs.Waiting.{advances-already, sound-waits, advances-waits, sound-ranked, advances-ranked, stops-at, all-ranked, ranked-from, unranked-from, any-default}
+use Rattle.topological_order.proofs.Waiting.{advances-already, sound-waits, advances-waits, sound-ranked, advances-ranked, stops-at, all-ranked, ranked-from, unranked-from}
+use Rattle.plain_lemmas.proofs.Lists.{any-default}
 use Rattle.topological_order.proofs.ranking.Ranking.advance.Goals as goal
 
 pub returns-then-is_some-clause-advances : goal.returns-then-is_some-clause-advances

@@ -2,7 +2,8 @@ use Rattle.std.specs.List.{slice_get}
 use Rattle.std.proofs.Common.{◌≡◌, Some, length, sym, ap, ◌∙◌, arith}
 use Rattle.topological_order.specs.Levels.{lists}
 use Rattle.topological_order.specs.Waiting.{list_at, waiter_at}
-use Rattle.topological_order.proofs.Waiting.{released-none, released-more, released-all, ready-before, get-within, get-at, waiters-kept}
+use Rattle.topological_order.proofs.Waiting.{released-none, released-more, released-all, ready-before, waiters-kept}
+use Rattle.plain_lemmas.proofs.Lists.{get-at, get-within}
 use Rattle.topological_order.proofs.ranking.Ranking.release.Goals as goal
 
 pub waiters_of-count-requires : goal.waiters_of-count-requires

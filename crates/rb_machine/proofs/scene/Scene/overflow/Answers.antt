@@ -1,8 +1,0 @@
-use Rattle.rb_machine.specs.Scene.{now_in}
-use Rattle.rb_machine.proofs.Scenes.{made_overflow}
-use Rattle.rb_machine.proofs.scene.Scene.overflow.Goals as goal
-
-pub returns-in-Some : goal.returns-in-Some
-returns-in-Some c a =
-    let s = c.args.self.now in
-    made_overflow s c.args.table.now c.args.number c.in-Some.at c.in-Some.ensures a c.overflow.result (c.overflow.ensures (now_in s a) c.args.number (c.in-Some.ensures.sees a))

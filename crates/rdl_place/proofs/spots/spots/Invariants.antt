@@ -1,5 +1,0 @@
-use Rattle.rdl_place.proofs.Keeping.{AreFirst}
-use Rattle.rdl_place.proofs.spots.spots.Given as goal
-
-abbrev pub invariant-loop-at : goal.invariant-loop-at
-invariant-loop-at l = AreFirst l.addresses l.measures l.at l.spots.items

@@ -1,8 +1,0 @@
-use Rattle.rdl_targets.proofs.Keyed.{others-stay}
-use Rattle.rdl_targets.proofs.keys.Keys.take.Goals as goal
-
-pub returns-in-Some-clause-others : goal.returns-in-Some-clause-others
-returns-in-Some-clause-others c = others-stay (record { body = c.args.body; name = c.args.name.now; index = c.args.index.now }) c.args.self.now (record { nodes = c.insert.new.self }) c.new.result c.in_ok-list.ensures.updates
-
-pub returns-in-None-clause-others : goal.returns-in-None-clause-others
-returns-in-None-clause-others c = others-stay (record { body = c.args.body; name = c.args.name.now; index = c.args.index.now }) c.args.self.now (record { nodes = c.insert.new.self }) c.new.result c.in_ok-list.ensures.updates
