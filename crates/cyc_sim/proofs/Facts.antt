@@ -104,4 +104,3 @@ pub value_got : (v : Values) (ps : List Pin) (i : ℕ) (p : Pin) → slice_get p
 value_got v [] i p e = cc e
 value_got v (q ∷ qs) zero p e = let same : q ≡ p = cc in ap (λ x. v x.name) same
 value_got v (q ∷ qs) (suc i) p e = value_got v qs i p e
-

@@ -74,4 +74,3 @@ no_wrap w u a b p q =
     let s : 0 * 2 ^ w + a + (0 * 2 ^ u + b) ≡ a + b = omega arith in
     let l : a + b < 2 ^ (2 + w) = omega (arith, e) in
     ap (λ n. n % 2 ^ (2 + w)) s ∙ mod-eq_of_lt l
-
