@@ -38,8 +38,8 @@ fn edge_of(word: Keyword) -> Edge
 // given = expr | a word .
 fn given<'a>(parser: &mut Parser<'a>) -> Result<Assigned<'a>, Stop>
     ensures tree { IfOk result (DerivesGiven parser.old parser.new) }
-    ensures reads { OnOk result (Same grammar after_expr (Non rules.Assigned ∷ []) parser.old [] parser.new) }
-    ensures stops { result ≡ Err Stop.Syntax → Stops grammar after_expr (Non rules.Assigned ∷ []) parser.old parser.new }
+    ensures reads { OnOk result (Same grammar after_expr (Non rules.Given ∷ []) parser.old [] parser.new) }
+    ensures stops { result ≡ Err Stop.Syntax → Stops grammar after_expr (Non rules.Given ∷ []) parser.old parser.new }
 {
     if let Some((word, _)) = parser.word_of(Sort::Value) {
         return Ok(Assigned::Word(word));

@@ -1,5 +1,0 @@
-use Rattle.rdl_plain_laws.proofs.Rules.{failures_ab-plain}
-use Rattle.rdl_plain_laws.proofs.laws.places_of_plain.Goals as goal
-
-pub returns : goal.returns
-returns c = failures_ab-plain

@@ -1,5 +1,0 @@
-pub mod PlainInstances
-pub mod PlainItems
-pub mod PlainPlaces
-pub mod PlainRegisters
-pub mod PlainSettings

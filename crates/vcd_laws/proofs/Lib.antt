@@ -1,0 +1,13 @@
+pub mod Answered
+pub mod Changes
+pub mod Codes
+pub mod Fine
+pub mod Lines
+pub mod Marking
+pub mod Numerals
+pub mod OfModules
+pub mod ReadBack
+pub mod Rows
+pub mod Values
+pub mod WordKinds
+pub mod Worked

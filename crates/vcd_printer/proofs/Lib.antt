@@ -1,0 +1,5 @@
+mod Binary
+mod Coding
+mod Each
+mod Fitting
+mod Lines

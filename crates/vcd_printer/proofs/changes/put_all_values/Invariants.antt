@@ -1,0 +1,11 @@
+use Rattle.std.specs.List.{enumerate_from, flat_map, zip}
+use Rattle.std.proofs.Common.{take, Ok}
+use Rattle.rb_edge.specs.declared.sink.Failed.{Failed}
+use Rattle.rb_page.specs.Flows.{Flows}
+use Rattle.vcd_printer.proofs.Lines.{value_text}
+use Rattle.vcd_printer.proofs.changes.put_all_values.Given as goal
+
+abbrev pub invariant-loop-at : goal.invariant-loop-at
+invariant-loop-at g l =
+    Flows {U = Unit {0}} {E = Failed} (g.K.Sink.told l.fn.out) (g.K.Sink.told l.out) (g.K.Sink.faults l.fn.out) (g.K.Sink.faults l.out) l.fn.page l.page (Ok tt)
+    (flat_map value_text (take l.at (enumerate_from 0 (zip l.pins l.now))))

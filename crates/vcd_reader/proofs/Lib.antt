@@ -1,0 +1,12 @@
+pub mod Behind
+pub mod Cutting
+pub mod Ending
+pub mod Existing
+pub mod Keeping
+pub mod Lists
+pub mod Runs
+pub mod Sets
+pub mod Stepping
+pub mod Taking
+pub mod Walking
+pub mod Within

@@ -1,0 +1,235 @@
+//! What a dump says, word by word.
+
+ghost use Rattle.std.specs.Prelude.{◌≡◌, drop};
+ghost use Rattle.std.specs.List.{list_all};
+ghost use Rattle.vcd_syntax.specs.Faulty.{is_known_bit};
+ghost use Rattle.vcd_reader.specs.Bits.{bit_value};
+
+use crate::pins::pins_of;
+use crate::rows::{Came, Rows};
+use crate::variables::{Given, Variables};
+use crate::waves::Waves;
+use crate::words::Word;
+use rb_base::Place;
+use std::alloc::Global;
+use vcd_syntax::{Kind, State, VcdError, binary, decimal, exit_of};
+
+/// What was said so far, and the last word.
+#[derive(Drop)]
+pub(crate) struct Said<'s> {
+    pub variables: Variables<'s>,
+    pub rows: Rows,
+    pub state: State,
+    pub last: Word<'s>,
+}
+
+/// A word without its first byte.
+fn tail(word: &[u8]) -> &[u8]
+    ensures { result.now ≡ drop 1 word.now }
+{
+    match word {
+        [_, tail @ ..] => tail,
+        [] => word,
+    }
+}
+
+fn are_known(bits: &[u8]) -> bool
+    ensures { result ≡ list_all is_known_bit bits.now }
+{
+    for bit in bits {
+        if *bit != b'0' && *bit != b'1' {
+            return false;
+        }
+    }
+    true
+}
+
+/// The value of the bit that a word begins with, where it is 0 or 1.
+fn bit_value(word: &[u8]) -> Option<u128>
+    ensures { result ≡ bit_value word.now }
+{
+    match word {
+        [] | [b'0', ..] => Some(0),
+        [b'1', ..] => Some(1),
+        _ => None,
+    }
+}
+
+impl<'s> Said<'s> {
+    ghost use Rattle.std.specs.Prelude.{◌≡◌, ◌≢◌, ◌<◌, ◌^◌, ◌∷◌, [], ℕ, List, length, OnOk, IfOk, IfErr};
+    ghost use Rattle.vcd_syntax.specs.Tokens.{Word as TextWord};
+    ghost use Rattle.vcd_syntax.specs.Reading.{Fails, IsTable};
+    ghost use Rattle.vcd_syntax.specs.declared.error.VcdError.{VcdError as Error};
+    ghost use Rattle.vcd_syntax.specs.declared.kind.Kind.TheVariants as kind_of;
+    ghost use Rattle.vcd_syntax.specs.Known.{Known};
+    ghost use Rattle.vcd_reader.specs.Steps.{IsReady, Goes, Errs, IsSaid, HoldsVariables, HoldsRows, nothing};
+    ghost use Rattle.vcd_reader.specs.Fronts.{word_of};
+
+    /// Nothing yet.
+    pub fn new(alloc: Global) -> Self
+        ensures state { result.state ≡ State.Front }
+        ensures last { result.last.text.now ≡ [] }
+        ensures place { result.last.place.0 ≡ 0 }
+        ensures variables { HoldsVariables result.variables nothing }
+        ensures rows { HoldsRows result.rows nothing }
+    {
+        Said {
+            variables: Variables::new(alloc),
+            rows: Rows::new(alloc),
+            state: State::Front,
+            last: Word {
+                text: &[],
+                place: Place(0),
+            },
+        }
+    }
+
+    fn width(&mut self, word: Word<'s>) -> Result<(), VcdError>
+        requires { (k : Known) × IsReady kind_of.Width word.text.now self.old k }
+        ensures on { OnOk result (Goes kind_of.Width self.old self.new word.entry.text.now) }
+        ensures fault { IfErr result (Errs kind_of.Width self.old word.entry) }
+    {
+        let Some(width) = decimal(word.text) else {
+            unreachable!();
+        };
+        self.variables.add_width(width as u8)?;
+        Ok(())
+    }
+
+    fn code(&mut self, word: Word<'s>) -> Result<(), VcdError>
+        ensures on { OnOk result (Goes kind_of.Code self.old self.new word.entry.text.now) }
+        ensures fault { IfErr result (Errs kind_of.Code self.old word.entry) }
+    {
+        let again = self.variables.add_code(word.text)?;
+        if again {
+            return Err(VcdError::Twice { place: word.place });
+        }
+        Ok(())
+    }
+
+    fn name(&mut self, word: Word<'s>) -> Result<(), VcdError>
+        ensures on { OnOk result (Goes kind_of.Name self.old self.new word.entry.text.now) }
+        ensures fault { IfErr result (Errs kind_of.Name self.old word.entry) }
+    {
+        let again = self.variables.add_name(word.text)?;
+        if again {
+            return Err(VcdError::Twice { place: word.place });
+        }
+        Ok(())
+    }
+
+    fn time(&mut self, word: Word<'s>) -> Result<(), VcdError>
+        ensures on { OnOk result (Goes kind_of.Time self.old self.new word.entry.text.now) }
+        ensures fault { IfErr result (Errs kind_of.Time self.old word.entry) }
+    {
+        let time = decimal(tail(word.text));
+        match self.rows.judge(time, self.variables.now.len()) {
+            Came::Late => Err(VcdError::Time { place: word.place }),
+            Came::Many => Err(VcdError::Many { place: word.place }),
+            Came::Next(time) => {
+                self.rows.come(time, &self.variables.now)?;
+                Ok(())
+            }
+        }
+    }
+
+    fn scalar(&mut self, word: Word<'s>) -> Result<(), VcdError>
+        requires { (k : Known) × IsReady kind_of.Scalar word.text.now self.old k }
+        ensures on { OnOk result (Goes kind_of.Scalar self.old self.new word.entry.text.now) }
+        ensures fault { IfErr result (Errs kind_of.Scalar self.old word.entry) }
+    {
+        let value = bit_value(word.text);
+        match self.variables.give(tail(word.text), value, 1) {
+            Given::Taken => Ok(()),
+            Given::Unknown => Err(VcdError::Code { place: word.place }),
+            Given::Unfit => Err(VcdError::Value { place: word.place }),
+        }
+    }
+
+    fn bits(&mut self, word: Word<'s>) -> Result<(), VcdError>
+        ensures on { OnOk result (Goes kind_of.Bits self.old self.new word.entry.text.now) }
+        ensures fault { IfErr result (Errs kind_of.Bits self.old word.entry) }
+    {
+        if !are_known(tail(word.text)) {
+            return Err(VcdError::Value { place: word.place });
+        }
+        Ok(())
+    }
+
+    fn taker(&mut self, word: Word<'s>) -> Result<(), VcdError>
+        requires { (k : Known) × IsReady kind_of.Taker word.text.now self.old k }
+        ensures on { OnOk result (Goes kind_of.Taker self.old self.new word.entry.text.now) }
+        ensures fault { IfErr result (Errs kind_of.Taker self.old word.entry) }
+    {
+        let value = binary(tail(self.last.text));
+        match self.variables.give(word.text, value, 128) {
+            Given::Taken => Ok(()),
+            Given::Unknown => Err(VcdError::Code { place: word.place }),
+            Given::Unfit => Err(VcdError::Value {
+                place: self.last.place,
+            }),
+        }
+    }
+
+    /// Takes a word of a kind.
+    fn take(&mut self, kind: Kind, word: Word<'s>) -> Result<(), VcdError>
+        requires { (k : Known) × IsReady kind word.text.now self.old k }
+        ensures on { OnOk result (Goes kind self.old self.new word.entry.text.now) }
+        ensures fault { IfErr result (Errs kind self.old word.entry) }
+    {
+        match kind {
+            Kind::Width => self.width(word),
+            Kind::Code => self.code(word),
+            Kind::Name => self.name(word),
+            Kind::Time => self.time(word),
+            Kind::Scalar => self.scalar(word),
+            Kind::Bits => self.bits(word),
+            Kind::Taker => self.taker(word),
+            _ => Ok(()),
+        }
+    }
+
+    /// Takes the next word of a text.
+    pub fn step(&mut self, word: Word<'s>) -> Result<(), VcdError>
+        requires { (text : List ℕ) × (left : List TextWord) × IsSaid text (word_of word ∷ left) self.old }
+        ensures on { OnOk result ((text : List ℕ) (left : List TextWord) → IsSaid text (word_of word.entry ∷ left) self.old → IsSaid text left self.new) }
+        ensures fault { IfErr result (λ e. e ≢ VcdError.NoMemory
+            → (text : List ℕ) (left : List TextWord) → IsSaid text (word_of word.entry ∷ left) self.old → Fails text e) }
+    {
+        let Some((kind, to)) = exit_of(self.state, word.text) else {
+            return Err(VcdError::Form { place: word.place });
+        };
+        self.take(kind, word)?;
+        self.state = to;
+        self.last = word;
+        Ok(())
+    }
+
+    /// The table of a text that ends here, or its first problem.
+    pub fn end(self, alloc: Global, place: Place) -> Result<Waves, VcdError>
+        requires { (text : List ℕ) × IsSaid text [] self × (place.0 ≡ length text) × (length text < 2 ^ 32) }
+        ensures table { IfOk result (λ w. (text : List ℕ) → IsSaid text [] self.entry → IsTable text w.pins w.rows) }
+        ensures problem { IfErr result (λ e. e ≢ VcdError.NoMemory
+            → (text : List ℕ) → IsSaid text [] self.entry → place.0 ≡ length text → Fails text e) }
+    {
+        let Said {
+            variables,
+            mut rows,
+            state,
+            last: _,
+        } = self;
+        let State::Entries = state else {
+            return Err(VcdError::Form { place });
+        };
+        rows.close(&variables.now)?;
+        if let Some(pin) = rows.missing {
+            return Err(VcdError::NoValue { pin: pin as u32 });
+        }
+        let pins = pins_of(alloc, &variables.names, &variables.widths)?;
+        Ok(Waves {
+            pins,
+            values: rows.values,
+            rows: rows.times,
+        })
+    }
+}

@@ -1,0 +1,58 @@
+//! Words that differ, in the order in which they came.
+
+use indexmap::IndexSet;
+use std::alloc::{AllocError, Global};
+use std::marker::Model;
+
+/// Words that differ, each found by one look-up. Contracts see the list of the words.
+#[derive(Drop)]
+pub(crate) struct WordSet<'s> {
+    words: IndexSet<&'s [u8]>,
+}
+
+impl<'s> Model for WordSet<'s> {
+    ghost use Rattle.std.specs.Prelude.{ℕ, List, map};
+
+    ghost Value = { List (List ℕ) };
+
+    ghost view = { λ s. map (λ w. w.now) s.words.keys };
+}
+
+impl<'s> WordSet<'s> {
+    ghost use Rattle.std.specs.Prelude.{◌≡◌, ◌++◌, ◌∷◌, [], IfOk, if◌then◌else◌, slice_get, option_copied};
+    ghost use Rattle.std.specs.List.{position};
+    ghost use Rattle.std.specs.Str.{bytes_eq};
+    ghost use Rattle.v_design.specs.Lexemes.{among};
+
+    /// No words yet.
+    pub fn new(alloc: Global) -> Self
+        ensures { result ≡ [] }
+    {
+        WordSet {
+            words: IndexSet::new(alloc),
+        }
+    }
+
+    /// The number of a word, from 0.
+    pub fn find(&self, word: &[u8]) -> Option<usize>
+        ensures { result ≡ position (bytes_eq word.now) self.now }
+    {
+        self.words.get_index_of(word)
+    }
+
+    /// The word of a number.
+    pub fn get(&self, at: usize) -> Option<&'s [u8]>
+        ensures { option_copied result ≡ slice_get self.now at }
+    {
+        self.words.get_index(at).copied()
+    }
+
+    /// Adds a word behind the others, and answers whether it is there before.
+    pub fn add(&mut self, word: &'s [u8]) -> Result<bool, AllocError>
+        ensures again { IfOk result (λ again. again ≡ among self.old word.now) }
+        ensures words { IfOk result (λ again. self.new ≡ (if again then self.old else self.old ++ word.now ∷ [])) }
+    {
+        let (_, new) = self.words.insert_full(word)?;
+        Ok(!new)
+    }
+}

@@ -1,0 +1,63 @@
+//! The words of a text, one by one.
+
+ghost use Rattle.std.specs.Prelude.{◌≡◌, ◌-◌, ◌^◌, ◌<◌, ◌≤◌, not, false, [], drop, length, IfSome, IfNone};
+ghost use Rattle.std.specs.List.{take_while};
+ghost use Rattle.rb_grammar.specs.Separators.{is_blank, Skips};
+ghost use Rattle.vcd_reader.specs.Fronts.{StartsBy, IsBehind, word_of};
+
+use rb_base::Place;
+use rb_grammar::{is_blank, separators_len};
+
+/// A word, and where it stands.
+#[derive(Clone, Copy)]
+pub(crate) struct Word<'s> {
+    pub text: &'s [u8],
+    pub place: Place,
+}
+
+/// Where the first word of a text stands: how many blanks are before it, and how many bytes it has.
+#[derive(Clone, Copy)]
+struct Front {
+    gap: usize,
+    len: usize,
+}
+
+fn word_len(text: &[u8]) -> usize
+    ensures { result ≡ length (take_while (λ b. not (is_blank b)) text.now) }
+{
+    text.iter().take_while(|b| !is_blank(**b)).count()
+}
+
+/// The first word of a text, None where it has blanks alone.
+fn first_word(text: &[u8]) -> Option<Front>
+    ensures some { IfSome result (λ f. StartsBy text.now f.gap f.len) }
+    ensures none { IfNone result (Skips false text.now []) }
+{
+    let Ok(gap) = separators_len(text, false) else {
+        unreachable!();
+    };
+    let left = &text[gap..];
+    if left.is_empty() {
+        return None;
+    }
+    Some(Front {
+        gap,
+        len: word_len(left),
+    })
+}
+
+/// The first word of a text behind so many bytes, None where there are blanks alone. It takes no memory.
+pub(crate) fn word_behind(text: &[u8], at: usize) -> Option<Word<'_>>
+    requires inside { at ≤ length text.now }
+    requires short { length text.now < 2 ^ 32 - 1 }
+    ensures some { IfSome result (λ w. IsBehind text.now at (word_of w)) }
+    ensures none { IfNone result (Skips false (drop at text.now) []) }
+{
+    let left = &text[at..];
+    let front = first_word(left)?;
+    let word = &left[front.gap..front.gap + front.len];
+    Some(Word {
+        text: word,
+        place: Place((at + front.gap) as u32),
+    })
+}

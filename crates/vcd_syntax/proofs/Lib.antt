@@ -1,0 +1,9 @@
+pub mod Giving
+pub mod Judging
+pub mod Knowing
+pub mod OneAnswer
+pub mod OneMarking
+pub mod Saying
+pub mod Stacks
+pub mod Steps
+pub mod Verdicts
