@@ -68,9 +68,6 @@ step-of all items i x same l is = ap (λ ys. slice_get (map step_seen ys) i) (sy
 pub steps-past : (all items : List Stmt) (end : ℕ) → items ≡ all → length items ≤ end → length (map step_seen all) ≤ end
 steps-past all items end same l = let a = length-map all step_seen in let b = ap length same in omega (arith, a, b, l)
 
-some-is : {X : Type 0} (o : Option X) (x : X) → o ≡ Some x → IsSome o
-some-is o x e = rw e refl
-
 -- as `AreDrivers`, where the steps from a number on are yet to come
 pub record DriversBelow (drivers : Drivers) (ss : List Step) (end : ℕ) : Type 0 where
   pub driven : (i : ℕ) (s : Step) → i < end → slice_get ss i ≡ Some s → s.clocked ≡ false → IsSome (driver_at drivers s.to)
@@ -105,7 +102,7 @@ drivers-more drivers drivers' ss i s text at acts is updated h = record {
 }
   where
     has : (o old : Option ℕ) (b : Bool) → o ≡ (if b then Some i else old) → (b ≡ false → IsSome old) → IsSome o
-    has o old true e rest = some-is o i e
+    has o old true e rest = rw e refl
     has o old false e rest = subst IsSome (sym e) (rest refl)
 
     from : (n : List ℕ) (j : ℕ) (b : Bool) → bytes_eq text n ≡ b → (if b then Some i else driver_at drivers n) ≡ Some j → Assigns ss j n

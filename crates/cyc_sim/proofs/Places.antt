@@ -2,7 +2,7 @@
 use Rattle.std.proofs.Common.{◌≡◌, ℕ, zero, suc, ◌+◌, ◌<◌, ◌≤◌, Bool, true, false, ◌&&◌, nat_lt, List, [], ◌∷◌, ◌++◌, length, take, drop, get_or, refl, ap, sym, ◌∙◌, append_assoc, arith}
 use Rattle.std.specs.List.{list_all}
 use Rattle.std.proofs.Math.ListN.{set}
-use Rattle.std.proofs.Math.Seq.{drop-cons}
+use Rattle.std.proofs.Math.Seq.{drop-cons, take-append-add}
 use Rattle.std.proofs.lemmas.List.{take_more, length-take, take-append-le, take_all}
 use Rattle.cyc_sim.specs.Operations.{are_places}
 use Rattle.plain_lemmas.proofs.Numbers.{less as below_test}
@@ -45,10 +45,6 @@ drop-behind : (xs ys : List ℕ) → drop (length xs) (xs ++ ys) ≡ ys
 drop-behind [] ys = refl
 drop-behind (x ∷ xs) ys = drop-behind xs ys
 
-take-behind : (xs ys : List ℕ) (n : ℕ) → take (length xs + n) (xs ++ ys) ≡ xs ++ take n ys
-take-behind [] ys n = ap (λ i. take i ys) (omega arith)
-take-behind (x ∷ xs) ys n = let more : length (x ∷ xs) + n ≡ suc (length xs + n) = omega arith in rw more (ap (λ l. x ∷ l) (take-behind xs ys n))
-
 -- the first places once the pins are written
 pub first_places : (values pins put : List ℕ) (inputs count : ℕ) → length pins ≡ inputs → put ≡ take 0 values ++ (pins ++ drop (0 + length pins) values)
     → take (inputs + count) put ≡ pins ++ take count (drop inputs values)
@@ -56,7 +52,7 @@ first_places values pins put inputs count long is =
     let same : 0 + length pins ≡ inputs = omega (arith, long) in
     ap (take (inputs + count)) is
     ∙ (ap (λ n. take (n + count) (pins ++ drop (0 + length pins) values)) (sym long)
-    ∙ (take-behind pins (drop (0 + length pins) values) count ∙ ap (λ n. pins ++ take count (drop n values)) same))
+    ∙ (take-append-add pins (drop (0 + length pins) values) count ∙ ap (λ n. pins ++ take count (drop n values)) same))
 
 -- the contents once they have moved
 pub moved_places : (values moved put rest : List ℕ) (inputs count : ℕ) → length moved ≡ count → inputs ≤ length values → put ≡ take inputs values ++ (moved ++ rest) → take count (drop inputs put) ≡ moved

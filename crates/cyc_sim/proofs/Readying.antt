@@ -1,6 +1,7 @@
 -- Expressions whose nets have places and whose widths agree, and their parts.
 use Rattle.std.specs.List.{AllByRecursion}
-use Rattle.std.proofs.Common.{◌≡◌, ℕ, zero, suc, ◌+◌, ◌<◌, ◌≤◌, ◌==◌, true, ◌&&◌, nat_le, nat_lt, IsSome, List, [], ◌∷◌, length, take, get_or, ap, sym, subst, ◌∙◌, arith}
+use Rattle.std.specs.Prelude.{IfSome}
+use Rattle.std.proofs.Common.{◌≡◌, ℕ, zero, suc, ◌+◌, ◌<◌, ◌≤◌, ◌==◌, true, ◌&&◌, nat_le, nat_lt, IsSome, Option, Some, None, List, [], ◌∷◌, length, take, get_or, ap, sym, subst, ◌∙◌, arith}
 use Rattle.v_design.specs.declared.design.VExpr.{VExpr}
 use Rattle.v_design.specs.declared.design.VOne.{VOne}
 use Rattle.v_design.specs.declared.design.VOne.TheVariants.{Not, All, Any, Odd}
@@ -14,7 +15,7 @@ use Rattle.v_design.proofs.Names.{each_left, each_right}
 use Rattle.cyc_sim.specs.declared.listing.Wire.{Wire}
 use Rattle.cyc_sim.specs.declared.listing.Listing.{Listing}
 use Rattle.cyc_sim.specs.Compiled.{Known, known_at, Compiles, IsReady}
-use Rattle.cyc_sim.proofs.Concatenating.{listed, listed-more, width-behind, CompilesAll}
+use Rattle.cyc_sim.proofs.Concatenating.{listed, listed-more, width-behind, CompilesAll, MayCompile}
 use Rattle.plain_lemmas.proofs.Numbers.{at-most, less}
 
 under-narrow : (op : VOne) (w : ℕ) → w ≤ 128 → width_under op w ≤ 128
@@ -175,3 +176,8 @@ module _ (known : Known) where
       let e = ap (width_of_all ws) (listed-more items i d within is) ∙ width-behind ws (listed (take i items)) (expr_seen d) in
       let p = h.width ws r.wide in let q = k.width ws r.wide in
       omega (arith, a, b, e, p, q)
+
+  pub behind-narrow : (items : List VExpr) (i : ℕ) (d : VExpr) (l l' l'' : Listing) (high : Option Wire) (low : Wire) → i < length items → d ≡ get_or items i d → IsReady known (Cat (listed items))
+      → MayCompile known (listed (take i items)) l l' high → Compiles known (expr_seen d) l' l'' low → IfSome high (λ h. h.width + low.width < 256)
+  behind-narrow items i d l l' l'' None low within is r h k = tt
+  behind-narrow items i d l l' l'' (Some high) low within is r h k = let fits = joined-narrow items i d l l' l'' high low within is r h k in omega arith

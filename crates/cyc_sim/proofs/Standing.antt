@@ -187,20 +187,17 @@ pub record KnowsBefore (known : Known) (ss : List Step) (order : List ℕ) (end 
   pub registers : KnowsRegisters known ss
   pub assigned : (p i : ℕ) (s : Step) → p < end → slice_get order p ≡ Some i → slice_get ss i ≡ Some s → s.clocked ≡ false → IsSome (known_at known s.to)
 
-some-is : {X : Type 0} (o : Option X) (x : X) → o ≡ Some x → IsSome o
-some-is o x e = rw e refl
-
 -- one net more has a place
 module _ (known known' : Known) (to : List ℕ) (w : Wire) (updated : (name : List ℕ) → known_at known' name ≡ (if bytes_eq to name then Some w else known_at known name)) where
   pub still-known : (n : List ℕ) → IsSome (known_at known n) → IsSome (known_at known' n)
   still-known n h = subst IsSome (sym (updated n)) (go (bytes_eq to n))
     where
       go : (b : Bool) → IsSome (if b then Some w else known_at known n)
-      go true = some-is (Some w) w refl
+      go true = refl
       go false = h
 
   pub now-known : IsSome (known_at known' to)
-  now-known = some-is (known_at known' to) w (updated to ∙ ap (λ b. if b then Some w else known_at known to) (same-refl to))
+  now-known = let e = updated to ∙ ap (λ b. if b then Some w else known_at known to) (same-refl to) in rw e refl
 
   pub pins-still : (ps : List Pin) → KnowsPins known ps → KnowsPins known' ps
   pins-still ps h i p at = still-known p.name (h i p at)

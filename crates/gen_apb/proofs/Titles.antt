@@ -9,16 +9,10 @@ use Rattle.rtl_net.specs.Names.{is_name_start, is_name_byte, is_name, is_identif
 use Rattle.rb_model.specs.declared.block.Block.{Block}
 use Rattle.rb_model.specs.Ports.{module_name}
 use Rattle.rb_model.specs.Sound.{IsSound}
+use Rattle.gen_scene.proofs.ResetPins.{bytes_wider}
 
 start_wider : (c : ℕ) → design.is_name_start c ≡ true → is_name_start c ≡ true
 start_wider c h = grind (arith, nat_tests)
-
-byte_wider : (c : ℕ) → design.is_name_byte c ≡ true → is_name_byte c ≡ true
-byte_wider c h = grind (arith, nat_tests)
-
-bytes_wider : (bs : List ℕ) → list_all design.is_name_byte bs ≡ true → list_all is_name_byte bs ≡ true
-bytes_wider [] h = refl
-bytes_wider (c ∷ bs) h = rw (byte_wider c (and-left (design.is_name_byte c) (list_all design.is_name_byte bs) h)) (bytes_wider bs (and-right (design.is_name_byte c) (list_all design.is_name_byte bs) h))
 
 all-append : (p : ℕ → Bool) (xs ys : List ℕ) → list_all p xs ≡ true → list_all p ys ≡ true → list_all p (xs ++ ys) ≡ true
 all-append p [] ys a c = c

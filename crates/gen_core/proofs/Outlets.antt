@@ -1,6 +1,5 @@
 -- The names and widths of a block's outputs.
 use Rattle.std.proofs.Common.{◌≡◌, ℕ, suc, Bool, true, false, Some, List, [], ◌∷◌, ◌++◌, codes, map, filter, slice_get, refl, sym, ap, ◌∙◌, subst, arith}
-use Rattle.std.proofs.lemmas.Bool.Decides.{nat_tests}
 use Rattle.std.specs.List.{enumerate_from, flat_map, list_all}
 use Rattle.std.specs.Option.{option_map_or}
 use Rattle.plain_lemmas.proofs.Bools.{and-both as and_left}
@@ -22,6 +21,7 @@ use Rattle.rb_model.specs.References.{Each, item_width}
 use Rattle.rb_model.specs.Sound.{IsSound, is_path}
 use Rattle.rb_model.proofs.Apart.{Apart, Apart-filter, Apart-from, Apart-place, Name}
 use Rattle.rb_model.proofs.Eachs.{Each-always, Each-append, Each-flat_map, Each-left, Each-map, Each-numbered_all}
+use Rattle.gen_scene.proofs.ResetPins.{bytes_wider}
 use Rattle.rb_model.proofs.InputPins.{bus_shown, outlet_pin, output_pins_are}
 
 when_each : {X : Type 0} (P : X → Type 0) (c : Bool) (x : X) → P x → Each P (when c x)
@@ -52,13 +52,6 @@ outlets_wide b = Each-append (λ o. item_width b o.item ≡ o.width) (flat_map f
     (when_each (λ o. item_width b o.item ≡ o.width) r.intr (outlet (codes "intr$" ++ r.path) 1 (item.Intr k)) refl) (when_each (λ o. item_width b o.item ≡ o.width) r.halt (outlet (codes "halt$" ++ r.path) 1 (item.Halt k)) refl))))
 
 -- Names
-
-byte_wider : (c : ℕ) → design.is_name_byte c ≡ true → names.is_name_byte c ≡ true
-byte_wider c h = grind (arith, nat_tests)
-
-bytes_wider : (bs : List ℕ) → list_all design.is_name_byte bs ≡ true → list_all names.is_name_byte bs ≡ true
-bytes_wider [] h = refl
-bytes_wider (c ∷ bs) h = let p = and_left (design.is_name_byte c) (list_all design.is_name_byte bs) h in rw (byte_wider c p.0) (bytes_wider bs p.1)
 
 field_path : (b : Block) → IsSound b → (k : ℕ) (f : Field) → slice_get b.fields k ≡ Some f → list_all names.is_name_byte f.path ≡ true
 field_path b sound k f e = bytes_wider f.path (list_at (λ g. is_path g.path) b.fields k f (and_left (distinct (map (λ g. g.path) b.fields)) (list_all (λ g. is_path g.path) b.fields) sound.field_paths).1 e)

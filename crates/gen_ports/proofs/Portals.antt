@@ -1,6 +1,5 @@
 -- The names and widths of a block's ports.
 use Rattle.std.proofs.Common.{◌≡◌, ℕ, ◌<◌, ◌≤◌, ◌==◌, Bool, true, false, not, ◌&&◌, if◌then◌else◌, Option, Some, None, List, [], ◌∷◌, ◌++◌, codes, map, filter, slice_get, refl, sym, ◌∙◌, arith}
-use Rattle.std.proofs.lemmas.Bool.Decides.{nat_tests}
 use Rattle.std.specs.List.{enumerate_from, flat_map, list_all}
 use Rattle.std.specs.Str.{bytes_eq}
 use Rattle.plain_lemmas.proofs.Bools.{and-both as and_parts}
@@ -31,6 +30,7 @@ use Rattle.rb_model.specs.References.{Each, WithSome}
 use Rattle.rb_model.specs.Sound.{IsSound, is_path}
 use Rattle.rb_model.specs.SoundField.{AmountFits, CountFits, FieldIsSound, FieldIsSoundIn, PartFits}
 use Rattle.rb_model.proofs.Eachs.{Each-always, Each-append, Each-at, Each-flat_map, Each-from_zero, Each-map, Each-numbered_all, Each-passing}
+use Rattle.gen_scene.proofs.ResetPins.{bytes_wider}
 use Rattle.plain_lemmas.proofs.Lists.{all-get as list_at}
 
 -- a name and a width that a port may have, other than the clock's
@@ -122,12 +122,8 @@ one_bit = (omega arith, omega arith)
 narrow : (w : ℕ) → (0 < w) × (w ≤ 64) → IsWidth w
 narrow w h = (h.0, (let l = h.1 in omega arith))
 
-byte_wider : (c : ℕ) → design.is_name_byte c ≡ true → names.is_name_byte c ≡ true
-byte_wider c h = grind (arith, nat_tests)
-
 path_of : (bs : List ℕ) → is_path bs ≡ true → IsPath bs
-path_of [] h = refl
-path_of (c ∷ bs) h = let p = and_parts (design.is_name_byte c) (list_all design.is_name_byte bs) h in rw (byte_wider c p.0) (path_of bs p.1)
+path_of bs h = bytes_wider bs h
 
 -- Pins
 

@@ -113,10 +113,10 @@ width_is b Error n f of here = cc
 pub reset_is : (b : Block) (p : Plan) (pins : List Id) (k : Kept) (n : ℕ) (f : Field) → kept_number k ≡ Some n → slice_get b.fields n ≡ Some f → reset_of b p pins k ≡ reset_in p pins k f
 reset_is b p pins k n f of here = ap (λ o. option_map_or (λ m. of_field b m resets.None (reset_in p pins k)) o resets.None) of ∙ ap (λ o. option_map_or (reset_in p pins k) o resets.None) here
 
-byte_wider : (c : ℕ) → design.is_name_byte c ≡ true → names.is_name_byte c ≡ true
+pub byte_wider : (c : ℕ) → design.is_name_byte c ≡ true → names.is_name_byte c ≡ true
 byte_wider c h = grind (arith, nat_tests)
 
-bytes_wider : (bs : List ℕ) → list_all design.is_name_byte bs ≡ true → list_all names.is_name_byte bs ≡ true
+pub bytes_wider : (bs : List ℕ) → list_all design.is_name_byte bs ≡ true → list_all names.is_name_byte bs ≡ true
 bytes_wider [] h = refl
 bytes_wider (c ∷ bs) h = let p = and_left (design.is_name_byte c) (list_all design.is_name_byte bs) h in rw (byte_wider c p.0) (bytes_wider bs p.1)
 

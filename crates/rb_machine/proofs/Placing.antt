@@ -1,6 +1,6 @@
 -- The numbers of pins by their places in a vector.
 use Rattle.std.specs.Str.{bytes_eq}
-use Rattle.std.proofs.Common.{◌≡◌, ℕ, zero, suc, ◌<◌, ◌≤◌, if◌then◌else◌, false, Option, Some, None, List, [], ◌∷◌, codes, length, get_or, slice_get, refl, sym, ap, ◌∙◌, arith, inl, inr, ◌⊎◌}
+use Rattle.std.proofs.Common.{◌≡◌, ℕ, suc, ◌<◌, if◌then◌else◌, false, Option, Some, None, List, [], ◌∷◌, codes, length, get_or, slice_get, refl, sym, ap, ◌∙◌, arith, inl, inr, ◌⊎◌}
 use Rattle.rb_base.specs.declared.ports.Pin.{Pin}
 use Rattle.rb_model.specs.declared.block.Block.{Block}
 use Rattle.rb_model.specs.Ports.{by_name, input_pins, signal_name}
@@ -10,6 +10,7 @@ use Rattle.rb_model.proofs.Apart.{bytes_eq-not}
 use Rattle.rb_model.proofs.InputPins.{pin_by_place}
 use Rattle.rb_model.proofs.OwnViews.{none_within}
 use Rattle.std.specs.Option.{option_map_or}
+use Rattle.std.proofs.lemmas.List.{get_or_past}
 use Rattle.std.proofs.lemmas.Option.{same_Some}
 use Rattle.rb_model.specs.declared.block.Signal.{Signal}
 use Rattle.rb_model.specs.Protocol.{Bus, bus_of}
@@ -25,11 +26,6 @@ absent (p ∷ ps) (x ∷ xs) name h =
     let f : bytes_eq p.name name ≡ false = bytes_eq-not p.name name (h 0 p refl) in
     ap (λ c. if c then x else by_name ps xs name) f ∙ absent ps xs name (λ k q here. h (suc k) q here)
 
-past_zero : (xs : List ℕ) (k : ℕ) → length xs ≤ k → get_or xs k 0 ≡ 0
-past_zero [] k l = refl
-past_zero (x ∷ xs) zero l = absurd (omega (arith, l))
-past_zero (x ∷ xs) (suc k) l = past_zero xs k (omega (arith, l))
-
 -- the number of the pin of a name is that at its place, and 0 where there is no such pin
 pub place_at : (b : Block) → IsSound b → (name : List ℕ) (place : ℕ) → IsPlaceOf b name place → (x : List ℕ) → length x ≡ length (input_pins b) → pins_of b x name ≡ get_or x place 0
 place_at b sound name place h x long = by (slice_get (input_pins b) place) refl
@@ -38,7 +34,7 @@ place_at b sound name place h x long = by (slice_get (input_pins b) place) refl
     by (Some p) here = ap (pins_of b x) (sym (h.found p here)) ∙ pin_by_place b sound place p x here
     by None here = elim (below_or_past place (length (input_pins b))) [
       | inl low ↦ absurd (none_within (input_pins b) place low here)
-      | inr past ↦ absent (input_pins b) x name (λ k p at same. let q : None ≡ Some p = sym here ∙ (ap (slice_get (input_pins b)) (h.every k p at same) ∙ at) in cc) ∙ sym (past_zero x place (omega (arith, past, long)))
+      | inr past ↦ absent (input_pins b) x name (λ k p at same. let q : None ≡ Some p = sym here ∙ (ap (slice_get (input_pins b)) (h.every k p at same) ∙ at) in cc) ∙ sym (get_or_past x place 0 (omega (arith, past, long)))
     ]
 
 abbrev pub bus : (r a s e w d : ℕ) → Bus

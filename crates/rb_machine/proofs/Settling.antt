@@ -1,8 +1,9 @@
 -- The items' values, computed in order.
-use Rattle.std.proofs.Common.{◌≡◌, ◌≢◌, ℕ, ◌+◌, ◌<◌, ◌≤◌, Some, List, length, slice_get, get_or, refl, sym, ap, ◌∙◌, arith, get_or-set_other, get_or-set_same, inl, inr, ◌⊎◌}
+use Rattle.std.proofs.Common.{◌≡◌, ◌≢◌, ℕ, ◌+◌, ◌<◌, ◌≤◌, ◌==◌, true, false, Some, List, length, slice_get, get_or, refl, sym, ap, ◌∙◌, arith, get_or-set_other, get_or-set_same, inl, inr, ◌⊎◌}
 use Rattle.std.specs.Prelude.{Contains}
 use Rattle.std.proofs.Math.ListN.{set}
 use Rattle.std.proofs.lemmas.Option.{same_Some, slice_get-get_or, slice_get_read}
+use Rattle.plain_lemmas.proofs.Numbers.{same_or_other}
 use Rattle.rb_model.specs.declared.kinds.RefItem.{RefItem}
 use Rattle.rb_model.specs.declared.block.Block.{Block}
 use Rattle.rb_model.specs.Items.{Now, ItemValues, AreItemValues, items, made}
@@ -13,8 +14,9 @@ use Rattle.block_plan.specs.Table.{item_place}
 use Rattle.block_plan.proofs.ItemPlaces.{place_alone}
 use Rattle.rb_machine.specs.Table.{values_of}
 
-same_or_other : (m n : ℕ) → (m ≡ n) ⊎ (m ≢ n)
-same_or_other m n = grind arith
+-- whether two numbers are one
+abbrev Same : ℕ → ℕ → Type 0
+Same m n = ((m ≡ n) × ((m == n) ≡ true)) ⊎ ((m ≢ n) × ((m == n) ≡ false))
 
 -- the items up to a place of a list have their values
 abbrev pub SettledTo : ItemValues → List RefItem → List ℕ → ℕ → Type 0
@@ -28,18 +30,18 @@ module _ (b : Block) (n : Now) (v : ItemValues) (is : List RefItem) (vals : AreI
       value : x ≡ v i
       value = e ∙ (made_same n (values_of table) v b i (Each-weaker (StandsBefore is end) (λ j. values_of table j ≡ v j) (λ j at. settled at.0 j at.1 at.2) (refs b i) (ordered end i here)) ∙ sym (vals i (own end i here)))
 
-      by : (item_place i ≡ item_place j) ⊎ (item_place i ≢ item_place j) → values_of (set table (item_place i) x) j ≡ v j
-      by (inl same) =
+      by : Same (item_place i) (item_place j) → values_of (set table (item_place i) x) j ≡ v j
+      by (inl (same, one)) =
           let e : get_or (set table (item_place i) x) (item_place i) 0 ≡ x = rw get_or-set_same refl in
           ap (λ p. get_or (set table (item_place i) x) p 0) (sym same) ∙ (e ∙ (value ∙ ap v (place_alone i j same)))
-      by (inr other) =
+      by (inr (other, differs)) =
           let ne : item_place j ≢ item_place i = λ e. other (sym e) in
           let e : get_or (set table (item_place i) x) (item_place j) 0 ≡ get_or table (item_place j) 0 = rw get_or-set_other refl in
           e ∙ settled k j (before (same_or_other k end)) there
         where
-          before : (k ≡ end) ⊎ (k ≢ end) → k < end
-          before (inl e) = absurd (other (ap item_place (same_Some i j (sym here ∙ (ap (slice_get is) (sym e) ∙ there)))))
-          before (inr ne) = omega (arith, low, ne)
+          before : Same k end → k < end
+          before (inl (e, one)) = absurd (other (ap item_place (same_Some i j (sym here ∙ (ap (slice_get is) (sym e) ∙ there)))))
+          before (inr (ne, differs)) = omega (arith, low, ne)
 
   -- the next item
   pub settled_next : (table : List ℕ) (end : ℕ) (d : RefItem) (place x : ℕ) → end < length is → place ≡ item_place (get_or is end d) → ((k : ℕ) (i : RefItem) → slice_get is k ≡ Some i → item_place i < length table)

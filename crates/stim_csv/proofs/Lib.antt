@@ -1,4 +1,4 @@
-mod Cutting
+pub mod Cutting
 mod FirstProblem
 pub mod Fitting
 mod Headers

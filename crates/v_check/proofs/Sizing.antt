@@ -6,6 +6,7 @@ use Rattle.v_design.specs.Expr.{Expr, Exprs, Cat, none, more, Widths, width_of, 
 use Rattle.v_design.specs.Seen.{expr_seen}
 use Rattle.v_check.specs.Sizes.{sized_width}
 use Rattle.v_check.proofs.Exprs.{listed, behind}
+use Rattle.plain_lemmas.proofs.Bools.{and-false}
 use Rattle.plain_lemmas.proofs.Numbers.{most as within-test}
 
 pub sized-yes : (ws : Widths) (e : Expr) (w : ℕ) → is_sized ws e ≡ true → w ≡ width_of ws e → Some w ≡ sized_width ws e
@@ -54,10 +55,6 @@ sized_more ws es e total width h k l = let s = some-sized ws e width k in record
   narrow = l;
 }
 
-and-false : (a b : Bool) → b ≡ false → (a && b) ≡ false
-and-false true b h = h
-and-false false b h = refl
-
 -- a part whose widths do not agree, or parts that are too wide
 pub part-unsized : (ws : Widths) (items : List VExpr) (i : ℕ) (d : VExpr) → i < length items → d ≡ get_or items i d → None ≡ sized_width ws (expr_seen d) → None ≡ sized_width ws (Cat (listed items))
 part-unsized ws items i d l is h = sized-no ws (Cat (listed items)) (rw (all items i l is) refl)
@@ -65,7 +62,7 @@ part-unsized ws items i d l is h = sized-no ws (Cat (listed items)) (rw (all ite
     all : (items : List VExpr) (i : ℕ) → i < length items → d ≡ get_or items i d → are_sized ws (listed items) ≡ false
     all [] i l is = absurd (omega (arith, l))
     all (x ∷ xs) zero l is = rw (ap (λ y. is_sized ws (expr_seen y)) (sym is) ∙ none-sized ws (expr_seen d) h) refl
-    all (x ∷ xs) (suc i) l is = and-false (is_sized ws (expr_seen x)) (are_sized ws (listed xs)) (all xs i (omega (arith, l)) is)
+    all (x ∷ xs) (suc i) l is = ap (λ b. is_sized ws (expr_seen x) && b) (all xs i (omega (arith, l)) is) ∙ and-false (is_sized ws (expr_seen x))
 
 part-of-all : (ws : Widths) (items : List VExpr) (i : ℕ) (d : VExpr) → i < length items → d ≡ get_or items i d
     → width_of_all ws (listed (take i items)) + width_of ws (expr_seen d) ≤ width_of_all ws (listed items)
@@ -83,7 +80,7 @@ cat-wide ws items i d total width l is h k wide =
     let a = part-of-all ws items i d l is in
     let b = h.width in
     let c = s.1 in
-    sized-no ws (Cat (listed items)) (and-false (are_sized ws (listed items)) (nat_le (width_of_all ws (listed items)) 128) (above-test (width_of_all ws (listed items)) 128 (omega (arith, a, b, c, wide))))
+    sized-no ws (Cat (listed items)) (ap (λ b. are_sized ws (listed items) && b) (above-test (width_of_all ws (listed items)) 128 (omega (arith, a, b, c, wide))) ∙ and-false (are_sized ws (listed items)))
 
 pub cat-sized : (ws : Widths) (es : Exprs) (total : ℕ) → SizedSoFar ws es total → Some total ≡ sized_width ws (Cat es)
 cat-sized ws es total h =

@@ -41,10 +41,10 @@ printable : (n k : ℕ) → list_all is_code_byte (code_within n k) ≡ true
 printable zero k = refl
 printable (suc n) k = and-both_true _ _ (byte k) (passes (nat_lt k 94) (code_within n (k / 94)) (printable n (k / 94)))
 
-some : (n : ℕ) → nat_lt 0 (suc n) ≡ true
-some n = grind (arith, nat_tests)
-
 -- The code of a number is one.
 pub code_is : (k : ℕ) → is_code (code k) ≡ true
 unfolding code
-code_is k = and-both_true _ _ (some (length (cond (nat_lt k 94) [] (code_within k (k / 94))))) (printable (suc k) k)
+code_is k =
+    let n = length (cond (nat_lt k 94) [] (code_within k (k / 94))) in
+    let some : nat_lt 0 (suc n) ≡ true = grind (arith, nat_tests) in
+    and-both_true _ _ some (printable (suc k) k)

@@ -7,6 +7,8 @@ use Rattle.std.specs.Prelude.{IsTrue, nat_lt, nat_le, ◌==◌, if◌then◌else
 use Rattle.std.proofs.Common.{◌≡◌, ℕ, zero, suc, ◌+◌, ◌-◌, ◌*◌, ◌/◌, ◌%◌, ◌^◌, ◌<◌, ◌≤◌, Bool, true, false, not, ◌&&◌, cond, Option, Some, None, List, [], ◌∷◌, ◌++◌, codes, length, take, drop, refl, ap, ◌∙◌, subst, arith, length-append}
 use Rattle.std.proofs.lemmas.Bool.{and_parts}
 use Rattle.std.proofs.lemmas.Bool.Decides.{nat_tests}
+use Rattle.std.proofs.lemmas.List.Folds.{list_all-append}
+use Rattle.std.proofs.Math.Seq.{take-append-add}
 use Rattle.plain_lemmas.proofs.Bools.{and-both_true}
 use Rattle.rb_base.specs.declared.ports.Pin.{Pin}
 use Rattle.rb_grammar.specs.Separators.{is_blank}
@@ -38,10 +40,6 @@ good_append (x ∷ xs) ys a b = (a.0, good_append xs ys a.1 b)
 weaker : (p q : ℕ → Bool) → ((b : ℕ) → p b ≡ true → q b ≡ true) → (w : List ℕ) → list_all p w ≡ true → list_all q w ≡ true
 weaker p q f [] h = refl
 weaker p q f (b ∷ w) h = let r = and_parts (p b) (list_all p w) h in let head = f b r.0 in let tail = weaker p q f w r.1 in rw (head, tail) refl
-
-joined : (p : ℕ → Bool) (v w : List ℕ) → list_all p v ≡ true → list_all p w ≡ true → list_all p (v ++ w) ≡ true
-joined p [] w a b = b
-joined p (x ∷ v) w a b = let r = and_parts (p x) (list_all p v) a in let tail = joined p v w r.1 b in rw (r.0, tail) refl
 
 abbrev solid : ℕ → Bool
 solid b = not (is_blank b)
@@ -130,10 +128,6 @@ drop_front : (v w : List ℕ) (n : ℕ) → drop (length v + n) (v ++ w) ≡ dro
 drop_front [] w n = ap (λ k. drop k w) (let e : 0 + n ≡ n = omega arith in e)
 drop_front (b ∷ v) w n = ap (λ k. drop k (b ∷ (v ++ w))) (let e : suc (length v) + n ≡ suc (length v + n) = omega arith in e) ∙ drop_front v w n
 
-take_most : (v w : List ℕ) (n : ℕ) → take (length v + n) (v ++ w) ≡ v ++ take n w
-take_most [] w n = ap (λ k. take k w) (let e : 0 + n ≡ n = omega arith in e)
-take_most (b ∷ v) w n = ap (λ k. take k (b ∷ (v ++ w))) (let e : suc (length v) + n ≡ suc (length v + n) = omega arith in e) ∙ ap (λ z. b ∷ z) (take_most v w n)
-
 at_behind : (v w : List ℕ) (n : ℕ) → slice_index (v ++ w) (length v + n) ≡ slice_index w n
 at_behind [] w n = ap (slice_index w) (let e : 0 + n ≡ n = omega arith in e)
 at_behind (b ∷ v) w n = ap (slice_index (b ∷ (v ++ w))) (let e : suc (length v) + n ≡ suc (length v + n) = omega arith in e) ∙ at_behind v w n
@@ -172,9 +166,9 @@ range_of d h k =
     let behind : length (91 ∷ rest) - 1 ≡ suc (length d + 2) = omega (arith, size) in
     let last : (slice_index (91 ∷ rest) (length (91 ∷ rest) - 1) == 93) ≡ true = ap (λ i. slice_index (91 ∷ rest) i == 93) behind ∙ ap (λ b. b == 93) (at_behind d (codes ":0]") 2) in
     let less : length (91 ∷ rest) - 2 ≡ length d + 2 = omega (arith, size) in
-    let inner : take (length (91 ∷ rest) - 2) rest ≡ d ++ codes ":0" = ap (λ i. take i rest) less ∙ take_most d (codes ":0]") 2 in (
+    let inner : take (length (91 ∷ rest) - 2) rest ≡ d ++ codes ":0" = ap (λ i. take i rest) less ∙ take-append-add d (codes ":0]") 2 in (
       three (nat_le 2 (length (91 ∷ rest))) (slice_index (91 ∷ rest) (length (91 ∷ rest) - 1) == 93) (is_span (take (length (91 ∷ rest) - 2) rest)) long last (ap is_span inner ∙ span d h k),
-      word_from 91 rest refl (joined solid d (codes ":0]") (weaker is_ascii_digit solid digit_solid d k) refl),
+      word_from 91 rest refl (list_all-append solid d (codes ":0]") ∙ and-both_true (list_all solid d) true (weaker is_ascii_digit solid digit_solid d k) refl),
     )
 
 -- The words, kind by kind.

@@ -20,7 +20,7 @@ use Rattle.vcd_reader.specs.declared.variables.Variables.{Variables}
 use Rattle.vcd_reader.specs.Rows.{ClosesAt, Closes, IsAdded}
 use Rattle.vcd_reader.specs.Steps.{known_row, ended_rows, AreEnded, IsFirstNone, AreKept, HoldsVariables, HoldsRows}
 use Rattle.vcd_reader.proofs.Within.{few_codes}
-use Rattle.vcd_reader.proofs.Cutting.{length-cut}
+use Rattle.stim_csv.proofs.Cutting.{length-cut}
 use Rattle.vcd_reader.proofs.Keeping.{none_last, some_last, not_ended, more_rows, row_length}
 
 -- the rows of a text of these marks, as they are kept

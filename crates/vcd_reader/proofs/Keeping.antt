@@ -13,7 +13,7 @@ use Rattle.vcd_syntax.proofs.Saying.{AreClosed, times-append, before_time-settle
 use Rattle.vcd_reader.specs.declared.rows.Rows.{Rows}
 use Rattle.vcd_reader.specs.Rows.{IsAdded, ClosesAt}
 use Rattle.vcd_reader.specs.Steps.{known_row, ended_rows, AreEnded, IsFirstNone, AreKept}
-use Rattle.vcd_reader.proofs.Cutting.{length-cut, cut-push}
+use Rattle.stim_csv.proofs.Cutting.{length-cut, cut-push}
 
 abbrev pub seen : List (List ℕ) → List Event → Known
 seen cs es = record { codes = cs; names = []; widths = []; events = es; word = [] }

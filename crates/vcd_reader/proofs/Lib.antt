@@ -1,5 +1,4 @@
 pub mod Behind
-pub mod Cutting
 pub mod Ending
 pub mod Existing
 pub mod Keeping

@@ -188,9 +188,6 @@ time_goes v r after w n t k h p e f o =
 
 -- Changes.
 
-more_is : (n m : ℕ) → nat_lt (1 + n) (suc m) ≡ nat_lt n m
-more_is n m = grind (arith, nat_tests)
-
 -- where a code stands
 code_at : (cs : List (List ℕ)) (c : List ℕ) → ((position (bytes_eq c) cs ≡ None) × (among cs c ≡ false)) ⊎ ((i : ℕ) × (position (bytes_eq c) cs ≡ Some i) × (i < length cs) × (among cs c ≡ true))
 code_at cs c = go (nat_lt (prefix_len (λ x. not (bytes_eq c x)) cs) (length cs)) refl
@@ -202,7 +199,10 @@ code_at cs c = go (nat_lt (prefix_len (λ x. not (bytes_eq c x)) cs) (length cs)
         at : (b : Bool) → nat_lt (prefix_len (λ x. not (bytes_eq c x)) cs) (length cs) ≡ list_any (bytes_eq c) cs
             → nat_lt (cond (not b) (1 + prefix_len (λ x. not (bytes_eq c x)) cs) 0) (suc (length cs)) ≡ (b || list_any (bytes_eq c) cs)
         at true ih = grind (arith, nat_tests)
-        at false ih = more_is (prefix_len (λ x. not (bytes_eq c x)) cs) (length cs) ∙ ih
+        at false ih =
+            let n = prefix_len (λ x. not (bytes_eq c x)) cs in
+            let e : nat_lt (1 + n) (suc (length cs)) ≡ nat_lt n (length cs) = grind (arith, nat_tests) in
+            e ∙ ih
 
     go : (b : Bool) → nat_lt (prefix_len (λ x. not (bytes_eq c x)) cs) (length cs) ≡ b → ((position (bytes_eq c) cs ≡ None) × (among cs c ≡ false)) ⊎ ((i : ℕ) × (position (bytes_eq c) cs ≡ Some i) × (i < length cs) × (among cs c ≡ true))
     go true e = inr (prefix_len (λ x. not (bytes_eq c x)) cs, ap (λ b. cond b (Some (prefix_len (λ x. not (bytes_eq c x)) cs)) None) e, grind (arith, nat_tests), sym (any_is cs c) ∙ (sym (inside cs) ∙ e))

@@ -3,6 +3,7 @@ use Rattle.std.specs.Option.{option_or}
 use Rattle.std.specs.Str.{bytes_eq}
 use Rattle.std.specs.Prelude.{if◌then◌else◌, slice_get, IsSomeAnd}
 use Rattle.std.proofs.Common.{◌≡◌, ℕ, zero, suc, ◌+◌, ◌-◌, ◌<◌, ◌≤◌, Bool, true, false, cond, Option, Some, None, List, [], ◌∷◌, ◌++◌, length, ltb, map, refl, ap, sym, ◌∙◌, subst, arith, append_assoc, append-nil, length-append}
+use Rattle.plain_lemmas.proofs.Lists.{get-last}
 use Rattle.vcd_syntax.specs.declared.kind.Kind.{Kind}
 use Rattle.vcd_syntax.specs.Grammar.{same}
 use borrow.Author.Tests.{ltb-true, ltb-false}
@@ -87,10 +88,6 @@ get_front [] y k l = absurd (omega arith)
 get_front (x ∷ xs) y zero l = refl
 get_front (x ∷ xs) y (suc k) l = get_front xs y k (omega (arith, l))
 
-get_last : {X : Type 0} (xs : List X) (y : X) → slice_get (xs ++ (y ∷ [])) (length xs) ≡ Some y
-get_last [] y = refl
-get_last (x ∷ xs) y = get_last xs y
-
 either_row : (P : ℕ → Option (List ℕ) → Type 0) (rows : List (List ℕ)) (now : List ℕ) → ((k : ℕ) → k < length rows → P k (slice_get rows k)) → P (length rows) (Some now) → (k : ℕ) → k < length (rows ++ (now ∷ [])) → P k (slice_get (rows ++ (now ∷ [])) k)
 either_row P rows now each last k l = at (ltb k (length rows)) refl
   where
@@ -99,7 +96,7 @@ either_row P rows now each last k l = at (ltb k (length rows)) refl
     at false e =
         let over = ltb-false k (length rows) e in
         let same : k ≡ length rows = omega (arith, l, over, length-append rows (now ∷ [])) in
-        subst (λ z. P z (slice_get (rows ++ (now ∷ [])) z)) (sym same) (subst (P (length rows)) (sym (get_last rows now)) last)
+        subst (λ z. P z (slice_get (rows ++ (now ∷ [])) z)) (sym same) (subst (P (length rows)) (sym (get-last rows now)) last)
 
 abbrev pub row_at : Known → ℕ → List (Option ℕ)
 row_at k i = map (last_given (before_time (i + 1) k.events)) k.codes

@@ -1,6 +1,6 @@
 use Rattle.std.proofs.Common.{◌≡◌, ℕ, ◌+◌, ◌*◌, ◌<◌, ◌≤◌, ◌-◌, List, [], length, take, drop, get_or, ap, sym, ◌∙◌, arith}
 use Rattle.stim_csv.specs.Vectors.{cut}
-use Rattle.vcd_reader.proofs.Cutting.{length-cut, get_or-cut, within}
+use Rattle.stim_csv.proofs.Cutting.{length-cut, get_or-cut, within}
 use Rattle.vcd_reader.proofs.Lists.{vec_long}
 use Rattle.vcd_reader.proofs.waves.Waves.row.Goals as goal
 

@@ -1,5 +1,5 @@
 use Rattle.std.proofs.Common.{length, ap, sym, ◌∙◌}
-use Rattle.vcd_reader.proofs.Cutting.{length-cut}
+use Rattle.stim_csv.proofs.Cutting.{length-cut}
 use Rattle.vcd_reader.proofs.waves.Waves.rows.Goals as goal
 
 pub returns : goal.returns
