@@ -1,6 +1,6 @@
 -- Compiled expressions have the values of expressions.
 use Rattle.std.specs.List.{AllByRecursion}
-use Rattle.std.proofs.Common.{◌≡◌, ℕ, ◌+◌, ◌-◌, ◌^◌, ◌<◌, ◌≤◌, ◌==◌, Bool, true, false, ◌&&◌, nat_le, Option, Some, IsSome, List, [], ◌∷◌, ◌++◌, length, get_or, refl, ap, sym, subst, ◌∙◌, append_assoc, length-append, arith}
+use Rattle.std.proofs.Common.{◌≡◌, ℕ, ◌+◌, ◌-◌, ◌^◌, ◌<◌, ◌≤◌, ◌==◌, Bool, true, false, ◌&&◌, nat_le, Some, IsSome, List, [], ◌∷◌, ◌++◌, length, get_or, refl, ap, sym, subst, ◌∙◌, append_assoc, length-append, arith}
 use Rattle.std.proofs.lemmas.List.{append-nil}
 use Rattle.std.proofs.lemmas.Bool.Decides.{nat_tests}
 use Rattle.std.proofs.lemmas.Map.Views.{exact_unsigned_eq}
@@ -22,9 +22,6 @@ use Rattle.cyc_sim.specs.Operations.{value_by, result_over, values_after}
 use Rattle.cyc_sim.specs.Compiled.{Known, known_at, end_of, AreBelow, AreWidths, Agrees, Extends, Adds, Compiles}
 use Rattle.cyc_sim.proofs.Settling.{value_added, value_kept}
 use Rattle.plain_lemmas.proofs.Options.{some_is}
-
-is_some : {A : Type 0} (o : Option A) (x : A) → o ≡ Some x → IsSome o
-is_some o x e = rw e refl
 
 -- a net with a place is within its width
 known_fits : (known : Known) (ws : Widths) (v : Values) (os : List Operation) (base : List ℕ) → AreWidths known ws → Agrees known os base v → (n : List ℕ) → IsSome (known_at known n) → v n < 2 ^ ws n
@@ -117,7 +114,7 @@ pub compiled_net : (known : Known) (n : List ℕ) (l : Listing) (w : Wire) → A
 compiled_net known n l w low at = record {
   extends = extends_none l;
   below = low.below n w at;
-  nets = (is_some (known_at known n) w at, tt);
+  nets = (rw at refl, tt);
   width = λ ws wide. wide.width n w at;
   value = λ ws v base long wide sized constants agrees. agrees.value n w at;
 }
@@ -127,7 +124,7 @@ pub compiled_bits : (known : Known) (n : List ℕ) (hi lo : ℕ) (l l' : Listing
 compiled_bits known n hi lo l l' net w at adds width = record {
   extends = extends_one l l' _ w.place adds;
   below = end_adds l l' _ w.place adds;
-  nets = (is_some (known_at known n) net at, tt);
+  nets = (rw at refl, tt);
   width = λ ws wide. width;
   value = λ ws v base long wide sized constants agrees. added l l' base _ w.place adds long ∙ ap (λ x. part x hi lo) (agrees.value n net at);
 }

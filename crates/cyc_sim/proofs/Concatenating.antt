@@ -1,6 +1,7 @@
 -- Concatenations, part by part.
 use Rattle.std.specs.List.{AllByRecursion}
-use Rattle.std.proofs.Common.{◌≡◌, ℕ, ◌+◌, ◌*◌, ◌^◌, ◌<◌, ◌≤◌, true, ◌&&◌, nat_le, IsSome, List, [], ◌∷◌, ◌++◌, length, take, get_or, refl, ap, sym, ◌∙◌, append_assoc, arith, rules, Vec, Box, Global}
+use Rattle.std.specs.Prelude.{IfSome}
+use Rattle.std.proofs.Common.{◌≡◌, ℕ, ◌+◌, ◌*◌, ◌^◌, ◌<◌, ◌≤◌, true, ◌&&◌, nat_le, IsSome, Option, Some, None, List, [], ◌∷◌, ◌++◌, length, take, get_or, refl, ap, sym, subst, ◌∙◌, append_assoc, arith, rules, Vec, Box, Global}
 use Rattle.std.proofs.lemmas.List.{append-nil, take_more, take_all}
 use Rattle.std.proofs.lemmas.Bool.Decides.{nat_tests}
 use Rattle.std.proofs.lemmas.Nat.{pow-add}
@@ -18,9 +19,9 @@ use Rattle.cyc_sim.specs.declared.listing.Wire.{Wire}
 use Rattle.cyc_sim.specs.declared.listing.Listing.{Listing}
 use Rattle.cyc_sim.specs.declared.operation.Operation.TheVariants.{Constant, Join}
 use Rattle.cyc_sim.specs.Operations.{values_after}
-use Rattle.cyc_sim.specs.Compiled.{Known, known_at, end_of, AreWidths, Agrees, Extends, Adds, Compiles}
+use Rattle.cyc_sim.specs.Compiled.{Known, known_at, end_of, AreWidths, Agrees, Extends, Adds, Compiles, IsBehind}
 use Rattle.cyc_sim.proofs.Numbers.{joined_small}
-use Rattle.cyc_sim.proofs.Compiling.{extends_one, extends_both, end_adds, agrees_extends, kept, added, expr_fits, exprs_fit}
+use Rattle.cyc_sim.proofs.Compiling.{extends_one, extends_both, end_adds, end_extends, agrees_extends, kept, added, expr_fits, exprs_fit}
 use Rattle.plain_lemmas.proofs.Bools.{and-both as two-true}
 
 -- the expressions of a list
@@ -103,7 +104,7 @@ pub record CompilesAll (known : Known) (es : Exprs) (old new : Listing) (w : Wir
   pub value : (ws : Widths) (v : Values) (base : List ℕ) → length base ≡ old.first → AreWidths known ws → are_sized ws es ≡ true → width_of_all ws es ≤ 128 → EachConstantFits es
       → Agrees known old.operations.items base v → get_or (values_after new.operations.items base) w.place 0 ≡ value_of_all ws v es
 
-pub compiled_none : (known : Known) (l l' : Listing) (w : Wire) → Adds l l' (Constant 0) w.place → w.width ≡ 0 → CompilesAll known none l l' w
+compiled_none : (known : Known) (l l' : Listing) (w : Wire) → Adds l l' (Constant 0) w.place → w.width ≡ 0 → CompilesAll known none l l' w
 compiled_none known l l' w adds width = record {
   extends = extends_one l l' _ w.place adds;
   below = end_adds l l' _ w.place adds;
@@ -112,7 +113,7 @@ compiled_none known l l' w adds width = record {
   value = λ ws v base long wide sized narrow constants agrees. added l l' base _ w.place adds long;
 }
 
-pub compiled_behind : (known : Known) (es : Exprs) (e : Expr) (a b c d : Listing) (high low w : Wire) → CompilesAll known es a b high → Compiles known e b c low
+compiled_behind : (known : Known) (es : Exprs) (e : Expr) (a b c d : Listing) (high low w : Wire) → CompilesAll known es a b high → Compiles known e b c low
     → Adds c d (Join high.place low.place low.width) w.place → w.width ≡ high.width + low.width → CompilesAll known (behind es e) a d w
 compiled_behind known es e a b c d high low w h k adds width = record {
   extends = extends_both a b d h.extends (extends_both b c d k.extends (extends_one c d _ w.place adds));
@@ -134,6 +135,47 @@ compiled_behind known es e a b c d high low w h k adds width = record {
       added c d base _ w.place adds long_c
       ∙ (rw (x, y, k.width ws wide) (joined_small (value_of_all ws v es) (value_of ws v e) (width_of_all ws es) (width_of ws e) fits_es fits_e (omega (arith, both, narrow))) ∙ sym (value-behind ws v es e));
 }
+
+-- the first part
+compiled_first : (known : Known) (e : Expr) (a b : Listing) (w : Wire) → Compiles known e a b w → CompilesAll known (behind none e) a b w
+compiled_first known e a b w k = record {
+  extends = k.extends;
+  below = k.below;
+  nets = rw (append-nil (nets_of e)) k.nets;
+  width = λ ws wide. k.width ws wide ∙ alone (width_of ws e);
+  value = λ ws v base long wide sized narrow constants agrees.
+      k.value ws v base long wide (two-true (is_sized ws e) true sized).0 constants.0 agrees ∙ unshifted (value_of ws v e);
+}
+  where
+    alone : (n : ℕ) → n ≡ n + 0
+    alone n = omega arith
+
+    unshifted : (x : ℕ) → x ≡ x * 2 ^ 0 + 0
+    unshifted x = omega arith
+
+-- the parts so far, if there are any
+abbrev pub MayCompile : Known → Exprs → Listing → Listing → Option Wire → Type 0
+MayCompile known es old new None = (es ≡ none) × (new ≡ old)
+MayCompile known es old new (Some w) = CompilesAll known es old new w
+
+pub compiled_more : (known : Known) (es : Exprs) (e : Expr) (a b c d : Listing) (high : Option Wire) (low w : Wire) → MayCompile known es a b high → Compiles known e b c low → IsBehind c d high low w
+    → CompilesAll known (behind es e) a d w
+compiled_more known es e a b c d None low w h k p =
+    let first = compiled_first known e a c low (subst (λ l. Compiles known e l c low) h.1 k) in
+    let at_d = subst (λ l. CompilesAll known (behind none e) a l low) (sym p.0) first in
+    let at_w = subst (λ i. CompilesAll known (behind none e) a d i) (sym p.1) at_d in
+    subst (λ es. CompilesAll known (behind es e) a d w) (sym h.0) at_w
+compiled_more known es e a b c d (Some high) low w h k p = compiled_behind known es e a b c d high low w h k p.0 p.1
+
+-- no part at all
+pub compiled_empty : (known : Known) (es : Exprs) (a b c : Listing) (w : Wire) → MayCompile known es a b None → Adds b c (Constant 0) w.place → w.width ≡ 0 → CompilesAll known es a c w
+compiled_empty known es a b c w h adds width =
+    subst (λ es. CompilesAll known es a c w) (sym h.0) (subst (λ l. CompilesAll known none l c w) h.1 (compiled_none known b c w adds width))
+
+-- the place of the parts so far stays below the end
+pub may_below : (known : Known) (es : Exprs) (a b c : Listing) (high : Option Wire) → MayCompile known es a b high → Extends b c → IfSome high (λ h. h.place < end_of c)
+may_below known es a b c None h e = tt
+may_below known es a b c (Some high) h e = let l = h.below in let m = end_extends b c e in omega arith
 
 -- all parts are the concatenation
 pub compiled_cat : (known : Known) (es : Exprs) (l l' : Listing) (w : Wire) → CompilesAll known es l l' w → Compiles known (expr.Cat es) l l' w

@@ -1,5 +1,5 @@
 -- What compiled expressions compute.
-use Rattle.std.specs.Prelude.{◌≡◌, ℕ, ◌+◌, ◌<◌, ◌≤◌, ◌^◌, true, Option, Some, IsSome, List, [], ◌∷◌, ◌++◌, length, slice_index}
+use Rattle.std.specs.Prelude.{◌≡◌, ℕ, ◌+◌, ◌<◌, ◌≤◌, ◌^◌, true, Option, Some, None, IsSome, List, [], ◌∷◌, ◌++◌, length, slice_index}
 use Rattle.std.specs.List.{AllByRecursion}
 use Rattle.std.specs.Str.{bytes_eq}
 use Rattle.std.specs.HashMap.{HashMap, get_by}
@@ -10,6 +10,7 @@ use Rattle.v_design.specs.Expr.{Expr, Widths, Values, nets_of, width_of, is_size
 use Rattle.v_design.specs.Constants.{ConstantsFit}
 use Rattle.cyc_sim.specs.Operations.{values_after}
 use Rattle.cyc_sim.specs.declared.operation.Operation.{Operation}
+use Rattle.cyc_sim.specs.declared.operation.Operation.TheVariants.{Join}
 use Rattle.cyc_sim.specs.declared.listing.Wire.{Wire}
 use Rattle.cyc_sim.specs.declared.listing.Listing.{Listing}
 
@@ -59,6 +60,11 @@ pub record Adds (old new : Listing) (operation : Operation) (place : ℕ) : Type
   pub first : new.first ≡ old.first
   pub longer : new.operations.items ≡ old.operations.items ++ (operation ∷ [])
   pub at : place ≡ end_of old
+
+-- a wire is the one behind those joined before it, or that one alone
+abbrev pub IsBehind : Listing → Listing → Option Wire → Wire → Wire → Type 0
+IsBehind old new None low w = (new ≡ old) × (w ≡ low)
+IsBehind old new (Some high) low w = Adds old new (Join high.place low.place low.width) w.place × (w.width ≡ high.width + low.width)
 
 -- a listing has further operations, after which the place of a wire has the value of an expression, and the wire its width
 pub record Compiles (known : Known) (e : Expr) (old new : Listing) (w : Wire) : Type 0 where

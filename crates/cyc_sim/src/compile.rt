@@ -1,7 +1,7 @@
 //! Expressions as operations.
-ghost use Rattle.std.specs.Prelude.{◌≡◌, Some, IsSome, IfOk};
+ghost use Rattle.std.specs.Prelude.{◌≡◌, ◌+◌, ◌<◌, Some, IsSome, IfOk, IfSome};
 ghost use Rattle.v_design.specs.Seen.{expr_seen};
-ghost use Rattle.cyc_sim.specs.Compiled.{known_at, end_of, AreBelow, Compiles, IsReady};
+ghost use Rattle.cyc_sim.specs.Compiled.{known_at, end_of, AreBelow, Compiles, IsBehind, IsReady};
 
 use crate::listing::{Listing, Wire};
 use crate::operation::Operation;
@@ -27,6 +27,19 @@ pub(crate) fn wire_of(known: &HashMap<&[u8], Wire>, name: &Text) -> Wire
     }
 }
 
+/// Adds what puts a wire behind those joined before it: nothing, if there are none.
+fn behind(listing: &mut Listing, joined: Option<Wire>, low: Wire) -> Result<Wire, NoMemory>
+    requires high { IfSome joined (λ high. high.place < end_of listing.old) }
+    requires low { low.place < end_of listing.old }
+    requires narrow { IfSome joined (λ high. high.width + low.width < 256) }
+    ensures { IfOk result (IsBehind listing.old listing.new joined low) }
+{
+    match joined {
+        Some(high) => listing.join(high, low),
+        None => Ok(low),
+    }
+}
+
 /// Adds the operations of an expression over nets that have a place, and answers the wire of its value.
 pub(crate) fn compile(
     known: &HashMap<&[u8], Wire>,
@@ -42,12 +55,16 @@ pub(crate) fn compile(
         VExpr::Bits(name, high, low) => listing.part(wire_of(known, name), *high, *low),
         VExpr::Const(width, value) => listing.constant(*width, *value),
         VExpr::Cat(parts) => {
-            let mut joined = listing.constant(0, 0)?;
+            let mut joined = None;
             for part in parts {
                 let low = compile(known, part, listing)?;
-                joined = listing.join(joined, low)?;
+                let wire = behind(listing, joined, low)?;
+                joined = Some(wire);
             }
-            Ok(joined)
+            match joined {
+                Some(joined) => Ok(joined),
+                None => listing.constant(0, 0),
+            }
         }
         VExpr::One(op, of) => {
             let of = compile(known, of, listing)?;

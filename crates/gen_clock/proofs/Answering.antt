@@ -14,7 +14,6 @@ use Rattle.rtl_net.proofs.Nets.{Grows-refl, Grows-trans}
 use Rattle.net_gates.specs.Gates.{or_of}
 use Rattle.rb_model.specs.declared.kinds.RefItem.TheVariants as item
 use Rattle.rb_model.specs.declared.block.Block.{Block}
-use Rattle.rb_model.specs.declared.block.Field.{Field}
 use Rattle.rb_model.specs.declared.block.View.{View}
 use Rattle.rb_model.specs.declared.block.Slot.{Slot}
 use Rattle.rb_model.specs.declared.block.Word.{Word}
@@ -22,11 +21,12 @@ use Rattle.rb_model.specs.Items.{Access, NoAccess, Read, Write, ItemValues, slot
 use Rattle.rb_model.specs.Machine.{read_data, slot_value}
 use Rattle.block_plan.specs.Behind.{IsThere}
 use Rattle.gen_scene.specs.declared.base.Inlet.{Inlet}
-use Rattle.gen_scene.specs.Worth.{IsWorth}
-use Rattle.gen_scene.proofs.Worths.{IsWorth-grows}
+use Rattle.gen_clock.specs.declared.stacks.Stack.{Stack}
+use Rattle.gen_clock.specs.Stacks.{IsLaid, MayStack, stacked}
+use Rattle.gen_scene.specs.Worth.{IsRead, IsWorth}
+use Rattle.gen_scene.proofs.Worths.{IsWorth-grows, worth_read}
 use Rattle.gen_access.specs.Words.{is_at, read_word}
-use Rattle.gen_clock.specs.Moves.{IsMade}
-use Rattle.gen_clock.specs.Edges.{IsAnswerOf, shown_by}
+use Rattle.gen_clock.specs.Edges.{IsAnswerOf, IsLaidOn, shown_by}
 
 -- One slot
 
@@ -38,20 +38,24 @@ unread b s u v here off x =
     ap (λ o. bit_or x (option_map_or (λ w. if w.reads then part (v (item.Field w.field)) (s.from + s.bits - 1) s.from * 2 ^ s.low else 0) o 0)) here
     ∙ ap (λ c. bit_or x (if c then part (v (item.Field u.field)) (s.from + s.bits - 1) s.from * 2 ^ s.low else 0)) off ∙ or_zero x
 
-pub slot_made : (b : Block) (a : Inlet) (old n1 n2 new : Net) (s : Slot) (u : View) (f : Field) (value bits shown acc id : Id) (w : ℕ) → 0 < s.bits → slice_get b.views s.view ≡ Some u → u.reads ≡ true
-    → Grows old n1 → Grows n1 n2 → Grows n2 new
+pub slot_unread : (b : Block) (a : Inlet) (net : Net) (stack : Option Stack) (s : Slot) (u : View) → MayStack net 32 stack → slice_get b.views s.view ≡ Some u → u.reads ≡ false
+    → IsLaidOn b a net net stack stack (λ v. slot_value b v s)
+slot_unread b a net stack s u may here off = record {
+  may = may;
+  read = λ g at. record { value = λ x q n found items c. at.value x q n found items c ∙ sym (unread b s u items here off (g n items)) };
+}
+
+pub slot_made : (b : Block) (a : Inlet) (old n1 new : Net) (s : Slot) (u : View) (value bits : Id) (before : Option Stack) (after : Stack) (w : ℕ) → 0 < s.bits → slice_get b.views s.view ≡ Some u → u.reads ≡ true
+    → Grows old n1 → Grows n1 new
     → IsWorth b a old value w (λ n v. v (item.Field u.field))
     → IsNode n1 bits (s.from + (s.bits - 1) - s.from + 1) (λ x. part (x.node value.0) (s.from + (s.bits - 1)) s.from)
-    → IsNode n2 shown 32 (λ x. x.node bits.0 * 2 ^ s.low)
-    → IsNode new id 32 (λ x. bit_or (x.node acc.0) (x.node shown.0))
-    → IsMade b a old new acc id 32 (λ n v x. bit_or x (slot_value b v s))
-slot_made b a old n1 n2 new s u f value bits shown acc id w some here on h1 h2 h3 at cut raised node = record {
-  stands = node.stands;
-  worth = λ g was. record {
-    stands = node.stands;
+    → IsLaid new before bits s.low after → after.top ≤ 32
+    → IsLaidOn b a old new before (Some after) (λ v. slot_value b v s)
+slot_made b a old n1 new s u value bits before after w some here on h1 h2 at cut laid within = record {
+  may = (laid.stack, within);
+  read = λ g was. record {
     value = λ x q n found items c.
-        let q2 = h3.settles x q in
-        let q1 = h2.settles x q2 in
+        let q1 = h2.settles x q in
         let q0 = h1.settles x q1 in
         let e : s.from + (s.bits - 1) ≡ s.from + s.bits - 1 = omega (arith, some) in
         let cut_is : x.node bits.0 ≡ part (items (item.Field u.field)) (s.from + s.bits - 1) s.from
@@ -59,38 +63,42 @@ slot_made b a old n1 n2 new s u f value bits shown acc id w some here on h1 h2 h
         let is : slot_value b items s ≡ part (items (item.Field u.field)) (s.from + s.bits - 1) s.from * 2 ^ s.low
         = ap (λ o. option_map_or (λ w. if w.reads then part (items (item.Field w.field)) (s.from + s.bits - 1) s.from * 2 ^ s.low else 0) o 0) here
         ∙ ap (λ c. if c then part (items (item.Field u.field)) (s.from + s.bits - 1) s.from * 2 ^ s.low else 0) on in
-        node.value x q
-        ∙ ap (λ y. bit_or y (x.node shown.0)) (was.value x q0 n found items c)
-        ∙ ap (λ y. bit_or (g n items) y) (raised.value x q2 ∙ ap (λ y. y * 2 ^ s.low) cut_is ∙ sym is);
+        laid.value x q
+        ∙ ap (λ y. bit_or y (x.node bits.0 * 2 ^ s.low)) (was.value x q0 n found items c)
+        ∙ ap (λ y. bit_or (g n items) y) (ap (λ y. y * 2 ^ s.low) cut_is ∙ sym is);
   };
 }
 
 -- The slots of a word
 
-pub record DataTo (b : Block) (a : Inlet) (first net : Net) (all : Id) (slots : List Slot) (end : ℕ) : Type 0 where
+pub record DataTo (b : Block) (a : Inlet) (first net : Net) (stack : Option Stack) (slots : List Slot) (end : ℕ) : Type 0 where
   pub older : Grows first net
   pub name : net.name ≡ first.name
-  pub worth : IsWorth b a net all 32 (λ n v. shown_by b v (take end slots))
+  pub may : MayStack net 32 stack
+  pub read : IsRead b a net (λ x. stacked x stack) (λ n v. shown_by b v (take end slots))
 
-pub data_none : (b : Block) (a : Inlet) (first net : Net) (all : Id) (slots : List Slot) → Grows first net → net.name ≡ first.name → IsNode net all 32 (λ x. 0) → DataTo b a first net all slots 0
-data_none b a first net all slots h e node = record { older = h; name = e; worth = record { stands = node.stands; value = λ x q n found items c. node.value x q } }
+pub data_none : (b : Block) (a : Inlet) (net : Net) (slots : List Slot) → DataTo b a net net None slots 0
+data_none b a net slots = record { older = Grows-refl net; name = refl; may = tt; read = record { value = λ x q n found items c. refl } }
 
-pub data_more : (b : Block) (a : Inlet) (first net new : Net) (all id : Id) (slots : List Slot) (end : ℕ) (d : Slot) → end < length slots → DataTo b a first net all slots end → Grows net new → new.name ≡ net.name
-    → IsMade b a net new all id 32 (λ n v x. bit_or x (slot_value b v (get_or slots end d))) → DataTo b a first new id slots (end + 1)
-data_more b a first net new all id slots end d low to h e made = record {
+pub data_more : (b : Block) (a : Inlet) (first net new : Net) (stack next : Option Stack) (slots : List Slot) (end : ℕ) (d : Slot) → end < length slots → DataTo b a first net stack slots end → Grows net new → new.name ≡ net.name
+    → IsLaidOn b a net new stack next (λ v. slot_value b v (get_or slots end d)) → DataTo b a first new next slots (end + 1)
+data_more b a first net new stack next slots end d low to h e laid = record {
   older = Grows-trans first net new to.older h;
   name = e ∙ to.name;
-  worth =
-      let r = made.worth (λ n v. shown_by b v (take end slots)) to.worth in
+  may = laid.may;
+  read =
+      let r = laid.read (λ n v. shown_by b v (take end slots)) to.read in
       record {
-        stands = r.stands;
         value = λ x q n found items c. r.value x q n found items c
             ∙ sym (ap (fold (λ acc s. bit_or acc (slot_value b items s)) 0) (take_more slots end d low) ∙ fold-push (λ acc s. bit_or acc (slot_value b items s)) 0 (take end slots) (get_or slots end d));
       };
 }
 
-pub data_all : (b : Block) (a : Inlet) (first net : Net) (all : Id) (slots whole : List Slot) (end : ℕ) → slots ≡ whole → length slots ≤ end → DataTo b a first net all slots end → IsWorth b a net all 32 (λ n v. shown_by b v whole)
-data_all b a first net all slots whole end same past to = subst (λ ss. IsWorth b a net all 32 (λ n v. shown_by b v ss)) (take_all end slots past ∙ same) to.worth
+pub data_all : (b : Block) (a : Inlet) (first net new : Net) (stack : Option Stack) (id : Id) (slots whole : List Slot) (end : ℕ) → slots ≡ whole → length slots ≤ end → DataTo b a first net stack slots end
+    → Grows net new → IsNode new id 32 (λ x. stacked x stack) → IsWorth b a new id 32 (λ n v. shown_by b v whole)
+data_all b a first net new stack id slots whole end same past to h node =
+    worth_read b a net new id 32 (λ x. stacked x stack) (λ n v. shown_by b v whole) h node
+    (subst (λ ss. IsRead b a net (λ x. stacked x stack) (λ n v. shown_by b v ss)) (take_all end slots past ∙ same) to.read)
 
 pub chosen : (b : Block) (a : Inlet) (old net new : Net) (hit all none id : Id) (slots : List Slot) (w : ℕ) → w ≡ 32 → Grows old net → Grows net new → IsWorth b a net all 32 (λ n v. shown_by b v slots) → IsNode net none 32 (λ x. 0)
     → IsNode new id w (λ x. if x.node hit.0 == 1 then x.node all.0 else x.node none.0) → IsAnswerOf b a old new hit slots id

@@ -1,5 +1,5 @@
 -- What an edge makes of a block, as nodes.
-use Rattle.std.specs.Prelude.{◌≡◌, ℕ, ◌<◌, ◌&&◌, true, false, if◌then◌else◌, Some, unwrap_or, List, length, slice_get, fold, bit_or}
+use Rattle.std.specs.Prelude.{◌≡◌, ℕ, ◌<◌, ◌&&◌, true, false, if◌then◌else◌, Option, Some, unwrap_or, List, length, slice_get, fold, bit_or}
 use Rattle.rtl_net.specs.Value.{bit_of}
 use Rattle.rtl_net.specs.Net.{Net, Stands}
 use Rattle.rtl_net.specs.Ids.{at}
@@ -13,12 +13,14 @@ use Rattle.block_plan.specs.Kept.{field_kept}
 use Rattle.gen_scene.specs.Bases.{kept_number, kept_reset, kept_width}
 use Rattle.rb_model.specs.Items.{Now, ItemValues}
 use Rattle.rb_model.specs.Machine.{changed, is_asserted, moved, reset_where, slot_value, software, uses_up}
+use Rattle.gen_clock.specs.declared.stacks.Stack.{Stack}
+use Rattle.gen_clock.specs.Stacks.{MayStack, stacked}
 use Rattle.block_plan.specs.Table.{item_place}
 use Rattle.gen_scene.specs.declared.base.Inlet.{Inlet}
 use Rattle.gen_scene.specs.declared.scene.Scene.{Scene}
 use Rattle.gen_scene.specs.Bases.{IsBase}
 use Rattle.gen_scene.specs.Items.{IsItem}
-use Rattle.gen_scene.specs.Worth.{IsWorth}
+use Rattle.gen_scene.specs.Worth.{IsRead, IsWorth}
 use Rattle.gen_access.specs.Tables.{HasViews, Step}
 use Rattle.gen_access.specs.Words.{is_at, read_word}
 use Rattle.gen_clock.specs.Moves.{HasFields, moved_in}
@@ -33,6 +35,11 @@ pub record IsScene (net : Net) (s : Scene) : Type 0 where
 -- the bits that slots show, together
 abbrev pub shown_by : Block → ItemValues → List Slot → ℕ
 shown_by b v slots = fold (λ acc s. bit_or acc (slot_value b v s)) 0 slots
+
+-- what stands of a word after a step is what stood before and these bits, together
+pub record IsLaidOn (b : Block) (a : Inlet) (old new : Net) (before after : Option Stack) (bits : ItemValues → ℕ) : Type 0 where
+  pub may : MayStack new 32 after
+  pub read : (g : Now → ItemValues → ℕ) → IsRead b a old (λ x. stacked x before) g → IsRead b a new (λ x. stacked x after) (λ n v. bit_or (g n v) (bits v))
 
 -- the nodes of what fields that keep a value have next, but for resets
 pub record AreMoved (b : Block) (a : Inlet) (net : Net) (ids : List Id) : Type 0 where

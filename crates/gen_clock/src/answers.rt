@@ -1,16 +1,17 @@
 //! What a read is answered.
 
-ghost use Rattle.std.specs.Prelude.{◌≡◌, ◌<◌, ◌≤◌, ◌+◌, ℕ, IfOk, Some, length, slice_get, bit_or, if◌then◌else◌};
+ghost use Rattle.std.specs.Prelude.{◌≡◌, ◌<◌, ◌≤◌, ◌+◌, ℕ, IfOk, Some, length, slice_get, if◌then◌else◌};
 ghost use Rattle.rtl_net.specs.Net.{Grows, Stands};
 ghost use Rattle.rb_model.specs.Sound.{WordIsSound};
 ghost use Rattle.rb_model.specs.Machine.{read_data, slot_value};
 ghost use Rattle.gen_scene.specs.Worth.{IsWorth};
 ghost use Rattle.gen_access.specs.Words.{AreHitsOf, SlotFits, read_word};
-ghost use Rattle.gen_clock.specs.Moves.{IsMade};
-ghost use Rattle.gen_clock.specs.Edges.{IsAnswerOf, IsScene, shown_by};
+ghost use Rattle.gen_clock.specs.Stacks.{MayStack};
+ghost use Rattle.gen_clock.specs.Edges.{IsAnswerOf, IsLaidOn, IsScene, shown_by};
 
+use crate::stacks::{Stack, laid, word_of};
 use gen_scene::Scene;
-use net_gates::{choose, merged, or_all, placed, slice, zero};
+use net_gates::{choose, or_all, slice, zero};
 use rb_base::NoMemory;
 use rb_model::{Block, RefItem, Slot, View, Word};
 use rtl_net::{Id, Netlist};
@@ -26,27 +27,32 @@ fn view_at(block: &Block, number: u32) -> &View
 
 /// Puts the bits that a slot shows at their place in the word.
 #[tactic(auto, using(rtl_net::proofs::Nets::building))]
-fn slot_data(net: &mut Netlist, scene: &Scene, slot: Slot, acc: Id) -> Result<Id, NoMemory>
+fn slot_data(
+    net: &mut Netlist,
+    scene: &Scene,
+    slot: Slot,
+    stack: Option<Stack>,
+) -> Result<Option<Stack>, NoMemory>
     requires scene { IsScene net.old scene.now }
     requires slot { SlotFits scene.now.base.now.block.now slot }
-    requires acc { Stands net.old acc 32 }
+    requires stack { MayStack net.old 32 stack }
     ensures older { Grows net.old net.new }
     ensures name { net.new.name ≡ net.old.name }
-    ensures made { IfOk result (λ id. IsMade scene.now.base.now.block.now scene.now.base.now.inlet net.old net.new acc id 32
-        (λ n v x. bit_or x (slot_value scene.now.base.now.block.now v slot))) }
+    ensures laid { IfOk result (λ s. IsLaidOn scene.now.base.now.block.now scene.now.base.now.inlet net.old net.new stack s
+        (λ v. slot_value scene.now.base.now.block.now v slot)) }
 {
     let view = view_at(scene.base.block, slot.view);
     if !view.reads {
-        return Ok(acc);
+        return Ok(stack);
     }
     let value = scene.node(RefItem::Field(view.field));
     let bits = slice(net, value, slot.from + (slot.bits - 1), slot.from)?;
-    let shown = placed(net, bits, slot.low, 32)?;
-    let id = merged(net, acc, shown)?;
-    Ok(id)
+    let all = laid(net, stack, bits, slot.low, 32)?;
+    Ok(Some(all))
 }
 
 /// The bits that a word shows.
+#[tactic(auto, using(rtl_net::proofs::Nets::building))]
 fn word_data(net: &mut Netlist, scene: &Scene, word: &Word) -> Result<Id, NoMemory>
     requires scene { IsScene net.old scene.now }
     requires word { WordIsSound scene.now.base.now.block.now word.now }
@@ -55,11 +61,12 @@ fn word_data(net: &mut Netlist, scene: &Scene, word: &Word) -> Result<Id, NoMemo
     ensures worth { IfOk result (λ id. IsWorth scene.now.base.now.block.now scene.now.base.now.inlet net.new id 32
         (λ n v. shown_by scene.now.base.now.block.now v word.now.slots)) }
 {
-    let mut all = zero(net, 32)?;
+    let mut stack = None;
     for slot in &word.slots.items {
-        all = slot_data(net, scene, *slot, all)?;
+        stack = slot_data(net, scene, *slot, stack)?;
     }
-    Ok(all)
+    let id = word_of(net, stack, 32)?;
+    Ok(id)
 }
 
 /// The read data of a word where the access reads it, else 0.

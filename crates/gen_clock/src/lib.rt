@@ -4,6 +4,7 @@
 mod answers;
 mod fields;
 mod nexts;
+mod stacks;
 mod steps;
 mod values;
 

@@ -7,7 +7,7 @@ use Rattle.rtl_net.proofs.Places.{slice_get-within}
 use Rattle.gen_decode.specs.Among.{IsCut}
 
 -- later words are not below earlier ones
-rises : (xs : List ℕ) → IsStrictlyIncreasing xs → (i n : ℕ) → i + n < length xs → get_or xs i 0 ≤ get_or xs (i + n) 0
+pub rises : (xs : List ℕ) → IsStrictlyIncreasing xs → (i n : ℕ) → i + n < length xs → get_or xs i 0 ≤ get_or xs (i + n) 0
 rises xs up i zero l = let e : i + 0 ≡ i = omega arith in rw e (omega arith)
 rises xs up i (suc n) l =
     let before : get_or xs i 0 ≤ get_or xs (i + n) 0 = rises xs up i n (omega arith) in

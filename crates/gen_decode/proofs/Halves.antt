@@ -25,7 +25,7 @@ module _ (p base x y : ℕ) (top : x < 2) (low : y < p) where
   ]
 
 -- two tests of which each element passes both or none
-any_same : (f g : ℕ → Bool) (words : List ℕ) → ((i w : ℕ) → slice_get words i ≡ Some w → f w ≡ g w) → list_any f words ≡ list_any g words
+pub any_same : (f g : ℕ → Bool) (words : List ℕ) → ((i w : ℕ) → slice_get words i ≡ Some w → f w ≡ g w) → list_any f words ≡ list_any g words
 any_same f g [] h = refl
 any_same f g (w ∷ ws) h = ap (λ t. t || list_any f ws) (h 0 w refl) ∙ ap (λ t. g w || t) (any_same f g ws (λ i v e. h (suc i) v e))
 
@@ -36,7 +36,7 @@ any_unless false f [] = refl
 any_unless true f (w ∷ ws) = any_unless true f ws
 any_unless false f (w ∷ ws) = ap (λ t. f w || t) (any_unless false f ws)
 
-any_where : (c : Bool) (f : ℕ → Bool) (words : List ℕ) → list_any (λ w. if c then f w else false) words ≡ (if c then list_any f words else false)
+pub any_where : (c : Bool) (f : ℕ → Bool) (words : List ℕ) → list_any (λ w. if c then f w else false) words ≡ (if c then list_any f words else false)
 any_where true f [] = refl
 any_where false f [] = refl
 any_where false f (w ∷ ws) = any_where false f ws

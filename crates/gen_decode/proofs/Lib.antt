@@ -1,4 +1,7 @@
 mod Cutting
 mod Halves
 mod Joined
+mod Ranges
+mod Spans
 mod Spreading
+mod Testing

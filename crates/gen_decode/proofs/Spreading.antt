@@ -1,32 +1,34 @@
--- A number spread over nodes, bit by bit.
-use Rattle.std.proofs.Common.{◌≡◌, ℕ, zero, suc, ◌+◌, ◌-◌, ◌*◌, ◌/◌, ◌%◌, ◌^◌, ◌==◌, ◌<◌, ◌≤◌, Bool, true, false, ◌&&◌, if◌then◌else◌, List, [], ◌∷◌, ◌++◌, length, refl, ap, sym, ◌∙◌, subst, arith, inl, inr, ◌⊎◌}
+-- A number spread over nodes: rows by its upper bits, bit by bit, and columns by its lower ones.
+use Rattle.std.proofs.Common.{◌≡◌, ℕ, zero, suc, ◌+◌, ◌-◌, ◌*◌, ◌/◌, ◌%◌, ◌^◌, ◌==◌, ◌<◌, ◌≤◌, Bool, true, false, ◌&&◌, List, [], ◌∷◌, ◌++◌, length, refl, ap, sym, ◌∙◌, subst, arith, inl, inr, ◌⊎◌}
 use Rattle.std.proofs.lemmas.List.{length-append, get_or_append_left, get_or_at}
-use Rattle.std.proofs.lemmas.Nat.{pow_pos, div_below, le-div}
-use Rattle.std.proofs.Math.Nat.{mod-lt, pow-suc, div-one, div-add-mod', div-div-eq-div-mul}
+use Rattle.std.proofs.lemmas.Nat.{pow_pos, div_below, le-div, div-mul-add, mod-mul-add, leading_length}
+use Rattle.std.specs.Int.Count.{count_leading_zeros}
+use Rattle.std.proofs.Math.Pow.{shr_mono}
+use Rattle.std.proofs.Math.Nat.{mod-lt, mod-one, pow-suc, pow-le-pow_right, div-one, div-add-mod', div-div-eq-div-mul}
 use Rattle.plain_lemmas.proofs.Numbers.{below-two as below_two}
-use Rattle.plain_lemmas.proofs.Bools.{and-false as and_false, and-true as and_true}
 use Rattle.rb_base.specs.Bits.{part}
 use Rattle.rtl_net.specs.Value.{At, bit_of}
 use Rattle.rtl_net.specs.Net.{Net, Settles, Grows, IsNode, Stands}
 use Rattle.rtl_net.specs.Ids.{at}
 use Rattle.rtl_net.specs.declared.node.Id.{Id}
-use Rattle.rtl_net.proofs.Nets.{fits_at, Stands-grows, IsNode-grows, Grows-refl, Grows-trans}
-use Rattle.gen_decode.specs.Hits.{StandEach, AreHits, AreHitsAbove, AreHalved}
-use Rattle.gen_decode.proofs.Halves.{top_bit}
+use Rattle.rtl_net.proofs.Nets.{fits_at, Stands-grows, IsNode-grows, IsNode-is, Grows-refl, Grows-trans}
+use Rattle.gen_decode.specs.Hits.{StandEach, AreHits, AreHitsAbove, AreCrossed, AreSides, AreColumns}
+use Rattle.gen_decode.proofs.Halves.{top_bit, by_top_bit, doubled}
+use Rattle.gen_decode.proofs.Spans.{crossed}
 
 pub StandEach-grows : (a b : Net) (ids : List Id) → Grows a b → StandEach a ids → StandEach b ids
 StandEach-grows a b ids p h = record { each = λ k l. Stands-grows a b (at ids k) 1 p (h.each k l) }
 
--- The loop that splits nodes
+-- The loop that crosses rows and columns
 
-pub record HalvedTo (old net : Net) (above : List Id) (bit off : Id) (ids : List Id) (k : ℕ) : Type 0 where
+pub record CrossedTo (old net : Net) (rows columns : List Id) (level : ℕ) (ids : List Id) (k : ℕ) : Type 0 where
   pub older : Grows old net
   pub name : net.name ≡ old.name
   pub long : length ids ≡ k
-  pub each : AreHalved net above bit off ids
+  pub each : AreCrossed net rows columns level ids
 
-pub halved_none : (net : Net) (above : List Id) (bit off : Id) (ids : List Id) → ids ≡ [] → HalvedTo net net above bit off ids 0
-halved_none net above bit off ids e = record { older = Grows-refl net; name = refl; long = ap length e; each = record { each = λ k l. let z : length ids ≡ 0 = ap length e in absurd (omega arith) } }
+pub crossed_none : (net : Net) (rows columns : List Id) (level : ℕ) (ids : List Id) → ids ≡ [] → CrossedTo net net rows columns level ids 0
+crossed_none net rows columns level ids e = record { older = Grows-refl net; name = refl; long = ap length e; each = record { each = λ k l. let z : length ids ≡ 0 = ap length e in absurd (omega arith) } }
 
 at_front : (ids : List Id) (id : Id) (k : ℕ) → k < length ids → at (ids ++ id ∷ []) k ≡ at ids k
 at_front ids id k l = get_or_append_left ids (id ∷ []) (record { 0 = 0 }) k l
@@ -34,45 +36,71 @@ at_front ids id k l = get_or_append_left ids (id ∷ []) (record { 0 = 0 }) k l
 at_end : (ids : List Id) (id : Id) (k : ℕ) → length ids ≡ k → at (ids ++ id ∷ []) k ≡ id
 at_end ids id k e = get_or_at ids id [] (record { 0 = 0 }) k e
 
-pub halved_more : (old net new : Net) (above : List Id) (bit off : Id) (ids more : List Id) (k : ℕ) (a h id : Id)
-    → HalvedTo old net above bit off ids k → Grows net new → new.name ≡ net.name
-    → a ≡ at above (k / 2) → h ≡ (if k % 2 == 1 then bit else off)
-    → IsNode new id 1 (λ x. bit_of (x.node a.0 == 1 && x.node h.0 == 1))
-    → more ≡ ids ++ id ∷ [] → HalvedTo old new above bit off more (k + 1)
-halved_more old net new above bit off ids more k a h id to grows same a_is h_is node added = record {
+pub crossed_more : (old net new : Net) (rows columns : List Id) (level : ℕ) (ids more : List Id) (k : ℕ) (row column id : Id)
+    → CrossedTo old net rows columns level ids k → Grows net new → new.name ≡ net.name
+    → row ≡ at rows (k / 2 ^ level) → column ≡ at columns (k % 2 ^ level)
+    → IsNode new id 1 (λ x. bit_of (x.node row.0 == 1 && x.node column.0 == 1))
+    → more ≡ ids ++ id ∷ [] → CrossedTo old new rows columns level more (k + 1)
+crossed_more old net new rows columns level ids more k row column id to grows same row_is column_is node added = record {
   older = Grows-trans old net new to.older grows;
   name = same ∙ to.name;
-  long = ap length added ∙ length-append ids (id ∷ []) ∙ (let l = to.long in omega arith);
+  long = counted;
   each = record { each = each };
 }
   where
-    Half : Id → ℕ → Type 0
-    Half i j = IsNode new i 1 (λ x. bit_of (x.node (at above (j / 2)).0 == 1 && x.node (if j % 2 == 1 then bit else off).0 == 1))
-
-    here : IsNode new id 1 (λ x. bit_of (x.node (at above (k / 2)).0 == 1 && x.node (if k % 2 == 1 then bit else off).0 == 1))
+    here : IsNode new id 1 (λ x. bit_of (x.node (at rows (k / 2 ^ level)).0 == 1 && x.node (at columns (k % 2 ^ level)).0 == 1))
     here =
-        let Q : Id → Type 0 = λ i. IsNode new id 1 (λ x. bit_of (x.node i.0 == 1 && x.node (if k % 2 == 1 then bit else off).0 == 1)) in
-        let P : Id → Type 0 = λ i. IsNode new id 1 (λ x. bit_of (x.node a.0 == 1 && x.node i.0 == 1)) in
-        subst Q a_is (subst P h_is node)
+        let Q : Id → Type 0 = λ i. IsNode new id 1 (λ x. bit_of (x.node i.0 == 1 && x.node (at columns (k % 2 ^ level)).0 == 1)) in
+        let P : Id → Type 0 = λ i. IsNode new id 1 (λ x. bit_of (x.node row.0 == 1 && x.node i.0 == 1)) in
+        subst Q row_is (subst P column_is node)
 
     counted : length more ≡ k + 1
     counted = ap length added ∙ length-append ids (id ∷ []) ∙ (let l = to.long in omega arith)
 
-    each : (j : ℕ) → j < length more → IsNode new (at more j) 1 (λ x. bit_of (x.node (at above (j / 2)).0 == 1 && x.node (if j % 2 == 1 then bit else off).0 == 1))
+    split : (j k : ℕ) → j < k + 1 → (j < k) ⊎ (j ≡ k)
+    split j k l = grind arith
+
+    each : (j : ℕ) → j < length more → IsNode new (at more j) 1 (λ x. bit_of (x.node (at rows (j / 2 ^ level)).0 == 1 && x.node (at columns (j % 2 ^ level)).0 == 1))
     each j l = elim (split j k (let c = counted in omega arith)) [
       | inl below ↦
           let at_j : at more j ≡ at ids j = ap (λ xs. at xs j) added ∙ at_front ids id j (let l = to.long in omega arith) in
-          let R : Id → Type 0 = λ i. IsNode new i 1 (λ x. bit_of (x.node (at above (j / 2)).0 == 1 && x.node (if j % 2 == 1 then bit else off).0 == 1)) in
-          subst R (sym at_j) (IsNode-grows net new (at ids j) 1 (λ x. bit_of (x.node (at above (j / 2)).0 == 1 && x.node (if j % 2 == 1 then bit else off).0 == 1)) grows (to.each.each j (let l = to.long in omega arith)))
+          let f : At → ℕ = λ x. bit_of (x.node (at rows (j / 2 ^ level)).0 == 1 && x.node (at columns (j % 2 ^ level)).0 == 1) in
+          let R : Id → Type 0 = λ i. IsNode new i 1 f in
+          subst R (sym at_j) (IsNode-grows net new (at ids j) 1 f grows (to.each.each j (let l = to.long in omega arith)))
       | inr same_place ↦
           let at_k : at more k ≡ id = ap (λ xs. at xs k) added ∙ at_end ids id k to.long in
-          let R : Id → Type 0 = λ i. IsNode new i 1 (λ x. bit_of (x.node (at above (k / 2)).0 == 1 && x.node (if k % 2 == 1 then bit else off).0 == 1)) in
-          let S : ℕ → Type 0 = λ j. IsNode new (at more j) 1 (λ x. bit_of (x.node (at above (j / 2)).0 == 1 && x.node (if j % 2 == 1 then bit else off).0 == 1)) in
+          let R : Id → Type 0 = λ i. IsNode new i 1 (λ x. bit_of (x.node (at rows (k / 2 ^ level)).0 == 1 && x.node (at columns (k % 2 ^ level)).0 == 1)) in
+          let S : ℕ → Type 0 = λ j. IsNode new (at more j) 1 (λ x. bit_of (x.node (at rows (j / 2 ^ level)).0 == 1 && x.node (at columns (j % 2 ^ level)).0 == 1)) in
           subst S (sym same_place) (subst R (sym at_k) here)
     ]
-      where
-        split : (j k : ℕ) → j < k + 1 → (j < k) ⊎ (j ≡ k)
-        split j k l = grind arith
+
+-- the places of a row and of a column
+pub row_below : (k count rows level : ℕ) → k < count → count ≤ rows * 2 ^ level → k / 2 ^ level < rows
+row_below k count rows level l h = div_below k (2 ^ level) rows (pow_pos level) (omega arith)
+
+-- The sides of a bit
+
+pub are_sides : (n1 n2 : Net) (number bit off : Id) (level : ℕ) (ids : List Id) → Grows n1 n2 → IsNode n1 bit (level - level + 1) (λ x. part (x.node number.0) level level)
+    → IsNode n2 off 1 (λ x. bit_of (x.node bit.0 == 0)) → ids ≡ off ∷ bit ∷ [] → AreSides n2 number level ids
+are_sides n1 n2 number bit off level ids grows bits offs e = subst (λ is. AreSides n2 number level is) (sym e) (record { each = each })
+  where
+    one : level - level + 1 ≡ 1
+    one = omega arith
+
+    bit_is : (p : ℕ) → p < 2 → p ≡ bit_of (p == 1)
+    bit_is zero l = refl
+    bit_is (suc zero) l = refl
+    bit_is (suc (suc p)) l = absurd (omega arith)
+
+    each : (k : ℕ) → k < length (off ∷ bit ∷ []) → IsNode n2 (at (off ∷ bit ∷ []) k) 1 (λ x. bit_of (part (x.node number.0) level level == k))
+    each zero l =
+        IsNode-is n2 off 1 1 (λ x. bit_of (x.node bit.0 == 0)) (λ x. bit_of (part (x.node number.0) level level == 0)) offs refl
+        (λ x s. ap (λ t. bit_of (t == 0)) (bits.value x (grows.settles x s)))
+    each (suc zero) l =
+        IsNode-is n2 bit (level - level + 1) 1 (λ x. part (x.node number.0) level level) (λ x. bit_of (part (x.node number.0) level level == 1))
+        (IsNode-grows n1 n2 bit (level - level + 1) (λ x. part (x.node number.0) level level) grows bits) one
+        (λ x s. bit_is (part (x.node number.0) level level) (top_bit (x.node number.0) level))
+    each (suc (suc k)) l = absurd (omega arith)
 
 -- A number by its higher bits and one more
 
@@ -96,54 +124,42 @@ deeper n level few most some = elim (split level most) [ inl l ↦ omega arith |
     split : (level : ℕ) → level ≤ 16 → (level < 16) ⊎ (level ≡ 16)
     split level l = grind arith
 
-pub pairs : (n level : ℕ) → n / 2 ^ level + 1 ≤ 2 * (n / 2 ^ (level + 1) + 1)
+pub pairs : (n level : ℕ) → n / 2 ^ level + 1 ≤ (n / 2 ^ (level + 1) + 1) * 2 ^ 1
 pairs n level = let f = finer n level in let t = top_bit n level in omega arith
 
 in_pair : (k n level : ℕ) → k < n / 2 ^ level + 1 → k / 2 < n / 2 ^ (level + 1) + 1
 in_pair k n level l = let f = finer n level in let t = top_bit n level in omega arith
 
+halved : (n level : ℕ) → n / 2 ^ (level + 1) ≡ n / 2 ^ level / 2 ^ 1
+halved n level =
+    let e : level + 1 ≡ suc level = omega arith in
+    let p : 2 ^ (level + 1) ≡ 2 ^ level * 2 = ap (λ k. 2 ^ k) e ∙ pow-suc 2 level in
+    ap (λ k. n / k) p ∙ sym (div-div-eq-div-mul n (2 ^ level) 2)
+
+lowest_bit : (n level : ℕ) → part n level level ≡ n / 2 ^ level % 2 ^ 1
+lowest_bit n level = let one : level - level + 1 ≡ 1 = omega arith in ap (λ k. n / 2 ^ level % 2 ^ k) one
+
 bit_one : (c : Bool) → (bit_of c == 1) ≡ c
 bit_one true = refl
 bit_one false = refl
 
--- a number and one bit more
-pair_of : (q b h m : ℕ) → b < 2 → m < 2 → ((q == h) && ((if m == 1 then b else bit_of (b == 0)) == 1)) ≡ (2 * q + b == 2 * h + m)
-pair_of q b h m bl ml =
-    let F : ℕ → ℕ → Type 0 = λ b m. ((q == h) && ((if m == 1 then b else bit_of (b == 0)) == 1)) ≡ (2 * q + b == 2 * h + m) in
-    elim (below_two b bl) [
-      | inl b0 ↦ elim (below_two m ml) [
-        | inl m0 ↦ subst (λ b. F b m) (sym b0) (subst (λ m. F 0 m) (sym m0) (and_true (q == h) ∙ even q h))
-        | inr m1 ↦ subst (λ b. F b m) (sym b0) (subst (λ m. F 0 m) (sym m1) (and_false (q == h) ∙ low_high q h))
-      ]
-      | inr b1 ↦ elim (below_two m ml) [
-        | inl m0 ↦ subst (λ b. F b m) (sym b1) (subst (λ m. F 1 m) (sym m0) (and_false (q == h) ∙ high_low q h))
-        | inr m1 ↦ subst (λ b. F b m) (sym b1) (subst (λ m. F 1 m) (sym m1) (and_true (q == h) ∙ odd q h))
-      ]
-    ]
-  where
-    even : (q h : ℕ) → (q == h) ≡ (2 * q + 0 == 2 * h + 0)
-    even q h = grind arith
+-- what a row's node and a column's make of a number
+cross_is : (on : Bool) (p q k : ℕ) → 0 < p → (bit_of (on && q / p == k / p) == 1 && bit_of (q % p == k % p) == 1) ≡ (on && q == k)
+cross_is false p q k some = refl
+cross_is true p q k some =
+    ap (λ c. c && bit_of (q % p == k % p) == 1) (bit_one (q / p == k / p)) ∙ ap (λ c. q / p == k / p && c) (bit_one (q % p == k % p)) ∙ crossed p q k some
 
-    odd : (q h : ℕ) → (q == h) ≡ (2 * q + 1 == 2 * h + 1)
-    odd q h = grind arith
-
-    low_high : (q h : ℕ) → false ≡ (2 * q + 0 == 2 * h + 1)
-    low_high q h = grind arith
-
-    high_low : (q h : ℕ) → false ≡ (2 * q + 1 == 2 * h + 0)
-    high_low q h = grind arith
-
--- what a pair's two nodes make of a number
-pair_is : (on : Bool) (n level k : ℕ)
-    → (bit_of (on && n / 2 ^ (level + 1) == k / 2) == 1 && (if k % 2 == 1 then part n level level else bit_of (part n level level == 0)) == 1) ≡ (on && n / 2 ^ level == k)
-pair_is false n level k = refl
-pair_is true n level k =
-    let m : k % 2 < 2 = mod-lt k (omega arith) in
-    let e : 2 * (k / 2) + k % 2 ≡ k = omega arith in
-    ap (λ c. c && (if k % 2 == 1 then part n level level else bit_of (part n level level == 0)) == 1) (bit_one (n / 2 ^ (level + 1) == k / 2))
-    ∙ pair_of (n / 2 ^ (level + 1)) (part n level level) (k / 2) (k % 2) (top_bit n level) m
-    ∙ ap (λ t. t == 2 * (k / 2) + k % 2) (sym (finer n level))
-    ∙ ap (λ t. n / 2 ^ level == t) e
+-- rows and columns by any numbers whose quotient and rest they tell
+module _ (net : Net) (rows columns : List Id) (level : ℕ) (ids : List Id) (crossing : AreCrossed net rows columns level ids)
+    (x : At) (s : Settles net x) (on : Bool) (q : ℕ)
+    (row : (k : ℕ) → k < length ids → x.node (at rows (k / 2 ^ level)).0 ≡ bit_of (on && q / 2 ^ level == k / 2 ^ level))
+    (column : (k : ℕ) → k < length ids → x.node (at columns (k % 2 ^ level)).0 ≡ bit_of (q % 2 ^ level == k % 2 ^ level)) where
+  pub crossed_value : (k : ℕ) → k < length ids → x.node (at ids k).0 ≡ bit_of (on && q == k)
+  crossed_value k l =
+      (crossing.each k l).value x s
+      ∙ ap (λ t. bit_of (t == 1 && x.node (at columns (k % 2 ^ level)).0 == 1)) (row k l)
+      ∙ ap (λ t. bit_of (bit_of (on && q / 2 ^ level == k / 2 ^ level) == 1 && t == 1)) (column k l)
+      ∙ ap bit_of (cross_is on (2 ^ level) q k (pow_pos level))
 
 -- one node where nothing is left to tell
 pub hits_alone : (net : Net) (on number : Id) (last level : ℕ) (ids : List Id) → Stands net on 1 → last / 2 ^ level ≡ 0 → ids ≡ on ∷ [] → AreHitsAbove net on number last level ids
@@ -173,29 +189,96 @@ hits_alone net on number last level ids stands zeros e = subst (λ is. AreHitsAb
     value x s low zero l = cases x s low (below_two (x.node on.0) (let f = fits_at net x on 1 s stands in omega arith))
     value x s low (suc k) l = absurd (omega arith)
 
-module _ (older net new : Net) (on number bit off : Id) (last level : ℕ) (above ids : List Id) (to_net : Grows older net) (to_new : Grows net new)
-    (long_above : length above ≡ last / 2 ^ (level + 1) + 1) (aboves : AreHitsAbove older on number last (level + 1) above)
-    (bits : IsNode net bit (level - level + 1) (λ x. part (x.node number.0) level level)) (offs : IsNode net off 1 (λ x. bit_of (x.node bit.0 == 0)))
-    (long : length ids ≡ last / 2 ^ level + 1) (halves : AreHalved new above bit off ids) where
+-- one bit more of the number's upper bits
+module _ (older net new : Net) (on number : Id) (last level : ℕ) (rows pair ids : List Id) (to_net : Grows older net) (to_new : Grows net new)
+    (long_rows : length rows ≡ last / 2 ^ (level + 1) + 1) (aboves : AreHitsAbove older on number last (level + 1) rows)
+    (long_pair : length pair ≡ 2) (sides : AreSides net number level pair)
+    (long : length ids ≡ last / 2 ^ level + 1) (crossing : AreCrossed new rows pair 1 ids) where
   pub hits_halved : AreHitsAbove new on number last level ids
-  hits_halved = record {
-    stand = record { each = λ k l. (halves.each k l).stands };
-    value = λ x s low k l.
-        let s' = to_new.settles x s in
-        let s'' = to_net.settles x s' in
-        let n = x.node number.0 in
-        let b : x.node bit.0 ≡ part n level level = bits.value x s' in
-        let o : x.node off.0 ≡ bit_of (part n level level == 0) = offs.value x s' ∙ ap (λ t. bit_of (t == 0)) b in
-        let a : x.node (at above (k / 2)).0 ≡ bit_of (x.node on.0 == 1 && n / 2 ^ (level + 1) == k / 2) = aboves.value x s'' low (k / 2) (let p = in_pair k last level (omega arith) in omega arith) in
-        (halves.each k l).value x s
-        ∙ ap (λ t. bit_of (t == 1 && x.node (if k % 2 == 1 then bit else off).0 == 1)) a
-        ∙ ap (λ t. bit_of (bit_of (x.node on.0 == 1 && n / 2 ^ (level + 1) == k / 2) == 1 && t == 1)) (either x (k % 2 == 1) (part n level level) (bit_of (part n level level == 0)) b o)
-        ∙ ap bit_of (pair_is (x.node on.0 == 1) n level k);
-  }
+  hits_halved = record { stand = record { each = λ k l. (crossing.each k l).stands }; value = value }
     where
-      either : (x : At) (c : Bool) (p q : ℕ) → x.node bit.0 ≡ p → x.node off.0 ≡ q → x.node (if c then bit else off).0 ≡ (if c then p else q)
-      either x true p q b o = b
-      either x false p q b o = o
+      value : (x : At) → Settles new x → (x.node on.0 ≡ 1 → x.node number.0 ≤ last) → (k : ℕ) → k < length ids → x.node (at ids k).0 ≡ bit_of (x.node on.0 == 1 && x.node number.0 / 2 ^ level == k)
+      value x s low = crossed_value new rows pair 1 ids crossing x s (x.node on.0 == 1) (x.node number.0 / 2 ^ level) row column
+        where
+          at_net : Settles net x
+          at_net = to_new.settles x s
+
+          row : (k : ℕ) → k < length ids → x.node (at rows (k / 2 ^ 1)).0 ≡ bit_of (x.node on.0 == 1 && x.node number.0 / 2 ^ level / 2 ^ 1 == k / 2 ^ 1)
+          row k l =
+              let inside : k / 2 < last / 2 ^ (level + 1) + 1 = in_pair k last level (omega arith) in
+              aboves.value x (to_net.settles x at_net) low (k / 2) (omega arith) ∙ ap (λ t. bit_of (x.node on.0 == 1 && t == k / 2)) (halved (x.node number.0) level)
+
+          column : (k : ℕ) → k < length ids → x.node (at pair (k % 2 ^ 1)).0 ≡ bit_of (x.node number.0 / 2 ^ level % 2 ^ 1 == k % 2 ^ 1)
+          column k l =
+              let inside : k % 2 < 2 = mod-lt k (omega arith) in
+              (sides.each (k % 2) (omega arith)).value x at_net ∙ ap (λ t. bit_of (t == k % 2)) (lowest_bit (x.node number.0) level)
+
+-- one bit more of its lower bits
+module _ (older net new : Net) (number : Id) (level : ℕ) (top low ids : List Id) (to_net : Grows older net) (to_new : Grows net new)
+    (long_top : length top ≡ 2) (sides : AreSides older number level top)
+    (long_low : length low ≡ 2 ^ level) (lows : AreColumns net number level low)
+    (long : length ids ≡ 2 ^ (level + 1)) (crossing : AreCrossed new top low level ids) where
+  pub columns_doubled : AreColumns new number (level + 1) ids
+  columns_doubled = record { each = λ k l. record { stands = (crossing.each k l).stands; value = λ x s. value x s k l } }
+    where
+      value : (x : At) → Settles new x → (k : ℕ) → k < length ids → x.node (at ids k).0 ≡ bit_of (x.node number.0 % 2 ^ (level + 1) == k)
+      value x s = crossed_value new top low level ids crossing x s true (x.node number.0 % 2 ^ (level + 1)) row column
+        where
+          at_net : Settles net x
+          at_net = to_new.settles x s
+
+          rest : x.node number.0 % 2 ^ level < 2 ^ level
+          rest = mod-lt (x.node number.0) (pow_pos level)
+
+          row : (k : ℕ) → k < length ids → x.node (at top (k / 2 ^ level)).0 ≡ bit_of (x.node number.0 % 2 ^ (level + 1) / 2 ^ level == k / 2 ^ level)
+          row k l =
+              let twice = doubled level in
+              let inside : k / 2 ^ level < 2 = div_below k (2 ^ level) 2 (pow_pos level) (omega arith) in
+              let quotient : x.node number.0 % 2 ^ (level + 1) / 2 ^ level ≡ part (x.node number.0) level level
+              = ap (λ t. t / 2 ^ level) (by_top_bit (x.node number.0) level) ∙ div-mul-add (part (x.node number.0) level level) (2 ^ level) (x.node number.0 % 2 ^ level) rest in
+              (sides.each (k / 2 ^ level) (omega arith)).value x (to_net.settles x at_net) ∙ ap (λ t. bit_of (t == k / 2 ^ level)) (sym quotient)
+
+          column : (k : ℕ) → k < length ids → x.node (at low (k % 2 ^ level)).0 ≡ bit_of (x.node number.0 % 2 ^ (level + 1) % 2 ^ level == k % 2 ^ level)
+          column k l =
+              let inside : k % 2 ^ level < 2 ^ level = mod-lt k (pow_pos level) in
+              let remainder : x.node number.0 % 2 ^ (level + 1) % 2 ^ level ≡ x.node number.0 % 2 ^ level
+              = ap (λ t. t % 2 ^ level) (by_top_bit (x.node number.0) level) ∙ mod-mul-add (part (x.node number.0) level level) (2 ^ level) (x.node number.0 % 2 ^ level) rest in
+              (lows.each (k % 2 ^ level) (omega arith)).value x at_net ∙ ap (λ t. bit_of (t == k % 2 ^ level)) (sym remainder)
+
+-- the lowest bit
+pub one_column : (net : Net) (number : Id) (level : ℕ) (ids : List Id) → level ≡ 0 → AreSides net number level ids → AreColumns net number (level + 1) ids
+one_column net number level ids e h = record { each = λ k l. record { stands = (h.each k l).stands; value = λ x s. (h.each k l).value x s ∙ ap (λ t. bit_of (t == k)) (same (x.node number.0)) } }
+  where
+    same : (v : ℕ) → part v level level ≡ v % 2 ^ (level + 1)
+    same v =
+        let none : v % 2 ^ level ≡ 0 = ap (λ n. v % 2 ^ n) e ∙ mod-one v in
+        let unit : part v level level * 2 ^ level ≡ part v level level = ap (λ n. part v level level * 2 ^ n) e ∙ omega arith in
+        let whole = by_top_bit v level in
+        omega arith
+
+-- the upper bits and the lower ones
+module _ (older net new : Net) (on number : Id) (count bits : ℕ) (rows columns ids : List Id) (to_net : Grows older net) (to_new : Grows net new)
+    (some : count ≡ 0 → ⊥) (long_rows : length rows ≡ (count - 1) / 2 ^ bits + 1) (aboves : AreHitsAbove older on number (count - 1) bits rows)
+    (long_columns : length columns ≡ 2 ^ bits) (lows : AreColumns net number bits columns)
+    (long : length ids ≡ count) (crossing : AreCrossed new rows columns bits ids) where
+  pub hits_crossed : AreHits new on number ids
+  hits_crossed = record { stand = record { each = λ k l. (crossing.each k l).stands }; value = value }
+    where
+      value : (x : At) → Settles new x → (x.node on.0 ≡ 1 → x.node number.0 < length ids) → (k : ℕ) → k < length ids → x.node (at ids k).0 ≡ bit_of (x.node on.0 == 1 && x.node number.0 == k)
+      value x s low = crossed_value new rows columns bits ids crossing x s (x.node on.0 == 1) (x.node number.0) row column
+        where
+          at_net : Settles net x
+          at_net = to_new.settles x s
+
+          row : (k : ℕ) → k < length ids → x.node (at rows (k / 2 ^ bits)).0 ≡ bit_of (x.node on.0 == 1 && x.node number.0 / 2 ^ bits == k / 2 ^ bits)
+          row k l =
+              let inside : k / 2 ^ bits ≤ (count - 1) / 2 ^ bits = shr_mono bits (let b : k ≤ count - 1 = omega arith in b) in
+              aboves.value x (to_net.settles x at_net) (λ e. let b = low e in omega arith) (k / 2 ^ bits) (omega arith)
+
+          column : (k : ℕ) → k < length ids → x.node (at columns (k % 2 ^ bits)).0 ≡ bit_of (x.node number.0 % 2 ^ bits == k % 2 ^ bits)
+          column k l =
+              let inside : k % 2 ^ bits < 2 ^ bits = mod-lt k (pow_pos bits) in
+              (lows.each (k % 2 ^ bits) (omega arith)).value x at_net
 
 -- all bits
 pub hits_all : (net : Net) (on number : Id) (count : ℕ) (ids : List Id) → (count ≡ 0 → ⊥) → length ids ≡ (count - 1) / 2 ^ 0 + 1 → AreHitsAbove net on number (count - 1) 0 ids → AreHits net on number ids
@@ -207,5 +290,33 @@ hits_all net on number count ids some long h = record {
       h.value x s (λ e. let b = low e in omega arith) k l ∙ ap (λ t. bit_of (x.node on.0 == 1 && t == k)) (div-one (x.node number.0));
 }
 
+pub hits_whole : (net : Net) (on number : Id) (count bits : ℕ) (ids : List Id) → (count ≡ 0 → ⊥) → bits ≡ 0 → length ids ≡ (count - 1) / 2 ^ bits + 1 → AreHitsAbove net on number (count - 1) bits ids → AreHits net on number ids
+hits_whole net on number count bits ids some e long h =
+    hits_all net on number count ids some (long ∙ ap (λ n. (count - 1) / 2 ^ n + 1) e) (subst (λ n. AreHitsAbove net on number (count - 1) n ids) e h)
+
+pub whole_count : (count bits rows : ℕ) → (count ≡ 0 → ⊥) → bits ≡ 0 → rows ≡ (count - 1) / 2 ^ bits + 1 → rows ≡ count
+whole_count count bits rows some e long = let one : (count - 1) / 2 ^ bits ≡ count - 1 = ap (λ n. (count - 1) / 2 ^ n) e ∙ div-one (count - 1) in omega arith
+
+-- rows for all numbers below a count
+pub enough_rows : (count p : ℕ) → 0 < p → count ≤ ((count - 1) / p + 1) * p
+enough_rows count p some =
+    let whole : (count - 1) / p * p + (count - 1) % p ≡ count - 1 = div-add-mod' (count - 1) p in
+    let rest : (count - 1) % p < p = mod-lt (count - 1) some in
+    omega arith
+
 pub hits_none : (net : Net) (on number : Id) (ids : List Id) → ids ≡ [] → AreHits net on number ids
 hits_none net on number ids e = let z : length ids ≡ 0 = ap length e in record { stand = record { each = λ k l. absurd (omega arith) }; value = λ x s low k l. absurd (omega arith) }
+
+-- a number of at most 16 bits
+pub few_bits : (n : ℕ) → n < 65536 → 64 - count_leading_zeros 64 n ≤ 16
+few_bits n l =
+    let r = leading_length 64 n (let fits : n < 2 ^ 64 = omega arith in fits) in
+    let sum : count_leading_zeros 64 n + r.0 ≡ 64 = r.1 in
+    let least : 2 ^ r.0 ≤ 2 * n + 1 = r.3 in
+    elim (split r.0) [
+      | inl below ↦ omega arith
+      | inr above ↦ let p : 2 ^ 17 ≤ 2 ^ r.0 = pow-le-pow_right (omega arith) above in absurd (omega arith)
+    ]
+  where
+    split : (m : ℕ) → (m < 17) ⊎ (17 ≤ m)
+    split m = grind arith

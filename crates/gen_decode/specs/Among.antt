@@ -2,6 +2,7 @@
 use Rattle.std.specs.Prelude.{if◌then◌else◌, ◌≡◌, ℕ, ◌+◌, ◌-◌, ◌^◌, ◌%◌, ◌==◌, ◌<◌, ◌≤◌, Option, Some, None, IsSome, List, ◌++◌, length, slice_get}
 use Rattle.std.specs.List.{list_any}
 use Rattle.std.specs.List.Sorted.{IsStrictlyIncreasing}
+use Rattle.rb_base.specs.Bits.{part}
 use Rattle.rtl_net.specs.Value.{At, bit_of}
 use Rattle.rtl_net.specs.Net.{Net, Settles, Stands}
 use Rattle.rtl_net.specs.declared.node.Id.{Id}
@@ -50,3 +51,10 @@ pub record IsJoined (net : Net) (d : Decoded) (bit : Id) (low high : Option Deco
   pub hit : (x : At) → Settles net x → x.node d.hit.0 ≡ (if x.node bit.0 == 1 then hit_of x high else hit_of x low)
   pub low_word : (x : At) → Settles net x → x.node bit.0 ≡ 0 → IsSome low → x.node d.word.0 ≡ word_of x low
   pub high_word : (x : At) → Settles net x → x.node bit.0 ≡ 1 → IsSome high → x.node d.word.0 ≡ word_of x high
+
+-- where bits of the address are a number
+pub record IsNarrowed (net : Net) (d inner : Option Decoded) (address : Id) (hi lo value : ℕ) : Type 0 where
+  pub some : IsSome inner → IsSome d
+  pub stands : MayDecode net d
+  pub hit : (x : At) → Settles net x → hit_of x d ≡ (if part (x.node address.0) hi lo == value then hit_of x inner else 0)
+  pub word : (x : At) → Settles net x → word_of x d ≡ word_of x inner

@@ -1,5 +1,6 @@
 -- A number spread over nodes.
-use Rattle.std.specs.Prelude.{◌≡◌, ℕ, ◌/◌, ◌%◌, ◌^◌, ◌==◌, ◌<◌, ◌≤◌, ◌&&◌, if◌then◌else◌, List, length}
+use Rattle.std.specs.Prelude.{◌≡◌, ℕ, ◌/◌, ◌%◌, ◌^◌, ◌==◌, ◌<◌, ◌≤◌, ◌&&◌, List, length}
+use Rattle.rb_base.specs.Bits.{part}
 use Rattle.rtl_net.specs.Value.{At, bit_of}
 use Rattle.rtl_net.specs.Net.{Net, Settles, Stands, IsNode}
 use Rattle.rtl_net.specs.Ids.{at}
@@ -22,7 +23,15 @@ pub record AreHitsAbove (net : Net) (on number : Id) (last level : ℕ) (ids : L
   pub value : (x : At) → Settles net x → (x.node on.0 ≡ 1 → x.node number.0 ≤ last)
       → (k : ℕ) → k < length ids → x.node (at ids k).0 ≡ bit_of (x.node on.0 == 1 && x.node number.0 / 2 ^ level == k)
 
--- two nodes for each above: at odd numbers where the bit is 1, at even ones where the other is
-pub record AreHalved (net : Net) (above : List Id) (bit off : Id) (ids : List Id) : Type 0 where
+-- each is the node of a row and of a column
+pub record AreCrossed (net : Net) (rows columns : List Id) (level : ℕ) (ids : List Id) : Type 0 where
   pub each : (k : ℕ) → k < length ids
-      → IsNode net (at ids k) 1 (λ x. bit_of (x.node (at above (k / 2)).0 == 1 && x.node (if k % 2 == 1 then bit else off).0 == 1))
+      → IsNode net (at ids k) 1 (λ x. bit_of (x.node (at rows (k / 2 ^ level)).0 == 1 && x.node (at columns (k % 2 ^ level)).0 == 1))
+
+-- whether a bit of the number is this one
+pub record AreSides (net : Net) (number : Id) (level : ℕ) (ids : List Id) : Type 0 where
+  pub each : (k : ℕ) → k < length ids → IsNode net (at ids k) 1 (λ x. bit_of (part (x.node number.0) level level == k))
+
+-- whether the number's low bits are this number
+pub record AreColumns (net : Net) (number : Id) (bits : ℕ) (ids : List Id) : Type 0 where
+  pub each : (k : ℕ) → k < length ids → IsNode net (at ids k) 1 (λ x. bit_of (x.node number.0 % 2 ^ bits == k))

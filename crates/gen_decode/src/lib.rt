@@ -1,6 +1,7 @@
 //! An address decoded: which word it means, and a node for each word.
 #![tactic(auto)]
 
+mod runs;
 mod spread;
 mod words;
 

@@ -9,9 +9,9 @@ use Rattle.v_design.specs.Seen.{expr_seen}
 use Rattle.cyc_sim.specs.declared.listing.Listing.{Listing}
 use Rattle.cyc_sim.specs.declared.listing.Wire.{Wire}
 use Rattle.cyc_sim.specs.Compiled.{Known, IsReady}
-use Rattle.cyc_sim.proofs.Compiling.{compiled_bits, compiled_const, compiled_one, compiled_two, compiled_pick, below_more, extends_one}
-use Rattle.cyc_sim.proofs.Concatenating.{listed, listed-push, behind, cat_seen, one_seen, two_seen, pick_seen, CompilesAll, compiled_none, compiled_behind, compiled_cat}
-use Rattle.cyc_sim.proofs.Readying.{compiled-narrow, joined-narrow, ready-chosen, ready-left, ready-one, ready-other, ready-part, ready-right, ready-test}
+use Rattle.cyc_sim.proofs.Compiling.{compiled_bits, compiled_const, compiled_one, compiled_two, compiled_pick, below_more}
+use Rattle.cyc_sim.proofs.Concatenating.{listed, listed-push, behind, cat_seen, one_seen, two_seen, pick_seen, CompilesAll, MayCompile, compiled_cat, compiled_empty, compiled_more, may_below}
+use Rattle.cyc_sim.proofs.Readying.{compiled-narrow, behind-narrow, ready-chosen, ready-left, ready-one, ready-other, ready-part, ready-right, ready-test}
 use Rattle.cyc_sim.proofs.Sizes.{part-smaller, of-smaller, left-smaller, right-smaller, test-smaller, chosen-smaller, other-smaller}
 use Rattle.cyc_sim.proofs.compile.+compile.Goals as goal
 
@@ -49,8 +49,8 @@ two-requires-clause-narrow t c =
 
 pub loop-part-init : goal.loop-part-init
 loop-part-init t c = record {
-  below = below_more c.args.known.now c.args.listing.now c.constant-in-Cat.new.self (extends_one _ _ _ _ c.in_ok-joined-in-Cat.ensures.adds) c.requires.below;
-  compiled = compiled_none c.args.known.now c.args.listing.now c.constant-in-Cat.new.self c.in_ok-joined-in-Cat.joined c.in_ok-joined-in-Cat.ensures.adds c.in_ok-joined-in-Cat.ensures.width;
+  below = c.requires.below;
+  compiled = (refl, refl);
 }
 
 -- the parts up to one more
@@ -64,10 +64,14 @@ all_parts known items parts i a b w l is h = subst (λ es. CompilesAll known (li
 
 pub loop-part-preserved : goal.loop-part-preserved
 loop-part-preserved t c =
-    let compiled = up_to c.args.known.now c.deref-part-items.result.now c.loop-part.part-index c.part-item.result c.args.listing.now c.join.new.self c.in_ok-joined-in-Cat-2.joined c.loop-part-test.true c.part-item.is
-    (compiled_behind c.args.known.now _ (expr_seen c.part-item.result) c.args.listing.now c.loop-part.listing c.compile.new.listing c.join.new.self c.loop-part.joined c.in_ok-low-in-Cat.low c.in_ok-joined-in-Cat-2.joined
-    c.loop-part.invariant.compiled c.in_ok-low-in-Cat.ensures c.in_ok-joined-in-Cat-2.ensures.adds c.in_ok-joined-in-Cat-2.ensures.width) in
-    record { below = below_more c.args.known.now c.args.listing.now c.join.new.self compiled.extends c.requires.below; compiled = compiled }
+    let compiled = up_to c.args.known.now c.deref-part-items.result.now c.loop-part.part-index c.part-item.result c.args.listing.now c.behind.new.listing c.in_ok-wire-in-Cat.wire c.loop-part-test.true c.part-item.is
+    (compiled_more c.args.known.now _ (expr_seen c.part-item.result) c.args.listing.now c.loop-part.listing c.compile.new.listing c.behind.new.listing c.loop-part.joined c.in_ok-low-in-Cat.low c.in_ok-wire-in-Cat.wire
+    c.loop-part.invariant.compiled c.in_ok-low-in-Cat.ensures c.in_ok-wire-in-Cat.ensures) in
+    record { below = below_more c.args.known.now c.args.listing.now c.behind.new.listing compiled.extends c.requires.below; compiled = compiled }
+
+pub behind-requires-clause-high : goal.behind-requires-clause-high
+behind-requires-clause-high t c =
+    may_below c.args.known.now (listed (take c.loop-part.part-index c.deref-part-items.result.now)) c.args.listing.now c.loop-part.listing c.compile.new.listing c.loop-part.joined c.loop-part.invariant.compiled c.in_ok-low-in-Cat.ensures.extends
 
 pub returns-in-Bits : goal.returns-in-Bits
 returns-in-Bits t c = rw c.in-Bits.is (ok_two c.part.result _ _ _ (λ w adds width. compiled_bits c.args.known.now _ c.in-Bits.high c.in-Bits.low c.args.listing.now c.part.new.self c.wire_of-in-Bits.result w c.wire_of-in-Bits.ensures adds width) c.part.ensures.adds c.part.ensures.width)
@@ -75,10 +79,19 @@ returns-in-Bits t c = rw c.in-Bits.is (ok_two c.part.result _ _ _ (λ w adds wid
 pub returns-in-Const : goal.returns-in-Const
 returns-in-Const t c = rw c.in-Const.is (ok_two c.constant.result _ _ _ (λ w adds width. compiled_const c.args.known.now c.in-Const.width c.in-Const.value c.args.listing.now c.constant.new.self w adds width) c.constant.ensures.adds c.constant.ensures.width)
 
-pub returns-after-loop-part : goal.returns-after-loop-part
-returns-after-loop-part t c = rw (c.in-Cat.is, cat_seen c.in-Cat.parts)
-    (compiled_cat c.args.known.now (listed c.in-Cat.parts.items) c.args.listing.now c.loop-part.listing c.loop-part.joined
-    (all_parts c.args.known.now c.deref-part-items.result.now c.in-Cat.parts.items c.loop-part.part-index c.args.listing.now c.loop-part.listing c.loop-part.joined c.loop-part-test.false c.deref-part-items.ensures.value c.loop-part.invariant.compiled))
+pub returns-in-Some : goal.returns-in-Some
+returns-in-Some t c = rw (c.in-Cat.is, cat_seen c.in-Cat.parts)
+    (compiled_cat c.args.known.now (listed c.in-Cat.parts.items) c.args.listing.now c.loop-part.listing c.in-Some.joined
+    (all_parts c.args.known.now c.deref-part-items.result.now c.in-Cat.parts.items c.loop-part.part-index c.args.listing.now c.loop-part.listing c.in-Some.joined c.loop-part-test.false c.deref-part-items.ensures.value
+    (subst (λ o. MayCompile c.args.known.now (listed (take c.loop-part.part-index c.deref-part-items.result.now)) c.args.listing.now c.loop-part.listing o) c.in-Some.is c.loop-part.invariant.compiled)))
+
+pub returns-in-None : goal.returns-in-None
+returns-in-None t c = rw (c.in-Cat.is, cat_seen c.in-Cat.parts)
+    (ok_two c.constant-in-None.result _ _ _ (λ w adds width. compiled_cat c.args.known.now (listed c.in-Cat.parts.items) c.args.listing.now c.constant-in-None.new.self w
+    (all_parts c.args.known.now c.deref-part-items.result.now c.in-Cat.parts.items c.loop-part.part-index c.args.listing.now c.constant-in-None.new.self w c.loop-part-test.false c.deref-part-items.ensures.value
+    (compiled_empty c.args.known.now _ c.args.listing.now c.loop-part.listing c.constant-in-None.new.self w
+    (subst (λ o. MayCompile c.args.known.now (listed (take c.loop-part.part-index c.deref-part-items.result.now)) c.args.listing.now c.loop-part.listing o) c.in-None.is c.loop-part.invariant.compiled) adds width)))
+    c.constant-in-None.ensures.adds c.constant-in-None.ensures.width)
 
 pub returns-in_ok-of-in-One : goal.returns-in_ok-of-in-One
 returns-in_ok-of-in-One t c = rw (c.in-One.is, one_seen c.in-One.op c.in-One.of, ← c.deref.ensures)
@@ -107,12 +120,11 @@ compile-requires t c = (
   ),
 )
 
-pub join-requires-clause-narrow : goal.join-requires-clause-narrow
-join-requires-clause-narrow t c =
+pub behind-requires-clause-narrow : goal.behind-requires-clause-narrow
+behind-requires-clause-narrow t c =
     let known = c.args.known.now in
     let all = subst (λ items. IsReady known (expr.Cat (listed items))) (sym c.deref-part-items.ensures.value) (cat_ready known c.args.expr.now c.in-Cat.parts c.in-Cat.is c.requires.ready) in
-    let fits = joined-narrow known c.deref-part-items.result.now c.loop-part.part-index c.part-item.result _ _ _ c.loop-part.joined c.in_ok-low-in-Cat.low c.loop-part-test.true c.part-item.is all c.loop-part.invariant.compiled c.in_ok-low-in-Cat.ensures in
-    omega (arith, fits)
+    behind-narrow known c.deref-part-items.result.now c.loop-part.part-index c.part-item.result _ _ _ c.loop-part.joined c.in_ok-low-in-Cat.low c.loop-part-test.true c.part-item.is all c.loop-part.invariant.compiled c.in_ok-low-in-Cat.ensures
 
 pub one-requires-clause-narrow : goal.one-requires-clause-narrow
 one-requires-clause-narrow t c =

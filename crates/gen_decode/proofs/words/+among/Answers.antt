@@ -9,6 +9,7 @@ use Rattle.rb_base.specs.Bits.{part}
 use Rattle.gen_decode.specs.Among.{AreWithin, IsAmong, IsCut}
 use Rattle.gen_decode.proofs.Halves.{doubled, left_within, right_within}
 use Rattle.gen_decode.proofs.Joined.{last_among, joined_among, IsAmong-grows}
+use Rattle.gen_decode.proofs.Ranges.{even_among, few_index, run_among, run_room}
 use Rattle.gen_decode.proofs.words.+among.Goals as goal
 
 -- the range of 2 ^ bits addresses in two of one bit less
@@ -40,8 +41,31 @@ middle_of-middle-requires-clause-room t c =
     let p : 0 < 2 ^ (c.args.bits - 1) = pow_pos (c.args.bits - 1) in
     omega arith
 
+pub by_index-requires-clause-few : goal.by_index-requires-clause-few
+by_index-requires-clause-few t c = let few = c.requires.few in few_index c.in-Some.index (length c.args.words.now) c.in-Some.ensures.count (omega arith)
+
+pub returns-in-Some-clause-among : goal.returns-in-Some-clause-among
+returns-in-Some-clause-among t c =
+    even_among c.by_index.new.net c.in_ok-even.even c.args.address c.args.words.now c.args.first c.args.base c.args.bits c.in-Some.index c.in-Some.ensures c.in_ok-even.ensures.hit c.in_ok-even.ensures.word
+
 pub among-requires : goal.among-requires
 among-requires t c =
+    let run = c.in-Some-shared_run.common in
+    let shared = c.in-Some-shared_run.ensures in
+    let shorter : run.low < c.args.bits = shared.shorter in (
+      omega arith,
+      (c.requires.address, (omega arith, (run_room c.args.words.now c.args.base c.args.bits (2 ^ 32) run shared c.requires.room, (c.requires.rising, (shared.within, c.requires.few))))),
+    )
+
+pub returns-in-Some-shared_run-clause-among : goal.returns-in-Some-shared_run-clause-among
+returns-in-Some-shared_run-clause-among t c =
+    let run = c.in-Some-shared_run.common in
+    let shared = c.in-Some-shared_run.ensures in
+    let inner = IsAmong-grows c.among.new.net c.narrowed.new.net c.in_ok-inner.inner c.args.address c.args.words.now c.args.first run.base run.low c.in_ok-narrow.ensures.older c.in_ok-inner.ensures.among in
+    run_among c.narrowed.new.net c.in_ok-narrow.narrow c.in_ok-inner.inner c.args.address c.args.words.now c.args.first c.args.base c.args.bits run shared inner c.in_ok-narrow.ensures.narrowed
+
+pub among-requires-2 : goal.among-requires-2
+among-requires-2 t c =
     let e = twice c.args.bits c.if-bits-eq0.false in
     let l = lengths c.args.words.now c.halves.result.0.now c.halves.result.1.now c.middle_of-middle.result c.halves.ensures in
     let cut = cut_of c.args.words.now c.halves.result.0.now c.halves.result.1.now c.args.base c.middle_of-middle.result c.args.bits c.middle_of-middle.ensures c.halves.ensures in
@@ -53,8 +77,8 @@ among-requires t c =
       ),
     )
 
-pub among-requires-2 : goal.among-requires-2
-among-requires-2 t c =
+pub among-requires-3 : goal.among-requires-3
+among-requires-3 t c =
     let e = twice c.args.bits c.if-bits-eq0.false in
     let l = lengths c.args.words.now c.halves.result.0.now c.halves.result.1.now c.middle_of-middle.result c.halves.ensures in
     let cut = cut_of c.args.words.now c.halves.result.0.now c.halves.result.1.now c.args.base c.middle_of-middle.result c.args.bits c.middle_of-middle.ensures c.halves.ensures in
@@ -63,7 +87,7 @@ among-requires-2 t c =
     let high_at = subst (λ m. AreWithin m (c.args.bits - 1) c.halves.result.1.now) (sym c.middle_of-middle.ensures) high in (
       omega arith,
       (
-        Stands-grows c.args.net.now c.among.new.net c.args.address 32 c.in_ok-low.ensures.older c.requires.address,
+        Stands-grows c.args.net.now c.among-2.new.net c.args.address 32 c.in_ok-low.ensures.older c.requires.address,
         (omega arith, (omega arith, (c.halves.ensures.high_rising, (high_at, omega arith)))),
       ),
     )
@@ -73,8 +97,8 @@ returns-clause-among t c =
     let half = c.args.bits - 1 in
     let cut = cut_of c.args.words.now c.halves.result.0.now c.halves.result.1.now c.args.base c.middle_of-middle.result c.args.bits c.middle_of-middle.ensures c.halves.ensures in
     let within = within_of c.args.words.now c.args.base c.args.bits c.if-bits-eq0.false c.requires.within in
-    let n1 = c.among.new.net in
-    let n2 = c.among-2.new.net in
+    let n1 = c.among-2.new.net in
+    let n2 = c.among-3.new.net in
     let n3 = c.slice.new.net in
     let n4 = c.joined.new.net in
     let g34 = c.in_ok-all.ensures.older in
