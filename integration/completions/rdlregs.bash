@@ -2,7 +2,7 @@
 _rdlregs() {
     local word=${COMP_WORDS[COMP_CWORD]} before=${COMP_WORDS[COMP_CWORD - 1]} command=${COMP_WORDS[1]}
     if [ "$COMP_CWORD" -eq 1 ]; then
-        mapfile -t COMPREPLY < <(compgen -W "compile check map sim run drive gen" -- "$word")
+        mapfile -t COMPREPLY < <(compgen -W "compile check map sim vcd pins run drive gen" -- "$word")
         return
     fi
     case $before in

@@ -11,8 +11,8 @@ use Rattle.std.proofs.lemmas.List.Folds.{list_all-map}
 use Rattle.plain_lemmas.proofs.Bools.{and-both}
 use Rattle.plain_lemmas.proofs.Lists.{bytes_eq-same as same-text}
 use Rattle.rdl_tree.specs.Words.{is_word}
-use Rattle.command_line.specs.Words.{AreFileWords, Asks, AsksNothing, Command, IsCommand, IsFileWord, IsTop, IsWaits, check, compile, drive_of, gen_of, map_of, run_of, sim, texts, top_words, waits_words, words_of}
-use Rattle.command_line.specs.Found.{Topped, Waited, are_files, compiled, count_in, counted, driven, driven_by, file_pair, found_in, is_file, named, one_count, one_file, ran, some_files, some_gen, topped, two_files, waited}
+use Rattle.command_line.specs.Words.{AreFileWords, Asks, AsksNothing, Command, IsCommand, IsFileWord, IsTop, IsWaits, check, compile, drive_of, gen_of, map_of, pins_of, run_of, sim, vcd, texts, top_words, waits_words, words_of}
+use Rattle.command_line.specs.Found.{Topped, Waited, are_files, compiled, count_in, counted, driven, driven_by, file_pair, found_in, is_file, named, one_count, one_dump, one_file, ran, some_files, some_gen, topped, two_files, waited}
 use Rattle.command_line.proofs.Counting.{count-found, found-count}
 
 -- Words that name files.
@@ -185,6 +185,8 @@ asked-found (check top sources) h = ap some_files (top-found top sources h.0 (be
     begins [] g = tt
     begins (w ∷ ws) g = file-yes w g.0
 asked-found (sim verilog stimulus) h = ap (λ t. cond (t && is_file stimulus) (Some (sim verilog stimulus)) None) (file-yes verilog h.0) ∙ ap (λ t. cond t (Some (sim verilog stimulus)) None) (file-yes stimulus h.1)
+asked-found (vcd verilog stimulus) h = ap (λ t. cond (t && is_file stimulus) (Some (vcd verilog stimulus)) None) (file-yes verilog h.0) ∙ ap (λ t. cond t (Some (vcd verilog stimulus)) None) (file-yes stimulus h.1)
+asked-found (pins_of waves) h = ap (λ t. cond t (Some (pins_of waves)) None) (file-yes waves h)
 asked-found (run_of waits top source stimulus) h =
     let file = file-yes source h.2 in
     ap (λ ws. ran (waited ws)) (append_assoc (waits_words waits) (top_words top) (source ∷ stimulus ∷ []))
@@ -327,18 +329,39 @@ some-found ws c e = go (topped ws) refl e
             subst (Asks (codes "check" ∷ ws)) same (record { spelled = ap (λ us. codes "check" ∷ us) is.spelled; formed = (is.formed, are-words t.rest y) })
         files false y z = cc z
 
-two-found : (ws : List (List ℕ)) (c : Command) → two_files ws ≡ Some c → Asks (codes "sim" ∷ ws) c
-two-found [] c e = cc e
-two-found (v ∷ []) c e = cc e
-two-found (v ∷ s ∷ []) c e = go (is_file v && is_file s) refl e
+-- the form of a command with two files
+pub record AreTwo (f : List ℕ → List ℕ → Command) (ws : List (List ℕ)) (c : Command) : Type 0 where
+  pub verilog : List ℕ
+  pub stimulus : List ℕ
+  pub spelled : ws ≡ verilog ∷ stimulus ∷ []
+  pub first : IsFileWord verilog
+  pub second : IsFileWord stimulus
+  pub is : f verilog stimulus ≡ c
+
+two-found : (f : List ℕ → List ℕ → Command) (ws : List (List ℕ)) (c : Command) → two_files f ws ≡ Some c → AreTwo f ws c
+two-found f [] c e = cc e
+two-found f (v ∷ []) c e = cc e
+two-found f (v ∷ s ∷ []) c e = go (is_file v && is_file s) refl e
   where
-    go : (b : Bool) → (is_file v && is_file s) ≡ b → cond b (Some (sim v s)) None ≡ Some c → Asks (codes "sim" ∷ v ∷ s ∷ []) c
-    go true q g =
-        let p = and-both (is_file v) (is_file s) q in
-        let same : sim v s ≡ c = cc g in
-        subst (Asks (codes "sim" ∷ v ∷ s ∷ [])) same (record { spelled = refl; formed = (file-word v p.0, file-word s p.1) })
+    go : (b : Bool) → (is_file v && is_file s) ≡ b → cond b (Some (f v s)) None ≡ Some c → AreTwo f (v ∷ s ∷ []) c
+    go true q g = let p = and-both (is_file v) (is_file s) q in record { verilog = v; stimulus = s; spelled = refl; first = file-word v p.0; second = file-word s p.1; is = cc g }
     go false q g = cc g
-two-found (v ∷ s ∷ t ∷ ws) c e = cc e
+two-found f (v ∷ s ∷ t ∷ ws) c e = cc e
+
+sim-found : (ws : List (List ℕ)) (c : Command) → two_files sim ws ≡ Some c → Asks (codes "sim" ∷ ws) c
+sim-found ws c e = let f = two-found sim ws c e in subst (Asks (codes "sim" ∷ ws)) f.is (record { spelled = ap (λ us. codes "sim" ∷ us) f.spelled; formed = (f.first, f.second) })
+
+vcd-found : (ws : List (List ℕ)) (c : Command) → two_files vcd ws ≡ Some c → Asks (codes "vcd" ∷ ws) c
+vcd-found ws c e = let f = two-found vcd ws c e in subst (Asks (codes "vcd" ∷ ws)) f.is (record { spelled = ap (λ us. codes "vcd" ∷ us) f.spelled; formed = (f.first, f.second) })
+
+pins-found : (ws : List (List ℕ)) (c : Command) → one_dump ws ≡ Some c → Asks (codes "pins" ∷ ws) c
+pins-found [] c e = cc e
+pins-found (w ∷ []) c e = go (is_file w) refl e
+  where
+    go : (b : Bool) → is_file w ≡ b → cond b (Some (pins_of w)) None ≡ Some c → Asks (codes "pins" ∷ w ∷ []) c
+    go true q g = let same : pins_of w ≡ c = cc g in subst (Asks (codes "pins" ∷ w ∷ [])) same (record { spelled = refl; formed = file-word w q })
+    go false q g = cc g
+pins-found (w ∷ v ∷ ws) c e = cc e
 
 -- a first word that was found is the name of a command
 under : (name word : List ℕ) (rest : List (List ℕ)) (c : Command) → bytes_eq name word ≡ true → Asks (word ∷ rest) c → Asks (name ∷ rest) c
@@ -363,10 +386,12 @@ found-asked (name ∷ rest) c e =
     found-by name (codes "compile") rest c (compiled (waited rest)) after-compile (compile-found rest c)
     (found-by name (codes "map") rest c (one_file map_of (topped rest)) after-map (map-found rest c)
     (found-by name (codes "check") rest c (some_files (topped rest)) after-check (some-found rest c)
-    (found-by name (codes "sim") rest c (two_files rest) after-sim (two-found rest c)
+    (found-by name (codes "sim") rest c (two_files sim rest) after-sim (sim-found rest c)
+    (found-by name (codes "vcd") rest c (two_files vcd rest) after-vcd (vcd-found rest c)
+    (found-by name (codes "pins") rest c (one_dump rest) after-pins (pins-found rest c)
     (found-by name (codes "run") rest c (ran (waited rest)) after-run (run-found rest c)
     (found-by name (codes "drive") rest c (driven (topped rest)) after-drive (drive-found rest c)
-    (found-by name (codes "gen") rest c (one_count rest) None (gen-found rest c) (λ x. cc x))))))) e
+    (found-by name (codes "gen") rest c (one_count rest) None (gen-found rest c) (λ x. cc x))))))))) e
   where
     after-drive : Option Command
     after-drive = cond (bytes_eq name (codes "gen")) (one_count rest) None
@@ -374,11 +399,17 @@ found-asked (name ∷ rest) c e =
     after-run : Option Command
     after-run = cond (bytes_eq name (codes "drive")) (driven (topped rest)) after-drive
 
+    after-pins : Option Command
+    after-pins = cond (bytes_eq name (codes "run")) (ran (waited rest)) after-run
+
+    after-vcd : Option Command
+    after-vcd = cond (bytes_eq name (codes "pins")) (one_dump rest) after-pins
+
     after-sim : Option Command
-    after-sim = cond (bytes_eq name (codes "run")) (ran (waited rest)) after-run
+    after-sim = cond (bytes_eq name (codes "vcd")) (two_files vcd rest) after-vcd
 
     after-check : Option Command
-    after-check = cond (bytes_eq name (codes "sim")) (two_files rest) after-sim
+    after-check = cond (bytes_eq name (codes "sim")) (two_files sim rest) after-sim
 
     after-map : Option Command
     after-map = cond (bytes_eq name (codes "check")) (some_files (topped rest)) after-check

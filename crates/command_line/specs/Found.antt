@@ -3,7 +3,7 @@ use Rattle.std.specs.Prelude.{ℕ, Bool, false, not, ◌&&◌, ◌==◌, cond, b
 use Rattle.std.specs.List.{list_all}
 use Rattle.std.specs.Str.Parse.{digits_value}
 use Rattle.rdl_tree.specs.Words.{is_word}
-use Rattle.command_line.specs.Words.{Command, check, compile, drive_of, gen_of, map_of, run_of, sim}
+use Rattle.command_line.specs.Words.{Command, check, compile, drive_of, gen_of, map_of, pins_of, run_of, sim, vcd}
 
 -- the wait states, and the words behind them
 pub record Waited : Type 0 where
@@ -80,9 +80,15 @@ abbrev pub some_files : Option Topped → Option Command
 some_files None = None
 some_files (Some t) = cond (are_files t.rest) (Some (check t.top t.rest)) None
 
-abbrev pub two_files : List (List ℕ) → Option Command
-two_files (verilog ∷ stimulus ∷ []) = cond (is_file verilog && is_file stimulus) (Some (sim verilog stimulus)) None
-two_files _ = None
+-- a module and a table
+abbrev pub two_files : (List ℕ → List ℕ → Command) → List (List ℕ) → Option Command
+two_files f (verilog ∷ stimulus ∷ []) = cond (is_file verilog && is_file stimulus) (Some (f verilog stimulus)) None
+two_files f _ = None
+
+-- a dump
+abbrev pub one_dump : List (List ℕ) → Option Command
+one_dump (waves ∷ []) = cond (is_file waves) (Some (pins_of waves)) None
+one_dump _ = None
 
 -- the word is the decimal of the number, which is 1 to 8,192
 abbrev pub gives : List ℕ → ℕ → Bool
@@ -106,7 +112,9 @@ found_in (name ∷ rest) =
     cond (bytes_eq name (codes "compile")) (compiled (waited rest))
     (cond (bytes_eq name (codes "map")) (one_file map_of (topped rest))
     (cond (bytes_eq name (codes "check")) (some_files (topped rest))
-    (cond (bytes_eq name (codes "sim")) (two_files rest)
+    (cond (bytes_eq name (codes "sim")) (two_files sim rest)
+    (cond (bytes_eq name (codes "vcd")) (two_files vcd rest)
+    (cond (bytes_eq name (codes "pins")) (one_dump rest)
     (cond (bytes_eq name (codes "run")) (ran (waited rest))
     (cond (bytes_eq name (codes "drive")) (driven (topped rest))
-    (cond (bytes_eq name (codes "gen")) (one_count rest) None))))))
+    (cond (bytes_eq name (codes "gen")) (one_count rest) None))))))))

@@ -10,6 +10,8 @@ pub data Command : Type 0 where
   check : (top : Option (List ℕ)) (sources : List (List ℕ)) → Command
   map_of : (top : Option (List ℕ)) (source : List ℕ) → Command
   sim : (verilog stimulus : List ℕ) → Command
+  vcd : (verilog stimulus : List ℕ) → Command
+  pins_of : (waves : List ℕ) → Command
   run_of : (waits : Option ℕ) (top : Option (List ℕ)) (source stimulus : List ℕ) → Command
   drive_of : (top : Option (List ℕ)) (source script : List ℕ) → Command
   gen_of : (count : ℕ) → Command
@@ -56,6 +58,8 @@ words_of (compile waits top source) = codes "compile" ∷ waits_words waits ++ t
 words_of (check top sources) = codes "check" ∷ top_words top ++ sources
 words_of (map_of top source) = codes "map" ∷ top_words top ++ source ∷ []
 words_of (sim verilog stimulus) = codes "sim" ∷ verilog ∷ stimulus ∷ []
+words_of (vcd verilog stimulus) = codes "vcd" ∷ verilog ∷ stimulus ∷ []
+words_of (pins_of waves) = codes "pins" ∷ waves ∷ []
 words_of (run_of waits top source stimulus) = codes "run" ∷ waits_words waits ++ top_words top ++ source ∷ stimulus ∷ []
 words_of (drive_of top source script) = codes "drive" ∷ top_words top ++ source ∷ script ∷ []
 words_of (gen_of count) = codes "gen" ∷ decimal count ∷ []
@@ -66,6 +70,8 @@ IsCommand (compile waits top source) = IsWaits waits × IsTop top × IsFileWord 
 IsCommand (check top sources) = IsTop top × AreFileWords sources
 IsCommand (map_of top source) = IsTop top × IsFileWord source
 IsCommand (sim verilog stimulus) = IsFileWord verilog × IsFileWord stimulus
+IsCommand (vcd verilog stimulus) = IsFileWord verilog × IsFileWord stimulus
+IsCommand (pins_of waves) = IsFileWord waves
 IsCommand (run_of waits top source stimulus) = IsWaits waits × IsTop top × IsFileWord source × IsFileWord stimulus
 IsCommand (drive_of top source script) = IsTop top × IsFileWord source × IsFileWord script
 IsCommand (gen_of count) = (1 ≤ count) × (count ≤ 8192)

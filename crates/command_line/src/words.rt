@@ -33,6 +33,15 @@ pub enum Command<'w> {
         verilog: &'w str,
         stimulus: &'w str,
     },
+    /// The run of a module as a value change dump.
+    Vcd {
+        verilog: &'w str,
+        stimulus: &'w str,
+    },
+    /// The table of a value change dump.
+    Pins {
+        waves: &'w str,
+    },
     /// The run of the register machine that a source describes; `waits` as for `Compile`.
     Run {
         waits: Option<u8>,
@@ -106,7 +115,7 @@ fn check_of(words: &[String]) -> Option<Command<'_>>
 
 // The files of `sim`.
 fn sim_of(words: &[String]) -> Option<Command<'_>>
-    ensures { view_all result ≡ found.two_files (texts words.now) }
+    ensures { view_all result ≡ found.two_files commands.sim (texts words.now) }
 {
     match words {
         [verilog, stimulus] if is_file(verilog.as_str()) && is_file(stimulus.as_str()) => {
@@ -115,6 +124,33 @@ fn sim_of(words: &[String]) -> Option<Command<'_>>
                 stimulus: stimulus.as_str(),
             })
         }
+        _ => None,
+    }
+}
+
+// The files of `vcd`.
+fn vcd_of(words: &[String]) -> Option<Command<'_>>
+    ensures { view_all result ≡ found.two_files commands.vcd (texts words.now) }
+{
+    match words {
+        [verilog, stimulus] if is_file(verilog.as_str()) && is_file(stimulus.as_str()) => {
+            Some(Command::Vcd {
+                verilog: verilog.as_str(),
+                stimulus: stimulus.as_str(),
+            })
+        }
+        _ => None,
+    }
+}
+
+// The file of `pins`.
+fn pins_of(words: &[String]) -> Option<Command<'_>>
+    ensures { view_all result ≡ found.one_dump (texts words.now) }
+{
+    match words {
+        [waves] if is_file(waves.as_str()) => Some(Command::Pins {
+            waves: waves.as_str(),
+        }),
         _ => None,
     }
 }
@@ -206,6 +242,12 @@ fn named_by(words: &[String]) -> Option<Command<'_>>
     }
     if name.as_str() == "sim" {
         return sim_of(rest);
+    }
+    if name.as_str() == "vcd" {
+        return vcd_of(rest);
+    }
+    if name.as_str() == "pins" {
+        return pins_of(rest);
     }
     if name.as_str() == "run" {
         return run_of(rest);

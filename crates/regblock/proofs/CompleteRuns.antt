@@ -3,11 +3,14 @@ use Rattle.std.specs.Prelude.{⊤}
 use Rattle.std.specs.List.{AllByRecursion, list_all}
 use Rattle.std.proofs.lemmas.List.Elements.{recursion_from_All}
 use Rattle.std.proofs.Common.{◌≡◌, ◌⊎◌, ⊎_elim, inl, inr, ℕ, true, ◌&&◌, cond, List, [], ◌∷◌, Contains, length, map, Option, None, Some, Ok, Err, refl, sym, ◌∙◌, ap, subst, arith}
+use Rattle.rb_base.specs.declared.ports.Pin.{Pin}
+use Rattle.vcd_syntax.specs.Reading.{IsTable}
+use Rattle.vcd_laws.proofs.Answered.{no_error}
 use Rattle.rb_edge.specs.Count.{Rose}
 use Rattle.rb_edge.specs.Shelf.{Files, IsLonger}
 use Rattle.replies.specs.declared.status.Status.{Status}
-use Rattle.replies.specs.declared.status.Status.TheVariants.{Done, Refused, ReadFault, WriteFault, NoMemory, TooLong, BadVerilog, BadStimulus, Protocol, BadScript, Unmet}
-use Rattle.command_line.specs.Words.{Command, check, compile, map_of, sim, run_of, drive_of, gen_of, waits_of, Asks}
+use Rattle.replies.specs.declared.status.Status.TheVariants.{Done, Refused, ReadFault, WriteFault, NoMemory, TooLong, BadVerilog, BadStimulus, Protocol, BadVcd, BadScript, Unmet}
+use Rattle.command_line.specs.Words.{Command, check, compile, map_of, sim, vcd, pins_of, run_of, drive_of, gen_of, waits_of, Asks}
 use Rattle.command_line.proofs.Asking.{one-command}
 use Rattle.replies.specs.Outcome.{AreRead, AreVerdicts, StopsAt, Texts, Judges, Answers, Outcome, files_of, has_none, source_limit}
 use Rattle.replies.specs.Ends.{Passage, IsCutShort, Ends}
@@ -105,12 +108,24 @@ fit_driven top file script source bytes BadScript texts fit judged =
     let bad : Ok steps.0 ≡ Err judged.error = sym steps.1 ∙ judged.fails in absurd (cc bad)
 fit_driven top file script source bytes _ texts fit judged = absurd judged
 
+-- a dump that has a table has no problem
+fit_read : (file text : List ℕ) (status : Status) (texts : Texts) → (pins : List Pin) × (rows : List (List ℕ)) × IsTable text pins rows → Judges (pins_of file) (text ∷ []) status texts → status ≡ Done
+fit_read file text Done texts fit judged = refl
+fit_read file text BadVcd texts fit judged = absurd (no_error text fit.0 fit.1 judged.error fit.2 judged.fails)
+fit_read file text _ texts fit judged = absurd judged
+
 module _ (fails : NoModuleFails) where
   fit_run : (file table verilog stimulus : List ℕ) (status : Status) (texts : Texts) → IsFitTable verilog stimulus → Judges (sim file table) (verilog ∷ stimulus ∷ []) status texts → status ≡ Done
   fit_run file table verilog stimulus Done texts fit judged = refl
   fit_run file table verilog stimulus BadVerilog texts fit judged = absurd (fails verilog judged.error fit.is_module.tree judged.fails fit.is_module.is_tree fit.is_module.well_formed)
   fit_run file table verilog stimulus BadStimulus texts fit judged = absurd (no_problem verilog stimulus judged.problem fit judged.fails)
   fit_run file table verilog stimulus _ texts fit judged = absurd judged
+
+  fit_wave : (file table verilog stimulus : List ℕ) (status : Status) (texts : Texts) → IsFitTable verilog stimulus → Judges (vcd file table) (verilog ∷ stimulus ∷ []) status texts → status ≡ Done
+  fit_wave file table verilog stimulus Done texts fit judged = refl
+  fit_wave file table verilog stimulus BadVerilog texts fit judged = absurd (fails verilog judged.error fit.is_module.tree judged.fails fit.is_module.is_tree fit.is_module.well_formed)
+  fit_wave file table verilog stimulus BadStimulus texts fit judged = absurd (no_problem verilog stimulus judged.problem fit judged.fails)
+  fit_wave file table verilog stimulus _ texts fit judged = absurd judged
 
   fit_judged : (files : Files) (command : Command) (sources : List (List ℕ)) (status : Status) (texts : Texts)
       → AreFit command files → AreRead (Some files) (files_of command) sources → Judges command sources status texts → IsEnd command status
@@ -130,6 +145,13 @@ module _ (fails : NoModuleFails) where
   fit_judged files (sim file table) (verilog ∷ []) status texts fit read judged = absurd read.1
   fit_judged files (sim file table) (verilog ∷ stimulus ∷ []) status texts fit read judged = fit_run file table verilog stimulus status texts (fit verilog stimulus read.0.held read.1.0.held) judged
   fit_judged files (sim file table) (verilog ∷ stimulus ∷ a ∷ more) status texts fit read judged = absurd read.1.1
+  fit_judged files (vcd file table) [] status texts fit read judged = absurd read
+  fit_judged files (vcd file table) (verilog ∷ []) status texts fit read judged = absurd read.1
+  fit_judged files (vcd file table) (verilog ∷ stimulus ∷ []) status texts fit read judged = fit_wave file table verilog stimulus status texts (fit verilog stimulus read.0.held read.1.0.held) judged
+  fit_judged files (vcd file table) (verilog ∷ stimulus ∷ a ∷ more) status texts fit read judged = absurd read.1.1
+  fit_judged files (pins_of file) [] status texts fit read judged = absurd read
+  fit_judged files (pins_of file) (text ∷ []) status texts fit read judged = fit_read file text status texts (fit text read.0.held) judged
+  fit_judged files (pins_of file) (text ∷ a ∷ more) status texts fit read judged = absurd read.1
   fit_judged files (run_of waits top file table) [] status texts fit read judged = absurd read
   fit_judged files (run_of waits top file table) (source ∷ []) status texts fit read judged = absurd read.1
   fit_judged files (run_of waits top file table) (source ∷ stimulus ∷ []) status texts fit read judged = fit_ran waits top file table source stimulus status texts (fit source stimulus read.0.held read.1.0.held) judged

@@ -5,3 +5,4 @@ mod Drives
 mod Headlines
 mod MachineRuns
 mod Simulations
+mod Waves

@@ -1,13 +1,38 @@
 -- What the answers to `sim` promise.
 use Rattle.std.proofs.Common.{◌≡◌, ℕ, List, [], ◌∷◌, Option, subst}
-use Rattle.rb_edge.specs.Shelf.{Files}
+use Rattle.rb_edge.specs.Shelf.{Files, Holds}
 use Rattle.replies.specs.declared.status.Status.{Status}
 use Rattle.replies.specs.declared.status.Status.TheVariants.{Done, BadVerilog, BadStimulus}
 use Rattle.command_line.specs.Words.{sim, Asks}
-use Rattle.replies.specs.Outcome.{AreRead, Texts, Judges, Outcome, files_of}
+use Rattle.replies.specs.Outcome.{AreRead, IsBadStimulus, IsBadVerilog, Texts, Judges, Outcome, files_of}
 use Rattle.replies.specs.Ends.{Passage, TookAll, Ends}
 use Rattle.regblock.specs.Simulations.{IsRun, IsToldVerilog, IsToldStimulus}
 use Rattle.regblock.proofs.Asked.{asked}
+
+-- what is wrong with a module, and with a table for one, as it is told
+pub told_module : (contents : Option Files) (err out : Passage) (file : List ℕ) (texts : Texts) (verilog : List ℕ) → Holds contents file verilog → IsBadVerilog file verilog texts
+    → TookAll err texts.err → TookAll out texts.out → IsToldVerilog contents file err out
+told_module contents err out file texts verilog held bad e o = record {
+  verilog = verilog;
+  error = bad.error;
+  held = held;
+  fails = bad.fails;
+  told = subst (TookAll err) bad.told.0 e;
+  quiet = subst (TookAll out) bad.told.1 o;
+}
+
+pub told_table : (contents : Option Files) (err out : Passage) (file table : List ℕ) (texts : Texts) (verilog stimulus : List ℕ) → Holds contents file verilog → Holds contents table stimulus
+    → IsBadStimulus verilog table stimulus texts → TookAll err texts.err → TookAll out texts.out → IsToldStimulus contents file table err out
+told_table contents err out file table texts verilog stimulus module_held table_held bad e o = record {
+  verilog = verilog;
+  stimulus = stimulus;
+  problem = bad.problem;
+  module_held = module_held;
+  table_held = table_held;
+  fails = bad.fails;
+  told = subst (TookAll err) bad.told.0 e;
+  quiet = subst (TookAll out) bad.told.1 o;
+}
 
 module _ (contents : Option Files) (err out : Passage) (file table : List ℕ) (texts : Texts) where
   ran : (sources : List (List ℕ)) → AreRead contents (files_of (sim file table)) sources → Judges (sim file table) sources Done texts
@@ -31,30 +56,14 @@ module _ (contents : Option Files) (err out : Passage) (file table : List ℕ) (
   bad_module [] read judged e o = absurd judged
   bad_module (v ∷ []) read judged e o = absurd judged
   bad_module (v ∷ s ∷ a ∷ more) read judged e o = absurd judged
-  bad_module (v ∷ s ∷ []) read judged e o = record {
-    verilog = v;
-    error = judged.error;
-    held = read.0.held;
-    fails = judged.fails;
-    told = subst (TookAll err) judged.told.0 e;
-    quiet = subst (TookAll out) judged.told.1 o;
-  }
+  bad_module (v ∷ s ∷ []) read judged e o = told_module contents err out file texts v read.0.held judged e o
 
   bad_table : (sources : List (List ℕ)) → AreRead contents (files_of (sim file table)) sources → Judges (sim file table) sources BadStimulus texts
       → TookAll err texts.err → TookAll out texts.out → IsToldStimulus contents file table err out
   bad_table [] read judged e o = absurd judged
   bad_table (v ∷ []) read judged e o = absurd judged
   bad_table (v ∷ s ∷ a ∷ more) read judged e o = absurd judged
-  bad_table (v ∷ s ∷ []) read judged e o = record {
-    verilog = v;
-    stimulus = s;
-    problem = judged.problem;
-    module_held = read.0.held;
-    table_held = read.1.0.held;
-    fails = judged.fails;
-    told = subst (TookAll err) judged.told.0 e;
-    quiet = subst (TookAll out) judged.told.1 o;
-  }
+  bad_table (v ∷ s ∷ []) read judged e o = told_table contents err out file table texts v s read.0.held read.1.0.held judged e o
 
 module _ (words : List (List ℕ)) (contents : Option Files) (failed : List ℕ → Type 0) (err out : Passage) (result : Status) (ends : Ends (Outcome words contents failed) err out result) where
   abbrev At : Status → Type 0

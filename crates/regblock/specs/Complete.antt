@@ -1,8 +1,10 @@
 -- When a run does what its words ask for.
 use Rattle.std.specs.Prelude.{◌≡◌, ◌⊎◌, ℕ, ◌≤◌, List, [], ◌∷◌, length, All, Option, None, Some, Ok, ⊤}
+use Rattle.rb_base.specs.declared.ports.Pin.{Pin}
 use Rattle.rb_edge.specs.Count.{Rose}
 use Rattle.rb_edge.specs.Shelf.{Files}
 use Rattle.sim_run.specs.Simulated.{IsFitTable}
+use Rattle.vcd_syntax.specs.Reading.{IsTable}
 use Rattle.rb_model.specs.declared.block.Block.{Block}
 use Rattle.rdl_tree.specs.declared.item.Source.{Source}
 use Rattle.machine_run.specs.Runs.{IsFitFor}
@@ -12,7 +14,7 @@ use Rattle.command_line.specs.Source.{source_of}
 use Rattle.replies.specs.Verdict.{BreaksNone, IsDescribedWith}
 use Rattle.replies.specs.declared.status.Status.{Status}
 use Rattle.replies.specs.declared.status.Status.TheVariants.{Done, NoMemory, Unmet}
-use Rattle.command_line.specs.Words.{Command, check, compile, map_of, sim, run_of, drive_of, gen_of, waits_of, Asks}
+use Rattle.command_line.specs.Words.{Command, check, compile, map_of, sim, vcd, pins_of, run_of, drive_of, gen_of, waits_of, Asks}
 use Rattle.replies.specs.Outcome.{files_of}
 use Rattle.replies.specs.Ends.{Passage}
 
@@ -37,13 +39,15 @@ pub record IsScriptFor (top : Option (List ℕ)) (source bytes : List ℕ) : Typ
   pub clean : BreaksNone top source
   pub script : (tree : Source) (block : Block) → IsDescribedWith top source tree 0 block → (steps : List Step) × (script_of block bytes ≡ Ok steps)
 
--- The command's files are what it asks for: sources that break no rule, a module or a source and a table or a script for it, or
--- the source that the program writes.
+-- The command's files are what it asks for: sources that break no rule, a module or a source and a table or a script for it, a dump
+-- that has a table, or the source that the program writes.
 abbrev pub AreFit : Command → Files → Type 0
 AreFit (compile waits top file) files = IsFit top files file
 AreFit (check top names) files = All (IsFit top files) names
 AreFit (map_of top file) files = IsFit top files file
 AreFit (sim file table) files = (verilog stimulus : List ℕ) → files file ≡ Some verilog → files table ≡ Some stimulus → IsFitTable verilog stimulus
+AreFit (vcd file table) files = (verilog stimulus : List ℕ) → files file ≡ Some verilog → files table ≡ Some stimulus → IsFitTable verilog stimulus
+AreFit (pins_of file) files = (text : List ℕ) → files file ≡ Some text → (pins : List Pin) × (rows : List (List ℕ)) × IsTable text pins rows
 AreFit (run_of waits top file table) files = (source stimulus : List ℕ) → files file ≡ Some source → files table ≡ Some stimulus → FitsBlock (waits_of waits) top source stimulus
 AreFit (drive_of top file script) files = (source bytes : List ℕ) → files file ≡ Some source → files script ≡ Some bytes → IsScriptFor top source bytes
 AreFit (gen_of count) files = BreaksNone None (source_of count)

@@ -4,3 +4,4 @@ pub mod Generated
 pub mod Headline
 pub mod MachineRuns
 pub mod Simulations
+pub mod Waves

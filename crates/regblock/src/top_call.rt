@@ -3,12 +3,13 @@
 ghost use Rattle.std.specs.Prelude.{◌≡◌, ◌⊎◌, ◌<◌, ◌≤◌, List, Option, ℕ};
 ghost use Rattle.rb_edge.specs.Count.{Rose};
 ghost use Rattle.rb_edge.specs.Shelf.{IsLonger};
-ghost use Rattle.command_line.specs.Words.{texts, Command, check, compile, map_of, sim, run_of, drive_of, gen_of, waits_of, Asks, AsksNothing};
+ghost use Rattle.command_line.specs.Words.{texts, Command, check, compile, map_of, sim, vcd, pins_of, run_of, drive_of, gen_of, waits_of, Asks, AsksNothing};
 ghost use Rattle.replies.specs.Outcome.{FailedRead, Outcome, StopsAt, files_of};
 ghost use Rattle.replies.specs.Ends.{Ends, passage};
 ghost use Rattle.regblock.specs.Complete.{IsComplete};
 ghost use Rattle.regblock.specs.Headline.{AreToldVerdicts, IsRight, IsTable, IsToldFailure};
 ghost use Rattle.regblock.specs.Simulations.{IsRun, IsToldVerilog, IsToldStimulus};
+ghost use Rattle.regblock.specs.Waves.{IsDumped, IsPinTable, IsToldVcd};
 ghost use Rattle.regblock.specs.MachineRuns.{IsMachineRun, IsToldUnfit, IsToldBreak};
 ghost use Rattle.regblock.specs.Drives.{IsDriven, IsToldScript};
 ghost use Rattle.regblock.specs.Generated.{IsSizedSource};
@@ -48,6 +49,20 @@ pub fn run<S: Shelf, O: Sink, E: Sink>(
         → IsToldVerilog (S.contents shelf.old) file (passage E.told E.faults err.old err.new) (passage O.told O.faults out.old out.new) }
     ensures bad_stimulus { (file table : List ℕ) → Asks (texts words.now) (sim file table) → result ≡ Status.BadStimulus
         → IsToldStimulus (S.contents shelf.old) file table (passage E.told E.faults err.old err.new) (passage O.told O.faults out.old out.new) }
+
+    // A dump that was written is that of the run of the module that the first file is, over the table that the second is.
+    ensures waved { (file table : List ℕ) → Asks (texts words.now) (vcd file table) → result ≡ Status.Done
+        → IsDumped (S.contents shelf.old) file table (passage E.told E.faults err.old err.new) (passage O.told O.faults out.old out.new) }
+    ensures waves_bad_verilog { (file table : List ℕ) → Asks (texts words.now) (vcd file table) → result ≡ Status.BadVerilog
+        → IsToldVerilog (S.contents shelf.old) file (passage E.told E.faults err.old err.new) (passage O.told O.faults out.old out.new) }
+    ensures waves_bad_stimulus { (file table : List ℕ) → Asks (texts words.now) (vcd file table) → result ≡ Status.BadStimulus
+        → IsToldStimulus (S.contents shelf.old) file table (passage E.told E.faults err.old err.new) (passage O.told O.faults out.old out.new) }
+
+    // A table that was written is that of the dump.
+    ensures read_back { (file : List ℕ) → Asks (texts words.now) (pins_of file) → result ≡ Status.Done
+        → IsPinTable (S.contents shelf.old) file (passage E.told E.faults err.old err.new) (passage O.told O.faults out.old out.new) }
+    ensures bad_vcd { (file : List ℕ) → Asks (texts words.now) (pins_of file) → result ≡ Status.BadVcd
+        → IsToldVcd (S.contents shelf.old) file (passage E.told E.faults err.old err.new) (passage O.told O.faults out.old out.new) }
 
     // A run that was written is that of the machine of the block that the source describes, which is what `sim` prints of its module.
     ensures ran { (waits : Option ℕ) (top : Option (List ℕ)) (file table : List ℕ) → Asks (texts words.now) (run_of waits top file table) → result ≡ Status.Done

@@ -1,2 +1,4 @@
+mod Dumps
 pub mod Rows
 mod Verdicts
+mod Writing

@@ -10,9 +10,13 @@ use Rattle.sim_run.specs.Simulated.{IsSimulated, IsProblem}
 use Rattle.v_syntax.specs.Failing.{Fails}
 use Rattle.v_syntax.specs.declared.error.VError.{VError}
 use Rattle.replies.specs.declared.status.Status.{Status}
-use Rattle.replies.specs.declared.status.Status.TheVariants.{Done, Refused, ReadFault, WriteFault, NoMemory, TooLong, BadVerilog, BadStimulus, Protocol, BadScript, Unmet}
-use Rattle.replies.specs.Text.{cannot_read, too_long, verilog_line, stimulus_line, protocol_line, script_line}
-use Rattle.command_line.specs.Words.{Command, check, compile, map_of, sim, run_of, drive_of, gen_of, waits_of}
+use Rattle.replies.specs.declared.status.Status.TheVariants.{Done, Refused, ReadFault, WriteFault, NoMemory, TooLong, BadVerilog, BadStimulus, Protocol, BadVcd, BadScript, Unmet}
+use Rattle.vcd_syntax.specs.Reading.{Fails as DumpFails, IsTable}
+use Rattle.vcd_syntax.specs.declared.error.VcdError.{VcdError}
+use Rattle.report_text.specs.Printed.{printed_run}
+use Rattle.rb_base.specs.declared.ports.Pin.{Pin}
+use Rattle.replies.specs.Text.{IsVcdLine, cannot_read, too_long, verilog_line, stimulus_line, protocol_line, script_line}
+use Rattle.command_line.specs.Words.{Command, check, compile, map_of, sim, vcd, pins_of, run_of, drive_of, gen_of, waits_of}
 use Rattle.rb_model.specs.declared.block.Block.{Block}
 use Rattle.rdl_tree.specs.declared.item.Source.{Source}
 use Rattle.replies.specs.Verdict.{IsDescribedWith}
@@ -139,6 +143,19 @@ pub IsDriveAnswer-bad : (b : Block) (file bytes : List ℕ) (error : DriveError)
 IsDriveAnswer-bad b file bytes error status texts is fails told =
     let P : Status → Type 0 = λ s. IsDriveAnswer b file bytes s texts in subst P (sym is) (error, fails, told)
 
+-- what the file of `pins` is, and what is wrong with it
+pub Judges-read_back : (file text : List ℕ) (pins : List Pin) (rows : List (List ℕ)) (status : Status) (texts : Texts)
+    → status ≡ Done → IsTable text pins rows → texts.out ≡ printed_run pins rows → texts.err ≡ [] → Judges (pins_of file) (text ∷ []) status texts
+Judges-read_back file text pins rows status texts is table printed quiet =
+    let P : Status → Type 0 = λ s. Judges (pins_of file) (text ∷ []) s texts in
+    subst P (sym is) (record { pins = pins; rows = rows; table = table; printed = printed; quiet = quiet })
+
+pub Judges-bad_vcd : (file text : List ℕ) (error : VcdError) (line : List ℕ) (status : Status) (texts : Texts)
+    → status ≡ BadVcd → DumpFails text error → IsVcdLine file text error line → IsNotice texts line → Judges (pins_of file) (text ∷ []) status texts
+Judges-bad_vcd file text error line status texts is fails named told =
+    let P : Status → Type 0 = λ s. Judges (pins_of file) (text ∷ []) s texts in
+    subst P (sym is) (record { error = error; line = line; fails = fails; is = named; told = told })
+
 -- the source that `gen` makes breaks a rule
 pub Judges-not_generated : (count : ℕ) (status : Status) (texts : Texts)
     → status ≡ Refused → IsRefused None (codes "gen") (source_of count) texts → Judges (gen_of count) [] status texts
@@ -152,6 +169,7 @@ is_judged Refused = true
 is_judged BadVerilog = true
 is_judged BadStimulus = true
 is_judged Protocol = true
+is_judged BadVcd = true
 is_judged BadScript = true
 is_judged Unmet = true
 is_judged _ = false
@@ -179,6 +197,18 @@ only_judged (sim file table) (a ∷ b ∷ []) BadVerilog texts j = refl
 only_judged (sim file table) (a ∷ b ∷ []) BadStimulus texts j = refl
 only_judged (sim file table) (a ∷ b ∷ []) _ texts j = absurd j
 only_judged (sim file table) (a ∷ b ∷ c ∷ more) status texts j = absurd j
+only_judged (vcd file table) [] status texts j = absurd j
+only_judged (vcd file table) (a ∷ []) status texts j = absurd j
+only_judged (vcd file table) (a ∷ b ∷ []) Done texts j = refl
+only_judged (vcd file table) (a ∷ b ∷ []) BadVerilog texts j = refl
+only_judged (vcd file table) (a ∷ b ∷ []) BadStimulus texts j = refl
+only_judged (vcd file table) (a ∷ b ∷ []) _ texts j = absurd j
+only_judged (vcd file table) (a ∷ b ∷ c ∷ more) status texts j = absurd j
+only_judged (pins_of file) [] status texts j = absurd j
+only_judged (pins_of file) (a ∷ []) Done texts j = refl
+only_judged (pins_of file) (a ∷ []) BadVcd texts j = refl
+only_judged (pins_of file) (a ∷ []) _ texts j = absurd j
+only_judged (pins_of file) (a ∷ b ∷ more) status texts j = absurd j
 only_judged (run_of waits top file table) [] status texts j = absurd j
 only_judged (run_of waits top file table) (a ∷ []) status texts j = absurd j
 only_judged (run_of waits top file table) (a ∷ b ∷ []) Done texts j = refl

@@ -10,12 +10,17 @@ use Rattle.rdl_tree.specs.declared.item.Source.{Source}
 use Rattle.rdl_verdict.specs.Verdict.{IsVerdict}
 use Rattle.report_text.specs.Lines.{address_lines}
 use Rattle.verdict_text.specs.Lines.{ok_line, rule_line, verdict_lines}
-use Rattle.command_line.specs.Words.{Command, check, compile, map_of, sim, run_of, drive_of, gen_of, waits_of, Asks, AsksNothing}
+use Rattle.command_line.specs.Words.{Command, check, compile, map_of, sim, vcd, pins_of, run_of, drive_of, gen_of, waits_of, Asks, AsksNothing}
 use Rattle.replies.specs.declared.status.Status.{Status}
-use Rattle.replies.specs.declared.status.Status.TheVariants.{Done, Refused, Usage, ReadFault, TooLong, BadVerilog, BadStimulus, Protocol, BadScript, Unmet}
-use Rattle.replies.specs.Text.{cannot_read, too_long, verilog_line, stimulus_line, protocol_line, script_line, usage}
+use Rattle.replies.specs.declared.status.Status.TheVariants.{Done, Refused, Usage, ReadFault, TooLong, BadVerilog, BadStimulus, Protocol, BadVcd, BadScript, Unmet}
+use Rattle.replies.specs.Text.{cannot_read, too_long, verilog_line, stimulus_line, protocol_line, script_line, IsVcdLine, usage}
 use Rattle.replies.specs.Verdict.{FailsFirst, IsDescribedWith}
 use Rattle.sim_run.specs.Simulated.{IsSimulated, IsProblem}
+use Rattle.wave_run.specs.Dumped.{IsWave}
+use Rattle.vcd_syntax.specs.Reading.{Fails as DumpFails, IsTable}
+use Rattle.vcd_syntax.specs.declared.error.VcdError.{VcdError}
+use Rattle.report_text.specs.Printed.{printed_run}
+use Rattle.rb_base.specs.declared.ports.Pin.{Pin}
 use Rattle.machine_run.specs.Runs.{IsRunOf, IsBreak}
 use Rattle.machine_run.specs.Runs as machine
 use Rattle.command_line.specs.Source.{source_of, summary_of}
@@ -48,12 +53,18 @@ source_limit = 8388608
 abbrev pub verilog_limit : ℕ
 verilog_limit = 67108864
 
+-- and a dump
+abbrev pub waves_limit : ℕ
+waves_limit = 67108864
+
 -- the files that a command names, in order, each with the most bytes that it may have
 abbrev pub files_of : Command → List (List ℕ × ℕ)
 files_of (compile waits top source) = (source, source_limit) ∷ []
 files_of (check top sources) = map (λ source. (source, source_limit)) sources
 files_of (map_of top source) = (source, source_limit) ∷ []
 files_of (sim verilog stimulus) = (verilog, verilog_limit) ∷ (stimulus, source_limit) ∷ []
+files_of (vcd verilog stimulus) = (verilog, verilog_limit) ∷ (stimulus, source_limit) ∷ []
+files_of (pins_of waves) = (waves, waves_limit) ∷ []
 files_of (run_of waits top source stimulus) = (source, source_limit) ∷ (stimulus, source_limit) ∷ []
 files_of (drive_of top source script) = (source, source_limit) ∷ (script, source_limit) ∷ []
 files_of (gen_of count) = []
@@ -128,6 +139,27 @@ pub record IsChecked (top : Option (List ℕ)) (files sources : List (List ℕ))
 pub record IsSimulation (verilog stimulus : List ℕ) (texts : Texts) : Type 0 where
   pub run : IsSimulated verilog stimulus texts.out
   pub quiet : texts.err ≡ []
+
+-- on out is the dump of the run of a module over a table
+pub record IsWaved (verilog stimulus : List ℕ) (texts : Texts) : Type 0 where
+  pub wave : IsWave verilog stimulus texts.out
+  pub quiet : texts.err ≡ []
+
+-- on out is the table of a dump
+pub record IsReadBack (text : List ℕ) (texts : Texts) : Type 0 where
+  pub pins : List Pin
+  pub rows : List (List ℕ)
+  pub table : IsTable text pins rows
+  pub printed : texts.out ≡ printed_run pins rows
+  pub quiet : texts.err ≡ []
+
+-- on err is the line of what is wrong with one
+pub record IsBadVcd (file text : List ℕ) (texts : Texts) : Type 0 where
+  pub error : VcdError
+  pub line : List ℕ
+  pub fails : DumpFails text error
+  pub is : IsVcdLine file text error line
+  pub told : IsNotice texts line
 
 -- on err is the line of what is wrong with a module
 pub record IsBadVerilog (file verilog : List ℕ) (texts : Texts) : Type 0 where
@@ -221,6 +253,11 @@ Judges (check top files) sources status texts = IsChecked top files sources stat
 Judges (sim file table) (verilog ∷ stimulus ∷ []) Done texts = IsSimulation verilog stimulus texts
 Judges (sim file table) (verilog ∷ stimulus ∷ []) BadVerilog texts = IsBadVerilog file verilog texts
 Judges (sim file table) (verilog ∷ stimulus ∷ []) BadStimulus texts = IsBadStimulus verilog table stimulus texts
+Judges (vcd file table) (verilog ∷ stimulus ∷ []) Done texts = IsWaved verilog stimulus texts
+Judges (vcd file table) (verilog ∷ stimulus ∷ []) BadVerilog texts = IsBadVerilog file verilog texts
+Judges (vcd file table) (verilog ∷ stimulus ∷ []) BadStimulus texts = IsBadStimulus verilog table stimulus texts
+Judges (pins_of file) (text ∷ []) Done texts = IsReadBack text texts
+Judges (pins_of file) (text ∷ []) BadVcd texts = IsBadVcd file text texts
 Judges (run_of waits top file table) (source ∷ stimulus ∷ []) Done texts = IsRan (waits_of waits) top source stimulus texts
 Judges (run_of waits top file table) (source ∷ stimulus ∷ []) Refused texts = IsRefused top file source texts
 Judges (run_of waits top file table) (source ∷ stimulus ∷ []) BadStimulus texts = IsUnfit (waits_of waits) top source table stimulus texts

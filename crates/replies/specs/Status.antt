@@ -1,6 +1,6 @@
 use Rattle.std.specs.Prelude.{ℕ}
 use Rattle.replies.specs.declared.status.Status.{Status}
-use Rattle.replies.specs.declared.status.Status.TheVariants.{Done, Refused, Usage, ReadFault, WriteFault, NoMemory, TooLong, BadVerilog, BadStimulus, Protocol, BadScript, Unmet}
+use Rattle.replies.specs.declared.status.Status.TheVariants.{Done, Refused, Usage, ReadFault, WriteFault, NoMemory, TooLong, BadVerilog, BadStimulus, Protocol, BadVcd, BadScript, Unmet}
 
 -- the exit status
 abbrev pub number_of : Status → ℕ
@@ -14,5 +14,6 @@ number_of TooLong = 6
 number_of BadVerilog = 7
 number_of BadStimulus = 8
 number_of Protocol = 9
+number_of BadVcd = 10
 number_of BadScript = 11
 number_of Unmet = 12

@@ -1,6 +1,6 @@
-//! What a command line is answered: a status, a text for err, and a text or a netlist for out.
+//! What a command line is answered: a status, a text for err, and a text, a netlist or a run for out.
 
-ghost use Rattle.std.specs.Prelude.{◌≡◌, ◌⊎◌, [], IfOk};
+ghost use Rattle.std.specs.Prelude.{◌≡◌, ◌⊎◌, ℕ, List, [], IfOk};
 ghost use Rattle.verdict_text.specs.Lines.{file_line};
 ghost use Rattle.replies.specs.Text.{too_long, usage};
 ghost use Rattle.replies.specs.Ends.{TookAll, IsCutShort, passage};
@@ -11,6 +11,7 @@ use rb_edge::{Failed, Sink, write_all};
 use rtl_net::Netlist;
 use std::alloc::Global;
 use v_printer::print;
+use wave_run::WaveRun;
 
 /// What a run is to write, and how it is to end.
 #[derive(Drop)]
@@ -20,11 +21,12 @@ pub struct Answer {
     pub(crate) out: Vec<u8>,
 }
 
-/// An answer, or the netlist whose module is to stand on out, written as it is printed.
+/// An answer, or the netlist whose module or the run whose dump is to stand on out, written as it is printed.
 #[derive(Drop)]
 pub enum Reply {
     Text(Answer),
     Module(Netlist),
+    Dump(WaveRun),
 }
 
 ghost use Rattle.replies.specs.Answer.{texts_of};
@@ -95,15 +97,19 @@ impl Answer {
 
 impl Reply {
     /// Writes the text for err and then that for out. It takes no memory.
-    pub fn write<O: Sink, E: Sink>(&self, out: &mut O, err: &mut E) -> Status
-        requires { IsPrintable self.now }
-        ensures text { HasText self.now }
-        ensures written { ((result ≡ status_of self.now) × TookAll (passage E.told E.faults err.old err.new) (told_by self.now).err × TookAll (passage O.told O.faults out.old out.new) (told_by self.now).out)
-            ⊎ ((result ≡ Status.WriteFault) × IsCutShort (passage E.told E.faults err.old err.new) (passage O.told O.faults out.old out.new) (told_by self.now)) }
+    pub fn write<O: Sink, E: Sink>(self, out: &mut O, err: &mut E) -> Status
+        requires { IsPrintable self }
+        ensures { (dump : List ℕ) × HasText self dump
+            × (((result ≡ status_of self) × TookAll (passage E.told E.faults err.old err.new) (told_by self dump).err × TookAll (passage O.told O.faults out.old out.new) (told_by self dump).out)
+            ⊎ ((result ≡ Status.WriteFault) × IsCutShort (passage E.told E.faults err.old err.new) (passage O.told O.faults out.old out.new) (told_by self dump))) }
     {
         match self {
             Reply::Text(answer) => answer.write(out, err),
-            Reply::Module(net) => match print(net, out) {
+            Reply::Module(net) => match print(&net, out) {
+                Ok(()) => Status::Done,
+                Err(Failed) => Status::WriteFault,
+            },
+            Reply::Dump(mut run) => match run.write(out) {
                 Ok(()) => Status::Done,
                 Err(Failed) => Status::WriteFault,
             },

@@ -10,8 +10,10 @@ use crate::checking::check_files;
 use crate::compiling::{compile_file, map_file};
 use crate::driving::drive_files;
 use crate::generating::generate;
+use crate::reading::read_file;
 use crate::running::run_files;
 use crate::simulating::simulate_files;
+use crate::waving::dump_files;
 use command_line::{Command, command_of};
 use rb_base::NoMemory;
 use rb_edge::Shelf;
@@ -23,7 +25,7 @@ pub fn answer_words<S: Shelf>(
     words: &[String],
     shelf: &mut S,
 ) -> Result<Reply, NoMemory>
-    ensures outcome { IfOk result (λ reply. HasText reply → Outcome (texts words.now) (S.contents shelf.old) (FailedRead S.faults shelf.old shelf.new) (status_of reply) (told_by reply)) }
+    ensures outcome { IfOk result (λ reply. (dump : List ℕ) → HasText reply dump → Outcome (texts words.now) (S.contents shelf.old) (FailedRead S.faults shelf.old shelf.new) (status_of reply) (told_by reply dump)) }
     ensures printable { IfOk result IsPrintable }
     ensures unchanged { S.contents shelf.new ≡ S.contents shelf.old }
     ensures later { (any : List ℕ) → S.faults shelf.old any ≤ S.faults shelf.new any }
@@ -40,6 +42,10 @@ pub fn answer_words<S: Shelf>(
         Some(Command::Sim { verilog, stimulus }) => {
             Ok(Reply::Text(simulate_files(alloc, shelf, verilog, stimulus)?))
         }
+        Some(Command::Vcd { verilog, stimulus }) => {
+            Ok(dump_files(alloc, shelf, verilog, stimulus)?)
+        }
+        Some(Command::Pins { waves }) => Ok(Reply::Text(read_file(alloc, shelf, waves)?)),
         Some(
             Command::Run {
                 waits,

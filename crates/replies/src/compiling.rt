@@ -25,7 +25,7 @@ fn compile_source(
 ) -> Result<Reply, NoMemory>
     requires short { length source.now ≤ source_limit }
     requires waits { IsWaits waits }
-    ensures judged { IfOk result (λ reply. HasText reply → Judges (compile waits (option_copied top.entry) file.now) (source.now ∷ []) (status_of reply) (told_by reply)) }
+    ensures judged { IfOk result (λ reply. (dump : List ℕ) → HasText reply dump → Judges (compile waits (option_copied top.entry) file.now) (source.now ∷ []) (status_of reply) (told_by reply dump)) }
     ensures printable { IfOk result IsPrintable }
 {
     match describe_source(alloc, waits, top, file, source)? {
@@ -65,7 +65,7 @@ pub(crate) fn compile_file<S: Shelf>(
     file: &str,
 ) -> Result<Reply, NoMemory>
     requires { IsWaits waits }
-    ensures answers { IfOk result (λ reply. HasText reply → Answers (S.contents shelf.old) (FailedRead S.faults shelf.old shelf.new) (compile waits (option_copied top.entry) file.now) (status_of reply) (told_by reply)) }
+    ensures answers { IfOk result (λ reply. (dump : List ℕ) → HasText reply dump → Answers (S.contents shelf.old) (FailedRead S.faults shelf.old shelf.new) (compile waits (option_copied top.entry) file.now) (status_of reply) (told_by reply dump)) }
     ensures printable { IfOk result IsPrintable }
     ensures unchanged { S.contents shelf.new ≡ S.contents shelf.old }
     ensures later { (any : List ℕ) → S.faults shelf.old any ≤ S.faults shelf.new any }

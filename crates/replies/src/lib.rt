@@ -1,4 +1,4 @@
-//! What a command line is answered: a status, and texts or a module for the sinks. Files are read, and nothing is written yet.
+//! What a command line is answered: a status, and texts, a module or a run for the sinks. Files are read, and nothing is written yet.
 #![tactic(auto)]
 
 mod answer;
@@ -11,9 +11,11 @@ mod generating;
 mod loading;
 mod modules;
 mod places;
+mod reading;
 mod running;
 mod simulating;
 mod status;
+mod waving;
 
 pub use answer::{Answer, Reply};
 pub use commands::answer_words;

@@ -16,6 +16,9 @@ pub(crate) const SOURCE_LIMIT: u32 = 8_388_608;
 /// The most bytes that a module may have.
 pub(crate) const VERILOG_LIMIT: u32 = 67_108_864;
 
+/// The most bytes that a dump may have.
+pub(crate) const WAVES_LIMIT: u32 = 67_108_864;
+
 /// The bytes of a file, or the answer where it can't be read or is too long.
 #[derive(Drop)]
 pub(crate) enum Loaded {

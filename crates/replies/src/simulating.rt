@@ -50,8 +50,13 @@ fn place_of(error: VError) -> Place
     }
 }
 
-// The line of what is wrong with a module.
-fn bad_verilog(alloc: Global, file: &str, verilog: &[u8], error: VError) -> Result<Answer, NoMemory>
+/// The line of what is wrong with a module.
+pub(crate) fn bad_verilog(
+    alloc: Global,
+    file: &str,
+    verilog: &[u8],
+    error: VError,
+) -> Result<Answer, NoMemory>
     requires short { length verilog.now ≤ verilog_limit }
     requires within { place_number error ≤ length verilog.now }
     ensures status { IfOk result (λ answer. answer.status ≡ Status.BadVerilog) }

@@ -23,6 +23,8 @@ pub enum Status {
     BadStimulus,
     /// A row of pin values breaks the bus protocol.
     Protocol,
+    /// A file is no value change dump that has a table.
+    BadVcd,
     /// A file is no script for the block of a source.
     BadScript,
     /// A check of a script failed. What the script saw is on out, and nothing on err.
@@ -32,7 +34,7 @@ pub enum Status {
 impl Status {
     ghost use Rattle.replies.specs.Status.{number_of};
 
-    /// The exit status of the process, 0 to 9, 11 or 12. It takes no memory.
+    /// The exit status of the process, 0 to 12. It takes no memory.
     pub fn number(self) -> u8
         ensures { result ≡ number_of self }
     {
@@ -47,6 +49,7 @@ impl Status {
             Status::BadVerilog => 7,
             Status::BadStimulus => 8,
             Status::Protocol => 9,
+            Status::BadVcd => 10,
             Status::BadScript => 11,
             Status::Unmet => 12,
         }

@@ -1,2 +1,2 @@
-mod Runs
-mod Tables
+pub mod Runs
+pub mod Tables

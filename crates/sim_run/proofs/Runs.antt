@@ -13,19 +13,19 @@ use Rattle.report_text.specs.Printed.{line, cell, printed_run}
 use Rattle.sim_run.specs.Simulated.{zeros, IsRunText}
 
 -- a run to contents
-abbrev RunsTo : Module → Values → List (List ℕ) → List (List ℕ) → Values → Type 0
+abbrev pub RunsTo : Module → Values → List (List ℕ) → List (List ℕ) → Values → Type 0
 RunsTo m c [] [] d = c ≡ d
 RunsTo m c (x ∷ xs) (o ∷ os) d = (after : Values) × Edge m c x o after × RunsTo m after xs os d
 RunsTo m c _ _ d = ⊥
 
 -- one more vector
-runs_more : (m : Module) (c d e : Values) (xs os : List (List ℕ)) (x o : List ℕ) → RunsTo m c xs os d → Edge m d x o e → RunsTo m c (xs ++ x ∷ []) (os ++ o ∷ []) e
+pub runs_more : (m : Module) (c d e : Values) (xs os : List (List ℕ)) (x o : List ℕ) → RunsTo m c xs os d → Edge m d x o e → RunsTo m c (xs ++ x ∷ []) (os ++ o ∷ []) e
 runs_more m c d e [] [] x o r edge = (e, subst (λ z. Edge m z x o e) (sym r) edge, refl)
 runs_more m c d e (y ∷ ys) (p ∷ ps) x o r edge = (r.0, r.1, runs_more m r.0 d e ys ps x o r.2 edge)
 runs_more m c d e [] (p ∷ ps) x o r edge = absurd r
 runs_more m c d e (y ∷ ys) [] x o r edge = absurd r
 
-run_of : (m : Module) (c d : Values) (xs os : List (List ℕ)) → RunsTo m c xs os d → Run m c xs os
+pub run_of : (m : Module) (c d : Values) (xs os : List (List ℕ)) → RunsTo m c xs os d → Run m c xs os
 run_of m c d [] [] r = tt
 run_of m c d (x ∷ xs) (o ∷ os) r = (r.0, r.1, run_of m r.0 d xs os r.2)
 run_of m c d [] (o ∷ os) r = absurd r

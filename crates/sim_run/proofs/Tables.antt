@@ -24,7 +24,7 @@ use Rattle.stim_csv.specs.declared.error.StimError.{StimError}
 use Rattle.stim_csv.proofs.Fitting.{vectors_fit}
 use Rattle.v_reader.specs.Reading.{IsDesign}
 use Rattle.report_text.specs.Problems.{problem_text}
-use Rattle.sim_run.specs.Simulated.{zeros, IsModule, IsSimulated, IsProblem, IsRunText}
+use Rattle.sim_run.specs.Simulated.{zeros, IsModule, IsReady, IsSimulated, IsProblem, IsRunText}
 
 output_step : (b : Bool) (p : Port) (ps : List Port) → is_output p ≡ b → length (outputs_among ps) ≤ length ps → length (outputs_among (p ∷ ps)) ≤ suc (length ps)
 output_step true p ps e l = rw e (omega (arith, l))
@@ -94,3 +94,7 @@ zeros_fit (p ∷ ps) = (pow_pos p.width, zeros_fit ps)
 pub zeros_are : (ps : List Pin) → replicate (length ps) 0 ≡ values_at zeros ps
 zeros_are [] = refl
 zeros_are (p ∷ ps) = ap (λ xs. 0 ∷ xs) (zeros_are ps)
+
+pub is_ready : (bytes : List ℕ) (d : Design) (stimulus : List ℕ) (vectors : List (List ℕ)) → IsDesign bytes d
+    → table_of (inputs (module_seen d)) (length (outputs (module_seen d))) (records_of stimulus) ≡ Ok vectors → IsReady bytes stimulus (module_seen d) vectors
+is_ready bytes d stimulus vectors h e = record { is_module = is_module bytes d h; table = e; fit = tables_fit bytes d stimulus vectors h e }

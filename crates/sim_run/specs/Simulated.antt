@@ -5,6 +5,7 @@ use Rattle.v_design.specs.Tree.{Tree, IsTree}
 use Rattle.v_design.specs.WellFormed.{IsWellFormed}
 use Rattle.v_design.specs.Design.{Module, module_of, inputs, outputs}
 use Rattle.v_design.specs.Run.{Run}
+use Rattle.v_design.specs.Fits.{AllFit}
 use Rattle.stim_csv.specs.PinTable.{table_of, records_of}
 use Rattle.stim_csv.specs.declared.error.StimError.{StimError}
 use Rattle.v_syntax.specs.Failing.{Fails}
@@ -30,6 +31,12 @@ pub record IsModule (verilog : List ℕ) (m : Module) : Type 0 where
   pub is_tree : IsTree verilog tree
   pub well_formed : IsWellFormed tree
   pub is : m ≡ module_of tree
+
+-- the first bytes are this module, and the second a table of these vectors, which fit its inputs
+pub record IsReady (verilog stimulus : List ℕ) (m : Module) (vectors : List (List ℕ)) : Type 0 where
+  pub is_module : IsModule verilog m
+  pub table : table_of (inputs m) (length (outputs m)) (records_of stimulus) ≡ Ok vectors
+  pub fit : AllFit (inputs m) vectors
 
 -- the text is the run of the module that the first bytes are, over the table that the second ones are
 pub record IsSimulated (verilog stimulus text : List ℕ) : Type 0 where

@@ -6,7 +6,7 @@ ghost use Rattle.v_design.specs.Seen.{module_seen};
 ghost use Rattle.stim_csv.specs.PinTable.{table_of, records_of};
 ghost use Rattle.v_reader.specs.Reading.{IsDesign};
 ghost use Rattle.report_text.specs.Problems.{problem_text as problem_words};
-ghost use Rattle.sim_run.specs.Simulated.{IsSimulated, IsProblem, Prevents};
+ghost use Rattle.sim_run.specs.Simulated.{IsReady, IsSimulated, IsProblem, Prevents};
 
 use crate::error::SimError;
 use crate::running::module_run;
@@ -17,11 +17,19 @@ use v_design::Design;
 use v_reader::read;
 use v_syntax::VError;
 
-/// The run of a module from zeros over a table of pin values, as text: the names of its outputs as a line, and a line of
-/// numbers for each vector. The bytes of the module are fewer than 2^32 - 1. After want of memory there is no text.
-pub fn simulate(alloc: Global, verilog: &[u8], stimulus: &[u8]) -> Result<Vec<u8>, SimError>
+/// A module that was read, and a table of values for its inputs.
+#[derive(Drop)]
+pub struct ReadyRun {
+    pub design: Design,
+    pub table: Stimulus,
+}
+
+/// The module of these bytes, fewer than 2^32 - 1, and the table of the others for its inputs. [`SimError::Verilog`] comes
+/// exactly where the first are no well-formed module, and [`SimError::Stimulus`] where they are one and the others are no
+/// table for it.
+pub fn ready(alloc: Global, verilog: &[u8], stimulus: &[u8]) -> Result<ReadyRun, SimError>
     requires { length verilog.now < 2 ^ 32 - 1 }
-    ensures ok { IfOk result (λ text. IsSimulated verilog.now stimulus.now text.items) }
+    ensures ok { IfOk result (λ r. IsReady verilog.now stimulus.now (module_seen r.design) r.table) }
     ensures err { IfErr result (Prevents verilog.now stimulus.now) }
 {
     let design = match read(alloc, verilog) {
@@ -29,11 +37,24 @@ pub fn simulate(alloc: Global, verilog: &[u8], stimulus: &[u8]) -> Result<Vec<u8
         Err(VError::NoMemory) => return Err(SimError::NoMemory),
         Err(error) => return Err(SimError::Verilog(error)),
     };
-    let table = match table(alloc, verilog, &design, stimulus) {
-        Ok(table) => table,
+    match table(alloc, verilog, &design, stimulus) {
+        Ok(table) => Ok(ReadyRun { design, table }),
+        Err(error) => Err(error),
+    }
+}
+
+/// The run of a module from zeros over a table of pin values, as text: the names of its outputs as a line, and a line of
+/// numbers for each vector. The bytes of the module are fewer than 2^32 - 1. After want of memory there is no text.
+pub fn simulate(alloc: Global, verilog: &[u8], stimulus: &[u8]) -> Result<Vec<u8>, SimError>
+    requires { length verilog.now < 2 ^ 32 - 1 }
+    ensures ok { IfOk result (λ text. IsSimulated verilog.now stimulus.now text.items) }
+    ensures err { IfErr result (Prevents verilog.now stimulus.now) }
+{
+    let run = match ready(alloc, verilog, stimulus) {
+        Ok(run) => run,
         Err(error) => return Err(error),
     };
-    match module_run(alloc, &design, &table) {
+    match module_run(alloc, &run.design, &run.table) {
         Ok(text) => Ok(text),
         Err(_) => Err(SimError::NoMemory),
     }

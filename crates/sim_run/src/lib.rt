@@ -5,5 +5,5 @@ mod answer;
 mod error;
 mod running;
 
-pub use answer::simulate;
+pub use answer::{ReadyRun, ready, simulate};
 pub use error::SimError;

@@ -4,12 +4,13 @@ use Rattle.regblock.proofs.Causes.{usage_cause, read_fault_cause, too_long_cause
 use Rattle.regblock.proofs.Headlines.{checked, done, mapped, refused, unmapped}
 use Rattle.v_reader.proofs.Verdicts.{no_module}
 use Rattle.regblock.proofs.Simulations.{simulated, bad_verilog, bad_stimulus}
+use Rattle.regblock.proofs.Waves.{bad_vcd, read_back, waved, waves_bad_stimulus, waves_bad_verilog}
 use Rattle.regblock.proofs.Drives.{bad_script, driven, undriven, unmet}
 use Rattle.regblock.proofs.MachineRuns.{ran, not_run, unfit, protocol, generated}
 use Rattle.regblock.proofs.top_call.run.Goals as goal
 
 pub returns-in-Ok-clause-ends : goal.returns-in-Ok-clause-ends
-returns-in-Ok-clause-ends g c = Ends-written _ _ _ _ _ _ _ _ (c.in-Ok.ensures.outcome c.write.ensures.text) c.write.ensures.written
+returns-in-Ok-clause-ends g c = let w = c.write.ensures in Ends-written _ _ _ _ _ _ _ _ (c.in-Ok.ensures.outcome w.0 w.1) w.2
 
 pub returns-in-Ok-clause-done : goal.returns-in-Ok-clause-done
 returns-in-Ok-clause-done g c = done _ _ _ _ _ _ (returns-in-Ok-clause-ends g c)
@@ -40,6 +41,21 @@ returns-in-Ok-clause-bad_verilog g c = bad_verilog _ _ _ _ _ _ (returns-in-Ok-cl
 
 pub returns-in-Ok-clause-bad_stimulus : goal.returns-in-Ok-clause-bad_stimulus
 returns-in-Ok-clause-bad_stimulus g c = bad_stimulus _ _ _ _ _ _ (returns-in-Ok-clause-ends g c)
+
+pub returns-in-Ok-clause-waved : goal.returns-in-Ok-clause-waved
+returns-in-Ok-clause-waved g c = waved _ _ _ _ _ _ (returns-in-Ok-clause-ends g c)
+
+pub returns-in-Ok-clause-waves_bad_verilog : goal.returns-in-Ok-clause-waves_bad_verilog
+returns-in-Ok-clause-waves_bad_verilog g c = waves_bad_verilog _ _ _ _ _ _ (returns-in-Ok-clause-ends g c)
+
+pub returns-in-Ok-clause-waves_bad_stimulus : goal.returns-in-Ok-clause-waves_bad_stimulus
+returns-in-Ok-clause-waves_bad_stimulus g c = waves_bad_stimulus _ _ _ _ _ _ (returns-in-Ok-clause-ends g c)
+
+pub returns-in-Ok-clause-read_back : goal.returns-in-Ok-clause-read_back
+returns-in-Ok-clause-read_back g c = read_back _ _ _ _ _ _ (returns-in-Ok-clause-ends g c)
+
+pub returns-in-Ok-clause-bad_vcd : goal.returns-in-Ok-clause-bad_vcd
+returns-in-Ok-clause-bad_vcd g c = bad_vcd _ _ _ _ _ _ (returns-in-Ok-clause-ends g c)
 
 pub returns-in-Ok-clause-mapped : goal.returns-in-Ok-clause-mapped
 returns-in-Ok-clause-mapped g c = mapped _ _ _ _ _ _ (returns-in-Ok-clause-ends g c)
