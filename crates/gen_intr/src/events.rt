@@ -6,7 +6,7 @@ ghost use Rattle.rtl_net.specs.Net.{Grows, IsNode, Has, Stands, MayHave, seen_or
 ghost use Rattle.rb_model.specs.Effects as spec;
 
 use net_gates::{choose, differ, flipped, meet, merged, nonzero, present};
-use rb_base::{Edge, NoMemory};
+use rb_base::{NoMemory, Trigger};
 use rb_model::Latch;
 use rtl_net::{Id, Netlist};
 
@@ -26,29 +26,29 @@ fn without(net: &mut Netlist, a: Id, b: Id) -> Result<Id, NoMemory>
 
 /// The events at an interrupt's input, where `last` is the input before.
 #[tactic(auto, using(rtl_net::proofs::Nets::building))]
-fn events(net: &mut Netlist, edge: Edge, pin: Id, last: Option<Id>) -> Result<Id, NoMemory>
+fn events(net: &mut Netlist, trigger: Trigger, pin: Id, last: Option<Id>) -> Result<Id, NoMemory>
     requires pin { Has net.old pin }
     requires last { MayHave net.old last (width_in net.old pin) }
     ensures older { Grows net.old net.new }
     ensures name { net.new.name ≡ net.old.name }
     ensures node { IfOk result (λ id. IsNode net.new id (width_in net.old pin) (λ x.
-        spec.events edge (width_in net.old pin) (x.node pin.0) (seen_or_zero x last))) }
+        spec.events trigger (width_in net.old pin) (x.node pin.0) (seen_or_zero x last))) }
 {
     let width = net.width(pin);
-    match edge {
-        Edge::Level | Edge::Nonsticky => Ok(pin),
-        Edge::Posedge => {
+    match trigger {
+        Trigger::Level | Trigger::Nonsticky => Ok(pin),
+        Trigger::Posedge => {
             let before = present(net, last, width)?;
             let id = without(net, pin, before)?;
             Ok(id)
         }
-        Edge::Negedge => {
+        Trigger::Negedge => {
             let before = present(net, last, width)?;
             let turned = flipped(net, pin)?;
             let id = meet(net, turned, before)?;
             Ok(id)
         }
-        Edge::Bothedge => {
+        Trigger::Bothedge => {
             let before = present(net, last, width)?;
             let id = differ(net, pin, before)?;
             Ok(id)
@@ -76,13 +76,13 @@ pub fn latch(
 {
     match how {
         Latch::Off | Latch::Plain => Ok(v),
-        Latch::Bits(edge) => {
-            let new = events(net, edge, pin, last)?;
+        Latch::Bits(trigger) => {
+            let new = events(net, trigger, pin, last)?;
             let id = merged(net, v, new)?;
             Ok(id)
         }
-        Latch::Whole(edge) => {
-            let new = events(net, edge, pin, last)?;
+        Latch::Whole(trigger) => {
+            let new = events(net, trigger, pin, last)?;
             let some = nonzero(net, v)?;
             let id = choose(net, some, v, new)?;
             Ok(id)

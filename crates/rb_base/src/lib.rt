@@ -2,7 +2,6 @@
 #![tactic(auto)]
 
 mod bits;
-mod edge;
 mod hex;
 mod laws;
 mod lines;
@@ -10,9 +9,9 @@ mod memory;
 mod place;
 mod ports;
 mod text;
+mod trigger;
 
 pub use bits::{ones, part, put};
-pub use edge::Edge;
 pub use hex::hex_digits;
 pub use laws::{bits_of_part, bits_of_put};
 pub use lines::line_column;
@@ -20,3 +19,4 @@ pub use memory::NoMemory;
 pub use place::Place;
 pub use ports::{Dir, Pin, Port};
 pub use text::{Text, copy_of};
+pub use trigger::Trigger;

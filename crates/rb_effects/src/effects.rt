@@ -5,7 +5,7 @@ ghost use Rattle.rb_model.specs.Effects as spec;
 ghost use Rattle.rb_model.specs.Kept as kept_spec;
 ghost use Rattle.rb_model.specs.Items as items_spec;
 
-use rb_base::Edge;
+use rb_base::Trigger;
 use rb_model::{Class, Field, Gate, Latch, Mask, OnRead, OnWrite, View};
 
 /// The greatest number of so many bits.
@@ -218,16 +218,16 @@ pub fn underflows(value: u64, up: u64, down: u64) -> u64
 }
 
 /// The events at an interrupt's input (9.9).
-fn events(edge: Edge, width: u8, input: u64, last: u64) -> u64
+fn events(trigger: Trigger, width: u8, input: u64, last: u64) -> u64
     requires { width ≤ 64 }
-    ensures { result ≡ spec.events edge width input last }
+    ensures { result ≡ spec.events trigger width input last }
 {
-    match edge {
-        Edge::Level => input,
-        Edge::Posedge => input & turned(width, last),
-        Edge::Negedge => turned(width, input) & last,
-        Edge::Bothedge => input ^ last,
-        Edge::Nonsticky => input,
+    match trigger {
+        Trigger::Level => input,
+        Trigger::Posedge => input & turned(width, last),
+        Trigger::Negedge => turned(width, input) & last,
+        Trigger::Bothedge => input ^ last,
+        Trigger::Nonsticky => input,
     }
 }
 
@@ -238,10 +238,10 @@ pub fn latched(latch: Latch, width: u8, value: u64, input: u64, last: u64) -> u6
 {
     match latch {
         Latch::Off => value,
-        Latch::Bits(edge) => value | events(edge, width, input, last),
-        Latch::Whole(edge) => {
+        Latch::Bits(trigger) => value | events(trigger, width, input, last),
+        Latch::Whole(trigger) => {
             if value == 0 {
-                events(edge, width, input, last)
+                events(trigger, width, input, last)
             } else {
                 value
             }
@@ -332,15 +332,15 @@ pub fn is_storage(class: Class) -> bool
 }
 
 /// Whether events are told from the input before.
-fn has_edge(edge: Edge) -> bool
-    ensures { result ≡ kept_spec.has_edge edge }
+fn waits_for_change(trigger: Trigger) -> bool
+    ensures { result ≡ kept_spec.waits_for_change trigger }
 {
-    match edge {
-        Edge::Level => false,
-        Edge::Posedge => true,
-        Edge::Negedge => true,
-        Edge::Bothedge => true,
-        Edge::Nonsticky => false,
+    match trigger {
+        Trigger::Level => false,
+        Trigger::Posedge => true,
+        Trigger::Negedge => true,
+        Trigger::Bothedge => true,
+        Trigger::Nonsticky => false,
     }
 }
 
@@ -350,8 +350,8 @@ pub fn keeps_last(latch: Latch) -> bool
 {
     match latch {
         Latch::Off => false,
-        Latch::Bits(edge) => has_edge(edge),
-        Latch::Whole(edge) => has_edge(edge),
+        Latch::Bits(trigger) => waits_for_change(trigger),
+        Latch::Whole(trigger) => waits_for_change(trigger),
         Latch::Plain => false,
     }
 }

@@ -3,8 +3,8 @@ use Rattle.std.proofs.Common.{◌≡◌, ℕ, zero, suc, ◌+◌, ◌-◌, ◌^�
 use Rattle.std.proofs.lemmas.Nat.{and_le_l, and_le_r, or_lt, xor_lt}
 use Rattle.std.proofs.Math.Pow.{pow_pos}
 use Rattle.rb_base.specs.Bits.{ones, part}
-use Rattle.rb_base.specs.declared.edge.Edge.{Edge}
-use Rattle.rb_base.specs.declared.edge.Edge.TheVariants as edge
+use Rattle.rb_base.specs.declared.trigger.Trigger.{Trigger}
+use Rattle.rb_base.specs.declared.trigger.Trigger.TheVariants as trigger
 use Rattle.rb_model.specs.declared.kinds.OnWrite.{OnWrite}
 use Rattle.rb_model.specs.declared.kinds.OnWrite.TheVariants as on_write
 use Rattle.rb_model.specs.declared.kinds.OnRead.{OnRead}
@@ -69,12 +69,12 @@ counted-below w v up down high low h l = if_below w (is_over v up down high) (un
     level None g = zero_below w
     level (Some x) g = g
 
-pub events-below : (e : Edge) (w input last : ℕ) → input < 2 ^ w → last < 2 ^ w → events e w input last < 2 ^ w
-events-below edge.Level w input last h g = h
-events-below edge.Posedge w input last h g = and_below w input (turned w last) h
-events-below edge.Negedge w input last h g = and_below w (turned w input) last (turned_below w input)
-events-below edge.Bothedge w input last h g = xor_lt w input last h g
-events-below edge.Nonsticky w input last h g = h
+pub events-below : (e : Trigger) (w input last : ℕ) → input < 2 ^ w → last < 2 ^ w → events e w input last < 2 ^ w
+events-below trigger.Level w input last h g = h
+events-below trigger.Posedge w input last h g = and_below w input (turned w last) h
+events-below trigger.Negedge w input last h g = and_below w (turned w input) last (turned_below w input)
+events-below trigger.Bothedge w input last h g = xor_lt w input last h g
+events-below trigger.Nonsticky w input last h g = h
 
 pub latched-below : (l : Latch) (w v input last : ℕ) → v < 2 ^ w → input < 2 ^ w → last < 2 ^ w → latched l w v input last < 2 ^ w
 latched-below latch.Off w v input last h i g = h

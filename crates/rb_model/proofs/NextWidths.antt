@@ -12,8 +12,8 @@ use Rattle.v_design.specs.Expr.{bit_of}
 use Rattle.rb_model.specs.declared.kinds.RefItem.TheVariants as item
 use Rattle.rb_model.specs.declared.kinds.Latch.{Latch}
 use Rattle.rb_model.specs.declared.kinds.Latch.TheVariants as latch
-use Rattle.rb_base.specs.declared.edge.Edge.{Edge}
-use Rattle.rb_base.specs.declared.edge.Edge.TheVariants as edge
+use Rattle.rb_base.specs.declared.trigger.Trigger.{Trigger}
+use Rattle.rb_base.specs.declared.trigger.Trigger.TheVariants as trigger
 use Rattle.rb_model.specs.declared.kinds.Level.{Level}
 use Rattle.rb_model.specs.declared.kinds.Level.TheVariants as level
 use Rattle.rb_model.specs.declared.kinds.Amount.{Amount}
@@ -25,7 +25,7 @@ use Rattle.rb_model.specs.declared.block.Field.{Field}
 use Rattle.rb_model.specs.declared.block.View.{View}
 use Rattle.rb_model.specs.declared.block.Slot.{Slot}
 use Rattle.rb_model.specs.declared.block.Word.{Word}
-use Rattle.rb_model.specs.Kept.{Kept, Val, Last, Done, Waited, Data, Error, Map, when, of_field, is_storage, keeps_last, has_edge, kept, kept_of, has_wait, register_width, Fits}
+use Rattle.rb_model.specs.Kept.{Kept, Val, Last, Done, Waited, Data, Error, Map, when, of_field, is_storage, keeps_last, waits_for_change, kept, kept_of, has_wait, register_width, Fits}
 use Rattle.rb_model.specs.Ports.{input_pins}
 use Rattle.rb_model.specs.Effects.{loaded, counted, events, latched, finished, after_read, after_write}
 use Rattle.rb_model.specs.Items.{Access, NoAccess, Read, Write, Now, ItemValues, AreItemValues, items, source_value, gated, fed, mask_value, level_value, amount_value, step, up, down, slots_of}
@@ -96,12 +96,12 @@ module _ (b : Block) (sound : IsSound b) (n : Now) (fits : Fits b n.kept) (pins 
       last : keeps_last f.latch ≡ true → n.kept (Last k) < 2 ^ f.width
       last t = last_fits b n.kept fits k f e t
 
-      event : (g : Edge) → (has_edge g ≡ true → n.kept (Last k) < 2 ^ f.width) → events g f.width (source_value n v f) (n.kept (Last k)) < 2 ^ f.width
-      event edge.Level l = input
-      event edge.Posedge l = events-below edge.Posedge f.width (source_value n v f) (n.kept (Last k)) input (l refl)
-      event edge.Negedge l = events-below edge.Negedge f.width (source_value n v f) (n.kept (Last k)) input (l refl)
-      event edge.Bothedge l = events-below edge.Bothedge f.width (source_value n v f) (n.kept (Last k)) input (l refl)
-      event edge.Nonsticky l = input
+      event : (g : Trigger) → (waits_for_change g ≡ true → n.kept (Last k) < 2 ^ f.width) → events g f.width (source_value n v f) (n.kept (Last k)) < 2 ^ f.width
+      event trigger.Level l = input
+      event trigger.Posedge l = events-below trigger.Posedge f.width (source_value n v f) (n.kept (Last k)) input (l refl)
+      event trigger.Negedge l = events-below trigger.Negedge f.width (source_value n v f) (n.kept (Last k)) input (l refl)
+      event trigger.Bothedge l = events-below trigger.Bothedge f.width (source_value n v f) (n.kept (Last k)) input (l refl)
+      event trigger.Nonsticky l = input
 
       by : (l : Latch) → f.latch ≡ l → latched l f.width x (source_value n v f) (n.kept (Last k)) < 2 ^ f.width
       by latch.Off q = h

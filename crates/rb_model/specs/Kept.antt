@@ -3,8 +3,8 @@ use Rattle.std.specs.Prelude.{ℕ, ◌^◌, ◌<◌, ◌==◌, Bool, true, false
 use Rattle.std.specs.List.{enumerate_from, flat_map}
 use Rattle.std.specs.Option.{option_map_or}
 use Rattle.rb_base.specs.declared.ports.Pin.{Pin}
-use Rattle.rb_base.specs.declared.edge.Edge.{Edge}
-use Rattle.rb_base.specs.declared.edge.Edge.TheVariants as edge
+use Rattle.rb_base.specs.declared.trigger.Trigger.{Trigger}
+use Rattle.rb_base.specs.declared.trigger.Trigger.TheVariants as trigger
 use Rattle.rb_model.specs.declared.kinds.Class.{Class}
 use Rattle.rb_model.specs.declared.kinds.Class.TheVariants.{Storage, Wire, Constant}
 use Rattle.rb_model.specs.declared.kinds.Latch.{Latch}
@@ -27,17 +27,17 @@ is_storage Storage = true
 is_storage Wire = false
 is_storage Constant = false
 
-abbrev pub has_edge : Edge → Bool
-has_edge edge.Level = false
-has_edge edge.Posedge = true
-has_edge edge.Negedge = true
-has_edge edge.Bothedge = true
-has_edge edge.Nonsticky = false
+abbrev pub waits_for_change : Trigger → Bool
+waits_for_change trigger.Level = false
+waits_for_change trigger.Posedge = true
+waits_for_change trigger.Negedge = true
+waits_for_change trigger.Bothedge = true
+waits_for_change trigger.Nonsticky = false
 
 abbrev pub keeps_last : Latch → Bool
 keeps_last latch.Off = false
-keeps_last (latch.Bits e) = has_edge e
-keeps_last (latch.Whole e) = has_edge e
+keeps_last (latch.Bits e) = waits_for_change e
+keeps_last (latch.Whole e) = waits_for_change e
 keeps_last latch.Plain = false
 
 -- the list of x alone, or of nothing

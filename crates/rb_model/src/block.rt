@@ -45,7 +45,7 @@ pub struct Field {
     pub gate: Gate,
     /// `counter`, with its properties. A field has at most one of a count, a latch and a pulse.
     pub count: Option<Count>,
-    /// `intr`, with `stickybit`, `sticky`, `nonsticky` and the edge of its events.
+    /// `intr`, with `stickybit`, `sticky`, `nonsticky` and the trigger of its events.
     pub latch: Latch,
     /// `hwset`: where it is 1, the value becomes all ones.
     pub set: Feed,

@@ -1,6 +1,6 @@
 //! How a field behaves, and what its behaviour refers to (SystemRDL 2.0, clause 9).
 
-use rb_base::Edge;
+use rb_base::Trigger;
 
 /// A value that a field's behaviour may refer to: of a field, signal or register, by its number in the block.
 ///
@@ -141,10 +141,10 @@ pub struct Count {
 pub enum Latch {
     /// It is no interrupt.
     Off,
-    /// `stickybit`, with the edge that is an event.
-    Bits(Edge),
-    /// `sticky`, with the edge that is an event.
-    Whole(Edge),
+    /// `stickybit`, with what is an event.
+    Bits(Trigger),
+    /// `sticky`, with what is an event.
+    Whole(Trigger),
     /// `nonsticky`: an interrupt that keeps no event.
     Plain,
 }

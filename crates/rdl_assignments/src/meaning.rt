@@ -14,7 +14,7 @@ use crate::indices::first_failure;
 use crate::paths::{bad_value, or_bad_value, path_in};
 use crate::values::value_in;
 use crate::words::word_in;
-use rb_base::{Edge, Place};
+use rb_base::{Place, Trigger};
 use rdl_base::Fault;
 use rdl_failures::value_seen;
 use rdl_layers::Setting;
@@ -107,18 +107,18 @@ fn given_in<'a>(
     }
 }
 
-// What an edge word gives: it stands before `intr` alone, which then has no value.
-fn edge_in<'a>(
+// What a trigger word gives: it stands before `intr` alone, which then has no value.
+fn trigger_in<'a>(
     form: Form,
-    edge: Edge,
+    trigger: Trigger,
     value: &Option<Assigned<'a>>,
     place: Place,
 ) -> Result<Setting<'a>, Fault>
-    ensures outcome { (scope : Scope) → outcome_in scope result ≡ meanings.from_edge form place edge value.now }
+    ensures outcome { (scope : Scope) → outcome_in scope result ≡ meanings.from_trigger form place trigger value.now }
     ensures stands { (body : ℕ) → IfOk result (StandsIn body) }
 {
     match (form, value) {
-        (Form::Intr, None) => Ok(Setting::Intr(edge)),
+        (Form::Intr, None) => Ok(Setting::Intr(trigger)),
         _ => bad_value(place),
     }
 }
@@ -135,8 +135,8 @@ pub fn meaning_of<'a>(
     ensures outcome { (scope : Scope) → IsShown visible.now (around scope) → outcome_in scope result ≡ meanings.meaning prop (record { set_ = set.now; scope = scope }) }
     ensures stands { IfOk result (StandsIn body) }
 {
-    match set.edge {
-        Some(edge) => edge_in(takes(prop), edge, &set.value, set.place),
+    match set.trigger {
+        Some(trigger) => trigger_in(takes(prop), trigger, &set.value, set.place),
         None => given_in(takes(prop), &set.value, set.place, body, visible),
     }
 }

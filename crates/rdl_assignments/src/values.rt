@@ -8,7 +8,7 @@ ghost use Rattle.rdl_layers.specs.Forms as forms;
 ghost use Rattle.rdl_props.specs.declared.form.Form.TheVariants as row;
 ghost use Rattle.rdl_assignments.specs.Meant.{StandsIn, meaning_in};
 
-use rb_base::Edge;
+use rb_base::Trigger;
 use rdl_layers::Setting;
 use rdl_props::Form;
 use rdl_tree::Value;
@@ -91,13 +91,13 @@ fn flag_or_number<'a>(value: &Value) -> Option<Setting<'a>>
     }
 }
 
-// An interrupt without an edge word.
+// An interrupt without a trigger word.
 fn intr_set<'a>(value: &Value) -> Option<Setting<'a>>
     ensures outcome { (scope : Scope) → option_map (meaning_in scope) result ≡ forms.from_value row.Intr (val_of value.now) }
     ensures stands { (body : ℕ) → IfSome result (StandsIn body) }
 {
     match flag_of(value) {
-        Some(true) => Some(Setting::Intr(Edge::Level)),
+        Some(true) => Some(Setting::Intr(Trigger::Level)),
         Some(false) => Some(Setting::Flag(false)),
         None => None,
     }

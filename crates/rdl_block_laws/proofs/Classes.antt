@@ -1,7 +1,7 @@
 -- The class of a field, by its settings and by the block.
 use Rattle.std.proofs.Common.{◌≡◌, ◌∙◌, Bool, true, false, not, ◌&&◌, ◌||◌, cond, if◌then◌else◌, List, Option, None, Some, is_some, refl, sym, ap, subst}
 use Rattle.plain_lemmas.proofs.Bools.{and-false as and-no}
-use Rattle.rb_base.specs.declared.edge.Edge.TheVariants as edge
+use Rattle.rb_base.specs.declared.trigger.Trigger.TheVariants as trigger
 use Rattle.rdl_base.specs.declared.keyword.Keyword.{Keyword}
 use Rattle.rdl_base.specs.declared.keyword.Keyword.TheVariants as word
 use Rattle.rdl_props.specs.Table.{takes_of}
@@ -100,12 +100,12 @@ masked-has all n enable masked leads x y = on-some (item_at all n enable) (item_
 -- Interrupts.
 
 abbrev latch_from : Bool → Meaning → Latch
-latch_from whole (intr edge.Nonsticky) = latch.Plain
+latch_from whole (intr trigger.Nonsticky) = latch.Plain
 latch_from whole (intr e) = cond whole (latch.Whole e) (latch.Bits e)
 latch_from whole _ = latch.Off
 
 latching-is : (whole : Bool) (m : Meaning) → is_latching (latch_from whole m) ≡ latches m
-latching-is whole (intr edge.Nonsticky) = refl
+latching-is whole (intr trigger.Nonsticky) = refl
 latching-is true (intr e) = refl
 latching-is false (intr e) = refl
 latching-is whole m = refl

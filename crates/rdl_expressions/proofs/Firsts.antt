@@ -7,9 +7,9 @@ use Rattle.rdl_tree.specs.declared.token.Mark.TheVariants as marks
 use Rattle.rdl_tree.specs.declared.token.Terminal.{Terminal}
 use Rattle.rdl_tree.specs.declared.token.Terminal.TheVariants as terminals
 use Rattle.rdl_tree.specs.Tokens.{same, terminal_of}
-use Rattle.rdl_tree.specs.Grammar.{Rule, Source, Item, Component, Body, Kind, Params, Param, ParamType, Made, Insts, InstList, Args, Arg, Inst, Index, Range, Enum, Entry, Default, Local, Edge, Dynamic, Prop, Given, Path, Step, Expr, Binary, Operator, Prefix, Primary, rule, grammar}
+use Rattle.rdl_tree.specs.Grammar.{Rule, Source, Item, Component, Body, Kind, Params, Param, ParamType, Made, Insts, InstList, Args, Arg, Inst, Index, Range, Enum, Entry, Default, Local, Trigger, Dynamic, Prop, Given, Path, Step, Expr, Binary, Operator, Prefix, Primary, rule, grammar}
 use Rattle.rdl_tree.proofs.Spellings.{exact, alike}
-use Rattle.rdl_expressions.specs.Following.{operators, kinds, edges, prop_words, value_words, types}
+use Rattle.rdl_expressions.specs.Following.{operators, kinds, triggers, prop_words, value_words, types}
 
 -- the marks and words that begin a primary
 abbrev pub primaries : List Terminal
@@ -17,7 +17,7 @@ primaries = terminals.Number ∷ terminals.Str ∷ terminals.Reserved words.True
 
 -- the words that begin an item, beside a name
 abbrev pub items : List Terminal
-items = terminals.Name ∷ terminals.Reserved words.Internal ∷ terminals.Reserved words.Enum ∷ terminals.Reserved words.Alias ∷ terminals.Reserved words.Default ∷ kinds ++ prop_words ++ edges
+items = terminals.Name ∷ terminals.Reserved words.Internal ∷ terminals.Reserved words.Enum ∷ terminals.Reserved words.Alias ∷ terminals.Reserved words.Default ∷ kinds ++ prop_words ++ triggers
 
 abbrev pub first : Rule → List Terminal
 first Source = items
@@ -39,8 +39,8 @@ first Range = terminals.Mark marks.OpenBracket ∷ []
 first Enum = terminals.Reserved words.Enum ∷ []
 first Entry = terminals.Name ∷ []
 first Default = terminals.Reserved words.Default ∷ []
-first Local = terminals.Name ∷ prop_words ++ edges
-first Edge = edges
+first Local = terminals.Name ∷ prop_words ++ triggers
+first Trigger = triggers
 first Dynamic = terminals.Name ∷ []
 first Prop = terminals.Name ∷ prop_words
 first Given = terminals.Mark marks.Not ∷ primaries ++ value_words
@@ -80,7 +80,7 @@ each Enum = refl
 each Entry = refl
 each Default = refl
 each Local = refl
-each Edge = refl
+each Trigger = refl
 each Dynamic = refl
 each Prop = refl
 each Given = refl

@@ -17,7 +17,7 @@ use Rattle.rdl_tree.specs.Grammar.{Rule, grammar, mark}
 use Rattle.rdl_tree.specs.Grammar as rules
 use Rattle.rdl_tree.specs.Tree.{IsWord, type_of}
 use Rattle.rdl_expressions.specs.declared.parser.Sort.TheVariants as sorts
-use Rattle.rdl_expressions.specs.Following.{has, LacksWords, prop_words, value_words, types, edges, kinds, after_type, after_expr}
+use Rattle.rdl_expressions.specs.Following.{has, LacksWords, prop_words, value_words, types, triggers, kinds, after_type, after_expr}
 use Rattle.rdl_expressions.proofs.Firsts.{table, right}
 
 pub prop_word : {t : Token} {ts us : List Token} (k : Keyword) → has sorts.Prop k ≡ true → IsWord k ts t us → Same grammar [] (Non rules.Prop ∷ []) ts [] us
@@ -33,8 +33,8 @@ no_prop h = (h.words words.Woset refl, (h.words words.Woclr refl, (h.words words
 pub no_type : {ts us : List Token} → LacksWords sorts.Type ts us → AreOff grammar table right types ts
 no_type h = (h.words words.Longint refl, (h.words words.Bit refl, (h.words words.Boolean refl, (h.words words.String refl, tt))))
 
-pub no_edge : {ts us : List Token} → LacksWords sorts.Edge ts us → AreOff grammar table right edges ts
-no_edge h = (h.words words.Posedge refl, (h.words words.Negedge refl, (h.words words.Bothedge refl, (h.words words.Level refl, (h.words words.Nonsticky refl, tt)))))
+pub no_trigger : {ts us : List Token} → LacksWords sorts.Trigger ts us → AreOff grammar table right triggers ts
+no_trigger h = (h.words words.Posedge refl, (h.words words.Negedge refl, (h.words words.Bothedge refl, (h.words words.Level refl, (h.words words.Nonsticky refl, tt)))))
 
 pub no_kind : {ts us : List Token} → LacksWords sorts.Kind ts us → AreOff grammar table right kinds ts
 no_kind h = (h.words words.Addrmap refl, (h.words words.Regfile refl, (h.words words.Reg refl, (h.words words.Field refl, (h.words words.Signal refl, tt)))))
@@ -83,11 +83,11 @@ given_word words.Regalign e i = entering ⟫ taking right i refl
 given_word words.Fullalign e i = entering ⟫ taking right i refl
 given_word _ e i = cc
 
-pub edge_step : {t : Token} {ts us : List Token} (k : Keyword) → has sorts.Edge k ≡ true → IsWord k ts t us
+pub trigger_step : {t : Token} {ts us : List Token} (k : Keyword) → has sorts.Trigger k ≡ true → IsWord k ts t us
     → Same grammar [] (Non rules.Local ∷ []) ts (Non rules.Prop ∷ mark marks.Semicolon ∷ []) us
-edge_step words.Posedge e i = entering ⟫ opening right (Here (terminals.Reserved words.Posedge)) refl (seen i) ⟫ entering ⟫ taking right i refl
-edge_step words.Negedge e i = entering ⟫ opening right (Here (terminals.Reserved words.Negedge)) refl (seen i) ⟫ entering ⟫ taking right i refl
-edge_step words.Bothedge e i = entering ⟫ opening right (Here (terminals.Reserved words.Bothedge)) refl (seen i) ⟫ entering ⟫ taking right i refl
-edge_step words.Level e i = entering ⟫ opening right (Here (terminals.Reserved words.Level)) refl (seen i) ⟫ entering ⟫ taking right i refl
-edge_step words.Nonsticky e i = entering ⟫ opening right (Here (terminals.Reserved words.Nonsticky)) refl (seen i) ⟫ entering ⟫ taking right i refl
-edge_step _ e i = cc
+trigger_step words.Posedge e i = entering ⟫ opening right (Here (terminals.Reserved words.Posedge)) refl (seen i) ⟫ entering ⟫ taking right i refl
+trigger_step words.Negedge e i = entering ⟫ opening right (Here (terminals.Reserved words.Negedge)) refl (seen i) ⟫ entering ⟫ taking right i refl
+trigger_step words.Bothedge e i = entering ⟫ opening right (Here (terminals.Reserved words.Bothedge)) refl (seen i) ⟫ entering ⟫ taking right i refl
+trigger_step words.Level e i = entering ⟫ opening right (Here (terminals.Reserved words.Level)) refl (seen i) ⟫ entering ⟫ taking right i refl
+trigger_step words.Nonsticky e i = entering ⟫ opening right (Here (terminals.Reserved words.Nonsticky)) refl (seen i) ⟫ entering ⟫ taking right i refl
+trigger_step _ e i = cc

@@ -20,7 +20,7 @@ use Rattle.rdl_tree.specs.declared.token.Token.{Token}
 use Rattle.rdl_tree.specs.declared.token.TokenKind.TheVariants as tokens
 use Rattle.rdl_tree.specs.Grammar.{Rule, grammar, mark, name, word}
 use Rattle.rdl_tree.specs.Grammar as rules
-use Rattle.rdl_tree.specs.Tree.{IsMark, IsWord, operator_of, level, kind_of, type_of, edge_of, names_property, is_value, DerivesExpr, DerivesIndices}
+use Rattle.rdl_tree.specs.Tree.{IsMark, IsWord, operator_of, level, kind_of, type_of, trigger_of, names_property, is_value, DerivesExpr, DerivesIndices}
 use Rattle.rdl_expressions.specs.declared.parser.Sort.{Sort}
 use Rattle.rdl_expressions.specs.declared.parser.Sort.TheVariants as sorts
 
@@ -32,8 +32,8 @@ operators = terminals.Mark marks.OrOr ∷ terminals.Mark marks.AndAnd ∷ termin
 abbrev pub kinds : List Terminal
 kinds = terminals.Reserved words.Addrmap ∷ terminals.Reserved words.Regfile ∷ terminals.Reserved words.Reg ∷ terminals.Reserved words.Field ∷ terminals.Reserved words.Signal ∷ []
 
-abbrev pub edges : List Terminal
-edges = terminals.Reserved words.Posedge ∷ terminals.Reserved words.Negedge ∷ terminals.Reserved words.Bothedge ∷ terminals.Reserved words.Level ∷ terminals.Reserved words.Nonsticky ∷ []
+abbrev pub triggers : List Terminal
+triggers = terminals.Reserved words.Posedge ∷ terminals.Reserved words.Negedge ∷ terminals.Reserved words.Bothedge ∷ terminals.Reserved words.Level ∷ terminals.Reserved words.Nonsticky ∷ []
 
 abbrev pub prop_words : List Terminal
 prop_words = terminals.Reserved words.Woset ∷ terminals.Reserved words.Woclr ∷ terminals.Reserved words.Rclr ∷ terminals.Reserved words.Rset ∷ []
@@ -154,14 +154,14 @@ is_kind k = is_some (kind_of k)
 abbrev pub is_type : Keyword → Bool
 is_type k = is_some (type_of k)
 
-abbrev pub is_edge : Keyword → Bool
-is_edge k = is_some (edge_of k)
+abbrev pub is_trigger : Keyword → Bool
+is_trigger k = is_some (trigger_of k)
 
 -- the word is of the sort
 abbrev pub has : Sort → Keyword → Bool
 has sorts.Kind k = is_kind k
 has sorts.Type k = is_type k
-has sorts.Edge k = is_edge k
+has sorts.Trigger k = is_trigger k
 has sorts.Prop k = names_property k
 has sorts.Value k = is_value k
 

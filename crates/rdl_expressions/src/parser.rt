@@ -6,7 +6,7 @@ ghost use Rattle.rdl_tree.specs.Grammar.{grammar};
 ghost use Rattle.rdl_tree.specs.Tree.{IsMark, IsWord, IsName, IsNameOf};
 ghost use Rattle.rdl_tree.specs.declared.token.Terminal.TheVariants as terminals;
 ghost use Rattle.rdl_tree.specs.Tree.{names_property, is_value};
-ghost use Rattle.rdl_expressions.specs.Following.{TakesNumber, is_kind, is_type, is_edge, has, LacksWords, TakesWord};
+ghost use Rattle.rdl_expressions.specs.Following.{TakesNumber, is_kind, is_type, is_trigger, has, LacksWords, TakesWord};
 
 use bumpalo::Bump;
 use rb_base::Place;
@@ -24,7 +24,7 @@ pub enum Sort {
     /// What a parameter's type begins with.
     Type,
     /// What stands before a property.
-    Edge,
+    Trigger,
     /// Properties.
     Prop,
     /// Values of properties.
@@ -38,7 +38,7 @@ impl Sort {
         match self {
             Sort::Kind => is_kind(word),
             Sort::Type => is_type(word),
-            Sort::Edge => is_edge(word),
+            Sort::Trigger => is_trigger(word),
             Sort::Prop => names_property(word),
             Sort::Value => is_value(word),
         }
@@ -63,8 +63,8 @@ fn is_type(word: Keyword) -> bool
     )
 }
 
-fn is_edge(word: Keyword) -> bool
-    ensures { result ≡ is_edge word }
+fn is_trigger(word: Keyword) -> bool
+    ensures { result ≡ is_trigger word }
 {
     matches!(
         word,

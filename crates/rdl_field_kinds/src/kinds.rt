@@ -7,7 +7,7 @@ ghost use Rattle.rdl_layers.specs.Settings.{setting};
 ghost use Rattle.rdl_props.specs.declared.prop.Prop.TheVariants as properties;
 ghost use Rattle.rdl_rules.specs.Fields as fields;
 
-use rb_base::Edge;
+use rb_base::Trigger;
 use rb_model::Latch;
 use rdl_fields::has;
 use rdl_layers::{Props, Setting};
@@ -19,9 +19,9 @@ pub fn latch(props: &Props<'_>, node: u32) -> Latch
     ensures { (n : Instance) → slice_get (nodes_of props.now) node ≡ Some n → result ≡ fields.latch_of n }
 {
     match props.value(node, Prop::Intr) {
-        Setting::Intr(Edge::Nonsticky) => Latch::Plain,
-        Setting::Intr(edge) if has(props, node, Prop::Sticky) => Latch::Whole(edge),
-        Setting::Intr(edge) => Latch::Bits(edge),
+        Setting::Intr(Trigger::Nonsticky) => Latch::Plain,
+        Setting::Intr(trigger) if has(props, node, Prop::Sticky) => Latch::Whole(trigger),
+        Setting::Intr(trigger) => Latch::Bits(trigger),
         _ => Latch::Off,
     }
 }

@@ -8,7 +8,7 @@ ghost use Rattle.rdl_layers.specs.Settings.{setting};
 ghost use Rattle.rdl_rules.specs.FieldRules as rules;
 ghost use Rattle.rdl_rules.specs.Facts.{IsFact};
 
-use rb_base::Edge;
+use rb_base::Trigger;
 use rdl_fields::{has, has_one_of};
 use rdl_layers::{Props, Setting};
 use rdl_props::Prop;
@@ -20,7 +20,7 @@ fn is_nonsticky(props: &Props<'_>, node: u32) -> bool
 {
     matches!(
         props.value(node, Prop::Intr),
-        Setting::Intr(Edge::Nonsticky)
+        Setting::Intr(Trigger::Nonsticky)
     )
 }
 

@@ -10,7 +10,7 @@ ghost use Rattle.rdl_fields.specs.Touched as touched_by;
 
 use crate::access::{hardware_reads, hardware_writes};
 use crate::given::has_one_of;
-use rb_base::Edge;
+use rb_base::Trigger;
 use rdl_base::Keyword;
 use rdl_layers::{Props, Setting};
 use rdl_props::Prop;
@@ -49,7 +49,7 @@ fn latches(props: &Props<'_>, node: u32) -> bool
     ensures { (n : Instance) → slice_get (nodes_of props.now) node ≡ Some n → result ≡ fields.latches (setting n properties.Intr) }
 {
     match props.value(node, Prop::Intr) {
-        Setting::Intr(Edge::Nonsticky) => false,
+        Setting::Intr(Trigger::Nonsticky) => false,
         Setting::Intr(_) => true,
         _ => false,
     }

@@ -1,7 +1,7 @@
 -- A setting has the form that its row takes.
 use Rattle.std.proofs.Common.{◌≡◌, ℕ, ◌+◌, length, bytes_eq, codes, Bool, true, false, not, ◌&&◌, cond, is_some, List, [], ◌∷◌, ◌++◌, map, flat_map, filter, find, Option, None, Some, option_map, option_and_then, option_to_list, Ok, Err, refl, sym, subst, ◌∙◌}
 use Rattle.std.specs.List.{AllByRecursion}
-use Rattle.rb_base.specs.declared.edge.Edge.{Edge}
+use Rattle.rb_base.specs.declared.trigger.Trigger.{Trigger}
 use Rattle.rdl_base.specs.declared.keyword.Keyword.{Keyword}
 use Rattle.rdl_base.specs.declared.keyword.Keyword.TheVariants as word
 use Rattle.rb_base.specs.declared.place.Place.{Place}
@@ -34,7 +34,7 @@ use Rattle.rdl_layers.specs.Formed.{IsOfForm}
 use denote.Enum.Bare.{same_true}
 use Rattle.rdl_props.specs.contracts.prop.Prop as of_prop
 use Rattle.rdl_layers.specs.Forms.{Meaning, hard, unset, named, enum_of, reference, from_value, from_word, addressing_word, sw_word, hw_word, write_word, read_word, takes_reference, side, level_if, only_true}
-use Rattle.rdl_layers.specs.Meanings.{Assignment, prop_of, meaning, meaning_as, from_given, from_expr, from_edge, from_path, parameter_or_reference, enum_named}
+use Rattle.rdl_layers.specs.Meanings.{Assignment, prop_of, meaning, meaning_as, from_given, from_expr, from_trigger, from_path, parameter_or_reference, enum_named}
 use Rattle.rdl_layers.specs.Settings.{Applied, applied, given, gives, from_above, from_instance, from_body, from_defaults, applied_to, is_false, settled, settled_if, deciding_of, meaning_of_default, setting_or, setting}
 
 -- Constants.
@@ -193,17 +193,17 @@ given_formed f scope place None = or_formed f (from_value f (val.flag true)) rul
 given_formed f scope place (Some (given_.Word w)) = or_formed f (from_word f w) rules.P6 place (word_formed f w)
 given_formed f scope place (Some (given_.Expr e)) = expr_formed f scope place e
 
-edge_formed : (f : Form) (place : Place) (e : Edge) (o : Option Assigned) → Given_formed f (from_edge f place e o)
-edge_formed form.Intr place e None = tt
-edge_formed form.Intr place e (Some g) = tt
-edge_formed _ place e o = tt
+trigger_formed : (f : Form) (place : Place) (e : Trigger) (o : Option Assigned) → Given_formed f (from_trigger f place e o)
+trigger_formed form.Intr place e None = tt
+trigger_formed form.Intr place e (Some g) = tt
+trigger_formed _ place e o = tt
 
 meaning_formed : (p : Prop) (a : Assignment) → Given_formed (takes_of p) (meaning p a)
-meaning_formed p a = go a.set_.edge refl
+meaning_formed p a = go a.set_.trigger refl
   where
-    go : (o : Option Edge) → a.set_.edge ≡ o → Given_formed (takes_of p) (meaning_as (takes_of p) a)
+    go : (o : Option Trigger) → a.set_.trigger ≡ o → Given_formed (takes_of p) (meaning_as (takes_of p) a)
     go None e = rw e (given_formed (takes_of p) a.scope a.set_.place a.set_.value)
-    go (Some x) e = rw e (edge_formed (takes_of p) a.set_.place x a.set_.value)
+    go (Some x) e = rw e (trigger_formed (takes_of p) a.set_.place x a.set_.value)
 
 -- All that applies to a node.
 

@@ -1,7 +1,7 @@
 -- What an assignment gives is looked up from where the assignment stands.
 use Rattle.std.proofs.Common.{◌≡◌, bytes_eq, codes, Bool, true, false, cond, List, [], map, flat_map, Option, None, Some, option_map, option_and_then, option_to_list, Ok, Err, refl}
 use Rattle.std.specs.List.{AllByRecursion}
-use Rattle.rb_base.specs.declared.edge.Edge.{Edge}
+use Rattle.rb_base.specs.declared.trigger.Trigger.{Trigger}
 use Rattle.rdl_base.specs.declared.keyword.Keyword.{Keyword}
 use Rattle.rb_base.specs.declared.place.Place.{Place}
 use Rattle.rdl_base.specs.declared.rule.Rule.{Rule}
@@ -23,7 +23,7 @@ use Rattle.rdl_values.specs.Views.{steps_of}
 use Rattle.plain_lemmas.proofs.Lists.{each-append}
 use Rattle.rdl_layers.specs.declared.rank.Rank.{Rank}
 use Rattle.rdl_layers.specs.Forms.{Meaning, hard, named, enum_of, reference, from_value, from_word, addressing_word, sw_word, hw_word, write_word, read_word, takes_reference, side, level_if, only_true}
-use Rattle.rdl_layers.specs.Meanings.{Assignment, prop_of, meaning, meaning_as, from_given, from_expr, from_edge, from_path, parameter_or_reference, enum_named}
+use Rattle.rdl_layers.specs.Meanings.{Assignment, prop_of, meaning, meaning_as, from_given, from_expr, from_trigger, from_path, parameter_or_reference, enum_named}
 use Rattle.rdl_layers.specs.Settings.{Applied, applied, given, gives}
 use Rattle.rdl_layers.specs.Scoped.{IsScoped, IsWithin}
 
@@ -145,17 +145,17 @@ module _ (bs : List Body) (scope : Scope) (within : IsWithin bs scope) where
   a-given f place (Some (given_.Word w)) = or-scoped bs (from_word f w) rules.P6 place (a-word bs f w)
   a-given f place (Some (given_.Expr e)) = an-expr f place e
 
-an-edge : (bs : List Body) (f : Form) (place : Place) (e : Edge) (o : Option Assigned) → OkScoped bs (from_edge f place e o)
-an-edge bs form.Intr place e None = tt
-an-edge bs form.Intr place e (Some g) = tt
-an-edge bs _ place e o = tt
+a-trigger : (bs : List Body) (f : Form) (place : Place) (e : Trigger) (o : Option Assigned) → OkScoped bs (from_trigger f place e o)
+a-trigger bs form.Intr place e None = tt
+a-trigger bs form.Intr place e (Some g) = tt
+a-trigger bs _ place e o = tt
 
 a-meaning : (bs : List Body) (p : Prop) (a : Assignment) → IsWithin bs a.scope → OkScoped bs (meaning p a)
-a-meaning bs p a h = go a.set_.edge refl
+a-meaning bs p a h = go a.set_.trigger refl
   where
-    go : (o : Option Edge) → a.set_.edge ≡ o → OkScoped bs (meaning_as (takes_of p) a)
+    go : (o : Option Trigger) → a.set_.trigger ≡ o → OkScoped bs (meaning_as (takes_of p) a)
     go None e = rw e (a-given bs a.scope h (takes_of p) a.set_.place a.set_.value)
-    go (Some x) e = rw e (an-edge bs (takes_of p) a.set_.place x a.set_.value)
+    go (Some x) e = rw e (a-trigger bs (takes_of p) a.set_.place x a.set_.value)
 
 abbrev pub HasScope : List Body → Applied → Type 0
 HasScope bs a = IsScoped bs a.value

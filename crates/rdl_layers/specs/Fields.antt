@@ -4,7 +4,7 @@ use Rattle.std.specs.List.{list_any}
 use Rattle.rdl_tree.specs.declared.item.Kind.{Kind}
 use Rattle.rdl_tree.specs.declared.item.Kind.TheVariants as kind
 use Rattle.rdl_tree.specs.declared.expr.Name.{Name}
-use Rattle.rb_base.specs.declared.edge.Edge.TheVariants as edge
+use Rattle.rb_base.specs.declared.trigger.Trigger.TheVariants as trigger
 use Rattle.rdl_base.specs.declared.keyword.Keyword.TheVariants as word
 use Rattle.rdl_tree.specs.Kinds.{same_kind}
 use Rattle.rdl_props.specs.declared.prop.Prop.{Prop}
@@ -134,7 +134,7 @@ views all r f = f ∷ flat_map (λ a. filter (λ g. same_name g.use_.name f.use_
 
 -- the setting is an interrupt that latches
 abbrev pub latches : Meaning → Bool
-latches (intr edge.Nonsticky) = false
+latches (intr trigger.Nonsticky) = false
 latches (intr e) = true
 latches _ = false
 

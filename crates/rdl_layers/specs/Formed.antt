@@ -5,7 +5,7 @@ use Rattle.rdl_props.specs.declared.form.Form.TheVariants as form
 use Rattle.rdl_layers.specs.Forms.{Meaning, unset, flag, number, text, named, intr, hard, enum_of, reference, addressing_word, sw_word, hw_word, write_word, read_word}
 
 -- What a property is set to in a row of this form: nothing, or what the row takes. A word is one of the row's, wr being rw; a
--- flag of a row that takes true alone is true, and an interrupt that isn't set by an edge is false.
+-- flag of a row that takes true alone is true, and an interrupt that isn't set by a trigger is false.
 abbrev pub IsOfForm : Form → Meaning → Type 0
 IsOfForm f unset = Unit {0}
 IsOfForm form.Str (text s) = Unit {0}

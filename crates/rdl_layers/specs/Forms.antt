@@ -2,8 +2,8 @@
 use Rattle.std.specs.Prelude.{ℕ, Bool, true, false, cond, List, bytes_eq, Option, None, Some, option_map, option_and_then, codes}
 use Rattle.rdl_tree.specs.declared.expr.Path.{Path}
 use Rattle.rdl_tree.specs.declared.expr.Name.{Name}
-use Rattle.rb_base.specs.declared.edge.Edge.{Edge}
-use Rattle.rb_base.specs.declared.edge.Edge.TheVariants as edge
+use Rattle.rb_base.specs.declared.trigger.Trigger.{Trigger}
+use Rattle.rb_base.specs.declared.trigger.Trigger.TheVariants as trigger
 use Rattle.rdl_base.specs.declared.keyword.Keyword.{Keyword}
 use Rattle.rdl_base.specs.declared.keyword.Keyword.TheVariants as word
 use Rattle.rb_base.specs.declared.place.Place.{Place}
@@ -21,7 +21,7 @@ pub data Meaning : Type 0 where
   number : ℕ → Meaning
   text : List ℕ → Meaning
   named : Keyword → Meaning
-  intr : Edge → Meaning
+  intr : Trigger → Meaning
   hard : Bool → Meaning
   enum_of : Name → Scope → Meaning
   reference : Path → Option Name → Scope → Place → Meaning
@@ -33,9 +33,9 @@ abbrev pub only_true : Bool → Option Meaning
 only_true true = Some (flag true)
 only_true false = None
 
--- an interrupt without an edge word is one of level
+-- an interrupt without a trigger word is one of level
 abbrev pub level_if : Bool → Meaning
-level_if true = intr edge.Level
+level_if true = intr trigger.Level
 level_if false = flag false
 
 -- a boolean or a number, as it is

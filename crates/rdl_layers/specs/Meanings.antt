@@ -6,7 +6,7 @@ use Rattle.rdl_tree.specs.declared.expr.Name.{Name}
 use Rattle.rdl_tree.specs.declared.item.Set.{Set}
 use Rattle.rdl_tree.specs.declared.item.Assigned.{Assigned}
 use Rattle.rdl_tree.specs.declared.item.Assigned.TheVariants as given
-use Rattle.rb_base.specs.declared.edge.Edge.{Edge}
+use Rattle.rb_base.specs.declared.trigger.Trigger.{Trigger}
 use Rattle.rb_base.specs.declared.place.Place.{Place}
 use Rattle.rdl_base.specs.declared.rule.Rule.TheVariants as rules
 use Rattle.rdl_props.specs.declared.prop.Prop.{Prop}
@@ -58,18 +58,18 @@ from_given f scope place None = or_fails (from_value f (val.flag true)) rules.P6
 from_given f scope place (Some (given.Word w)) = or_fails (from_word f w) rules.P6 place
 from_given f scope place (Some (given.Expr e)) = from_expr f scope place e
 
--- an edge word stands before intr alone, which then has no value
-abbrev pub from_edge : Form → Place → Edge → Option Assigned → Outcome Meaning
-from_edge form.Intr place e None = Ok (intr e)
-from_edge _ place e _ = fails rules.P6 place
+-- a trigger word stands before intr alone, which then has no value
+abbrev pub from_trigger : Form → Place → Trigger → Option Assigned → Outcome Meaning
+from_trigger form.Intr place e None = Ok (intr e)
+from_trigger _ place e _ = fails rules.P6 place
 
 -- what an assignment gives in a row of this form, or why it gives nothing
 abbrev pub meaning_as : Form → Assignment → Outcome Meaning
-meaning_as f a = go a.set_.edge
+meaning_as f a = go a.set_.trigger
   where
-    go : Option Edge → Outcome Meaning
+    go : Option Trigger → Outcome Meaning
     go None = from_given f a.scope a.set_.place a.set_.value
-    go (Some e) = from_edge f a.set_.place e a.set_.value
+    go (Some e) = from_trigger f a.set_.place e a.set_.value
 
 -- what an assignment gives this property
 abbrev pub meaning : Prop → Assignment → Outcome Meaning

@@ -1,6 +1,6 @@
 //! Settings of properties.
 
-use rb_base::{Edge, Place};
+use rb_base::{Place, Trigger};
 use rdl_base::Keyword;
 use rdl_tree::{Name, Path};
 
@@ -17,8 +17,8 @@ pub enum Setting<'a> {
     Str(&'a [u8]),
     /// A word of `addressing`, `sw`, `hw`, `onwrite` or `onread`; `wr` is `Rw`.
     Word(Keyword),
-    /// An interrupt of this kind; without an edge word it is `Level`.
-    Intr(Edge),
+    /// An interrupt of this kind; without a trigger word it is `Level`.
+    Intr(Trigger),
     /// A `precedence`, true for hardware.
     Hard(bool),
     /// The enum of this name that is visible there.

@@ -76,7 +76,7 @@ pub record Sets (prop : Name) (place : Place) (ts us : List Token) (set : Set) :
   pub middle : List Token
   pub assigned : DerivesAssigned ts middle value
   pub ends : IsMark marks.Semicolon middle end us
-  pub is : set ≡ record { prop = prop; edge = None; value = value; place = place }
+  pub is : set ≡ record { prop = prop; trigger = None; value = value; place = place }
 
 -- { entry } "}" ";"
 pub record DerivesEntries (ts us : List Token) (entries : List Entry) : Type 0 where

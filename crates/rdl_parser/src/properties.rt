@@ -8,30 +8,30 @@ ghost use Rattle.rdl_tree.specs.declared.token.Mark.TheVariants as marks;
 ghost use Rattle.rdl_tree.specs.declared.token.Token as token;
 ghost use Rattle.rdl_tree.specs.Grammar.{grammar, mark};
 ghost use Rattle.rdl_tree.specs.Grammar as rules;
-ghost use Rattle.rdl_tree.specs.Tree.{IsWord, StartsAt, DerivesGiven, DerivesAssigned, DerivesLocal, DerivesSet, DerivesSets, DerivesEntry, DerivesItem, edge_of};
+ghost use Rattle.rdl_tree.specs.Tree.{IsWord, StartsAt, DerivesGiven, DerivesAssigned, DerivesLocal, DerivesSet, DerivesSets, DerivesEntry, DerivesItem, trigger_of};
 ghost use Rattle.rdl_parser.specs.ItemForms.{after_behind, after_sets, assigned, sets, rest_of_enum, Sets, DerivesEntries};
-ghost use Rattle.rdl_expressions.specs.Following.{Adds, after_expr, is_edge};
+ghost use Rattle.rdl_expressions.specs.Following.{Adds, after_expr, is_trigger};
 
 use crate::instances::behind;
 use bumpalo::Bump;
 use bumpalo::collections::into_bump_slice;
-use rb_base::{Edge, Place};
+use rb_base::{Place, Trigger};
 use rb_grammar::Stop;
 use rdl_base::Keyword;
 use rdl_expressions::{Parser, Run, Sort, add};
 use rdl_tree::{Assigned, Entry, Item, Mark, Name, Set};
 
 // What stands before a property.
-fn edge_of(word: Keyword) -> Edge
-    requires { is_edge word ≡ true }
-    ensures { edge_of word ≡ Some result }
+fn trigger_of(word: Keyword) -> Trigger
+    requires { is_trigger word ≡ true }
+    ensures { trigger_of word ≡ Some result }
 {
     match word {
-        Keyword::Posedge => Edge::Posedge,
-        Keyword::Negedge => Edge::Negedge,
-        Keyword::Bothedge => Edge::Bothedge,
-        Keyword::Level => Edge::Level,
-        _ => Edge::Nonsticky,
+        Keyword::Posedge => Trigger::Posedge,
+        Keyword::Negedge => Trigger::Negedge,
+        Keyword::Bothedge => Trigger::Bothedge,
+        Keyword::Level => Trigger::Level,
+        _ => Trigger::Nonsticky,
     }
 }
 
@@ -72,13 +72,13 @@ pub fn set_from<'a>(parser: &mut Parser<'a>, prop: Name<'a>, place: Place) -> Re
     let _end = parser.expect(Mark::Semicolon)?;
     Ok(Set {
         prop,
-        edge: None,
+        trigger: None,
         value,
         place,
     })
 }
 
-/// local = prop [ "=" given ] ";" | edge prop ";" .
+/// local = prop [ "=" given ] ";" | trigger prop ";" .
 pub fn local<'a>(parser: &mut Parser<'a>, place: Place) -> Result<Set<'a>, Stop>
     ensures tree { IfOk result (DerivesLocal place parser.old parser.new) }
     ensures place { IfOk result (λ s. s.place ≡ place) }
@@ -86,12 +86,12 @@ pub fn local<'a>(parser: &mut Parser<'a>, place: Place) -> Result<Set<'a>, Stop>
     ensures reads { OnOk result (Same grammar [] (Non rules.Local ∷ []) parser.old [] parser.new) }
     ensures stops { result ≡ Err Stop.Syntax → Stops grammar [] (Non rules.Local ∷ []) parser.old parser.new }
 {
-    if let Some((word, _)) = parser.word_of(Sort::Edge) {
+    if let Some((word, _)) = parser.word_of(Sort::Trigger) {
         let prop = parser.prop()?;
         let _end = parser.expect(Mark::Semicolon)?;
         return Ok(Set {
             prop,
-            edge: Some(edge_of(word)),
+            trigger: Some(trigger_of(word)),
             value: None,
             place,
         });

@@ -34,7 +34,7 @@ pub enum Form {
     ReadWord,
     /// `sw` or `hw`.
     Side,
-    /// A boolean, or an edge word before the property's name.
+    /// A boolean, or a trigger word before the property's name.
     Intr,
     /// The name of an enumeration.
     EnumName,

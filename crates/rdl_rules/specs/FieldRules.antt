@@ -1,7 +1,7 @@
 -- The rules on what the settings of a field mean (this project's profile of SystemRDL 2.0, clause 9).
 use Rattle.std.specs.Prelude.{ℕ, ◌/◌, ◌^◌, Bool, true, false, not, ◌&&◌, ◌||◌, List, [], ◌∷◌, ◌++◌, nat_lt, nat_le, ◌==◌, option_to_list}
 use Rattle.std.specs.List.{list_any}
-use Rattle.rb_base.specs.declared.edge.Edge.TheVariants as edge
+use Rattle.rb_base.specs.declared.trigger.Trigger.TheVariants as trigger
 use Rattle.rdl_base.specs.declared.fault.Fault.{Fault}
 use Rattle.rdl_base.specs.declared.keyword.Keyword.TheVariants as word
 use Rattle.rdl_base.specs.declared.rule.Rule.{Rule}
@@ -46,7 +46,7 @@ abbrev pub interrupt_parts : List Prop
 interrupt_parts = prop.Sticky ∷ prop.Stickybit ∷ prop.Enable ∷ prop.Mask ∷ prop.Haltenable ∷ prop.Haltmask ∷ []
 
 abbrev pub is_nonsticky : Meaning → Bool
-is_nonsticky (intr edge.Nonsticky) = true
+is_nonsticky (intr trigger.Nonsticky) = true
 is_nonsticky _ = false
 
 abbrev pub not_interrupt : Instance → Bool

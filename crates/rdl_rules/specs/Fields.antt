@@ -1,7 +1,7 @@
 -- The fields and views of a block, read off a source that breaks no rule.
 use Rattle.std.specs.Prelude.{ℕ, Bool, true, false, not, ◌&&◌, cond, List, [], ◌∷◌, ◌++◌, map, flat_map, filter, Option, None, Some}
 use Rattle.std.specs.List.{list_any}
-use Rattle.rb_base.specs.declared.edge.Edge.TheVariants as edge
+use Rattle.rb_base.specs.declared.trigger.Trigger.TheVariants as trigger
 use Rattle.rdl_base.specs.declared.keyword.Keyword.{Keyword}
 use Rattle.rdl_base.specs.declared.keyword.Keyword.TheVariants as word
 use Rattle.rdl_tree.specs.declared.item.Source.{Source}
@@ -67,7 +67,7 @@ abbrev pub latch_of : Instance → Latch
 latch_of f = go (setting f prop.Intr)
   where
     go : Meaning → Latch
-    go (intr edge.Nonsticky) = latch.Plain
+    go (intr trigger.Nonsticky) = latch.Plain
     go (intr e) = cond (has prop.Sticky f) (latch.Whole e) (latch.Bits e)
     go _ = latch.Off
 

@@ -5,7 +5,7 @@ use Rattle.std.specs.List.Sorted.{IsStrictlyIncreasing}
 use Rattle.std.proofs.lemmas.Bool.Decides.{nat_tests}
 use Rattle.std.proofs.lemmas.List.Kept.{IsStrictlyIncreasing-filter}
 use Rattle.plain_lemmas.proofs.Bools.{and-both, and-false as and-no, and-false_left as of-none, false-of_not as not-true, or-either as or-split, or-false as or-no, or-neither as or-none}
-use Rattle.rb_base.specs.declared.edge.Edge.TheVariants as edge
+use Rattle.rb_base.specs.declared.trigger.Trigger.TheVariants as trigger
 use Rattle.rdl_props.specs.Table.{takes_of}
 use Rattle.rdl_props.specs.declared.form.Form.TheVariants as form
 use Rattle.rdl_props.specs.declared.prop.Prop.{Prop}
@@ -92,21 +92,21 @@ reset-fits b (reference path item scope place) e = tt
 -- Latches.
 
 abbrev latch_from : Bool → Meaning → Latch
-latch_from whole (intr edge.Nonsticky) = latch.Plain
+latch_from whole (intr trigger.Nonsticky) = latch.Plain
 latch_from whole (intr e) = cond whole (latch.Whole e) (latch.Bits e)
 latch_from whole _ = latch.Off
 
 -- a latch is there just for an interrupt
 pub latch-is : (whole : Bool) (m : Meaning) → IsOfForm form.Intr m → items.is_interrupt (latch_from whole m) ≡ is_given m
-latch-is whole (intr edge.Nonsticky) h = refl
-latch-is true (intr edge.Level) h = refl
-latch-is false (intr edge.Level) h = refl
-latch-is true (intr edge.Posedge) h = refl
-latch-is false (intr edge.Posedge) h = refl
-latch-is true (intr edge.Negedge) h = refl
-latch-is false (intr edge.Negedge) h = refl
-latch-is true (intr edge.Bothedge) h = refl
-latch-is false (intr edge.Bothedge) h = refl
+latch-is whole (intr trigger.Nonsticky) h = refl
+latch-is true (intr trigger.Level) h = refl
+latch-is false (intr trigger.Level) h = refl
+latch-is true (intr trigger.Posedge) h = refl
+latch-is false (intr trigger.Posedge) h = refl
+latch-is true (intr trigger.Negedge) h = refl
+latch-is false (intr trigger.Negedge) h = refl
+latch-is true (intr trigger.Bothedge) h = refl
+latch-is false (intr trigger.Bothedge) h = refl
 latch-is whole unset h = refl
 latch-is whole (flag b) h = sym h
 latch-is whole (number n) h = absurd h
@@ -116,24 +116,24 @@ latch-is whole (hard x) h = absurd h
 latch-is whole (enum_of n scope) h = absurd h
 latch-is whole (reference path item scope place) h = absurd h
 
-latch-edge : (whole : Bool) (m : Meaning) → not (holds_nonsticky (latch_from whole m)) ≡ true
-latch-edge whole (intr edge.Nonsticky) = refl
-latch-edge true (intr edge.Level) = refl
-latch-edge false (intr edge.Level) = refl
-latch-edge true (intr edge.Posedge) = refl
-latch-edge false (intr edge.Posedge) = refl
-latch-edge true (intr edge.Negedge) = refl
-latch-edge false (intr edge.Negedge) = refl
-latch-edge true (intr edge.Bothedge) = refl
-latch-edge false (intr edge.Bothedge) = refl
-latch-edge whole unset = refl
-latch-edge whole (flag b) = refl
-latch-edge whole (number n) = refl
-latch-edge whole (text t) = refl
-latch-edge whole (named w) = refl
-latch-edge whole (hard x) = refl
-latch-edge whole (enum_of n scope) = refl
-latch-edge whole (reference path item scope place) = refl
+latch-trigger : (whole : Bool) (m : Meaning) → not (holds_nonsticky (latch_from whole m)) ≡ true
+latch-trigger whole (intr trigger.Nonsticky) = refl
+latch-trigger true (intr trigger.Level) = refl
+latch-trigger false (intr trigger.Level) = refl
+latch-trigger true (intr trigger.Posedge) = refl
+latch-trigger false (intr trigger.Posedge) = refl
+latch-trigger true (intr trigger.Negedge) = refl
+latch-trigger false (intr trigger.Negedge) = refl
+latch-trigger true (intr trigger.Bothedge) = refl
+latch-trigger false (intr trigger.Bothedge) = refl
+latch-trigger whole unset = refl
+latch-trigger whole (flag b) = refl
+latch-trigger whole (number n) = refl
+latch-trigger whole (text t) = refl
+latch-trigger whole (named w) = refl
+latch-trigger whole (hard x) = refl
+latch-trigger whole (enum_of n scope) = refl
+latch-trigger whole (reference path item scope place) = refl
 
 -- One kind.
 
@@ -385,7 +385,7 @@ module _ (s : Source) (all : List Lineage) (r : Numbered Lineage) (f : Instance)
     gate_fed = gate-fed all f prop.We prop.Wel formed refl refl leads;
     source_fed = λ h. source-fed (has_pin f) (item_at all f prop.Next) (source-where h);
     pin = λ h. sym pin-is ∙ source-pin (has_pin f) (item_at all f prop.Next) h;
-    latch_edge = latch-edge (has prop.Sticky f) (setting f prop.Intr);
+    latch_trigger = latch-trigger (has prop.Sticky f) (setting f prop.Intr);
     bus_reset = bus-reset s all (reset_signals s all (child_of r.register f));
     shown_in_order = shown-order f;
     shown_counts = ap (λ b. b || not (list_any is_of_counter (shown_of f))) counting ∙ shown-counts f j.counts;

@@ -126,7 +126,7 @@ behind_passes (tree.some p d) = both (taken p) (expr_passes d)
 
 local_passes : {place : Place} {ts us : List Token} {s : Set} → DerivesLocal place ts us s → Passes ts us
 local_passes (tree.assigned n v e) = both (prop_passes n) (both (assigned_passes v) (taken e))
-local_passes (tree.edged h w n e) = both (taken w) (both (prop_passes n) (taken e))
+local_passes (tree.triggered h w n e) = both (taken w) (both (prop_passes n) (taken e))
 
 -- Where a list begins stands its first token.
 
@@ -142,7 +142,7 @@ path_starts p s (tree.steps e (tree.step n is) ss) = behind (starts p s n.1) (bo
 
 local_starts : {q : Place} {ts us : List Token} {x : Set} (p : Place) → StartsAt ts p → DerivesLocal q ts us x → Stands ts us p
 local_starts p s (tree.assigned n v e) = behind (prop_starts p s n) (both (assigned_passes v) (taken e))
-local_starts p s (tree.edged h w n e) = behind (starts p s w) (both (prop_passes n) (taken e))
+local_starts p s (tree.triggered h w n e) = behind (starts p s w) (both (prop_passes n) (taken e))
 
 module _ {X : Type 0} {D : List Token → List Token → X → Type 0} (each : (ts us : List Token) (x : X) → D ts us x → Passes ts us) where
   many_pass : {ts us : List Token} {xs : List X} → DerivesMany D ts us xs → Passes ts us

@@ -27,11 +27,11 @@ use Rattle.rdl_tree.specs.declared.item.Param.{Param}
 use Rattle.rdl_tree.specs.declared.item.PType.{PType}
 use Rattle.rdl_tree.specs.declared.item.Set.{Set}
 use Rattle.rdl_tree.specs.declared.item.PType.TheVariants as types
-use Rattle.rb_base.specs.declared.edge.Edge.{Edge}
+use Rattle.rb_base.specs.declared.trigger.Trigger.{Trigger}
 use Rattle.rb_base.specs.declared.place.Place.{Place}
 use Rattle.rdl_tree.specs.Grammar.{Rule, grammar}
 use Rattle.rdl_tree.specs.Grammar as rules
-use Rattle.rdl_tree.specs.Tree.{IsMark, IsWord, IsName, DerivesProp, operator_of, names_property, is_value, edge_of, kind_of, type_of, DerivesExpr, DerivesBinary, DerivesPrefix, DerivesPrimary, DerivesPath, DerivesSteps, DerivesStep, DerivesIndices, DerivesGiven, DerivesAssigned, DerivesBehind, DerivesLocal, DerivesSet, DerivesMany, DerivesListed, DerivesSets, DerivesEntry, DerivesType, DerivesParam, DerivesArg, DerivesHashed, DerivesShape, DerivesInst, DerivesInsts, SkipsInternal, DerivesMade, DerivesAlias, DerivesItem, DerivesDef, DerivesBody, DerivesItems}
+use Rattle.rdl_tree.specs.Tree.{IsMark, IsWord, IsName, DerivesProp, operator_of, names_property, is_value, trigger_of, kind_of, type_of, DerivesExpr, DerivesBinary, DerivesPrefix, DerivesPrimary, DerivesPath, DerivesSteps, DerivesStep, DerivesIndices, DerivesGiven, DerivesAssigned, DerivesBehind, DerivesLocal, DerivesSet, DerivesMany, DerivesListed, DerivesSets, DerivesEntry, DerivesType, DerivesParam, DerivesArg, DerivesHashed, DerivesShape, DerivesInst, DerivesInsts, SkipsInternal, DerivesMade, DerivesAlias, DerivesItem, DerivesDef, DerivesBody, DerivesItems}
 use Rattle.rdl_tree.specs.Tree as tree
 
 -- before what these forms read, so is what the first form reads
@@ -140,13 +140,13 @@ value_word_reads words.Regalign g fs ts e r = rule (second (second (second (seco
 value_word_reads words.Fullalign g fs ts e r = rule (second (second (second (second (second (second (second (second (second (second (second (second (second (second (second (second (second (second (second (second r))))))))))))))))))))
 value_word_reads _ g fs ts e r = cc
 
-edge_reads : (k : Keyword) (x : Edge) (g : Goal Token) (fs : List (Form Terminal Rule)) (ts : List Token) → edge_of k ≡ Some x → Reads grammar g (Tok (terminals.Reserved k) ∷ fs) ts → Reads grammar g (Non rules.Edge ∷ fs) ts
-edge_reads words.Posedge x g fs ts e r = rule (first r)
-edge_reads words.Negedge x g fs ts e r = rule (second (first r))
-edge_reads words.Bothedge x g fs ts e r = rule (second (second (first r)))
-edge_reads words.Level x g fs ts e r = rule (second (second (second (first r))))
-edge_reads words.Nonsticky x g fs ts e r = rule (second (second (second (second r))))
-edge_reads _ x g fs ts e r = cc
+trigger_reads : (k : Keyword) (x : Trigger) (g : Goal Token) (fs : List (Form Terminal Rule)) (ts : List Token) → trigger_of k ≡ Some x → Reads grammar g (Tok (terminals.Reserved k) ∷ fs) ts → Reads grammar g (Non rules.Trigger ∷ fs) ts
+trigger_reads words.Posedge x g fs ts e r = rule (first r)
+trigger_reads words.Negedge x g fs ts e r = rule (second (first r))
+trigger_reads words.Bothedge x g fs ts e r = rule (second (second (first r)))
+trigger_reads words.Level x g fs ts e r = rule (second (second (second (first r))))
+trigger_reads words.Nonsticky x g fs ts e r = rule (second (second (second (second r))))
+trigger_reads _ x g fs ts e r = cc
 
 kind_reads : (k : Keyword) (x : Kind) (g : Goal Token) (fs : List (Form Terminal Rule)) (ts : List Token) → kind_of k ≡ Some x → Reads grammar g (Tok (terminals.Reserved k) ∷ fs) ts → Reads grammar g (Non rules.Kind ∷ fs) ts
 kind_reads words.Addrmap x g fs ts e r = rule (first r)
@@ -170,7 +170,7 @@ behind_reads (tree.some p d) g fs r = some (both (taken p g _ (expr_reads d g fs
 
 local_reads : {place : Place} {ts us : List Token} {s : Set} → DerivesLocal place ts us s → Reading (Non rules.Local) ts us
 local_reads (tree.assigned n v e) g fs r = rule (first (both (prop_reads n g _ (both (assigned_reads v g _ (taken e g fs r))))))
-local_reads {ts = ts} (tree.edged {k = k} {e = x} h w n e) g fs r = rule (second (both (edge_reads k x g _ ts h (taken w g _ (both (prop_reads n g _ (taken e g fs r)))))))
+local_reads {ts = ts} (tree.triggered {k = k} {e = x} h w n e) g fs r = rule (second (both (trigger_reads k x g _ ts h (taken w g _ (both (prop_reads n g _ (taken e g fs r)))))))
 
 set_reads : {ts us : List Token} {s : Set} → DerivesSet ts us s → Reading (Non rules.Local) ts us
 set_reads d g fs r = local_reads d.local g fs r

@@ -10,7 +10,7 @@ use Rattle.rdl_tree.specs.declared.token.Terminal.TheVariants as terminals
 use Rattle.rdl_tree.specs.Tokens.{is}
 
 pub data Rule : Type 0 where
-  Source Item Component Body Kind Params Param ParamType Made Insts InstList Args Arg Inst Index Range Enum Entry Default Local Edge Dynamic Prop Given Path Step Expr Binary Operator Prefix Primary : Rule
+  Source Item Component Body Kind Params Param ParamType Made Insts InstList Args Arg Inst Index Range Enum Entry Default Local Trigger Dynamic Prop Given Path Step Expr Binary Operator Prefix Primary : Rule
 
 abbrev pub name : Form Terminal Rule
 name = Tok terminals.Name
@@ -48,8 +48,8 @@ behind m = mark m then Non Expr
 -- enum      = "enum" name "{" { entry } "}" ";" .
 -- entry     = name [ "=" expr ] [ "{" { local } "}" ] ";" .
 -- default   = "default" local .
--- local     = prop [ "=" given ] ";" | edge prop ";" .
--- edge      = "posedge" | "negedge" | "bothedge" | "level" | "nonsticky" .
+-- local     = prop [ "=" given ] ";" | trigger prop ";" .
+-- trigger   = "posedge" | "negedge" | "bothedge" | "level" | "nonsticky" .
 -- dynamic   = path "->" prop [ "=" given ] ";" .
 -- prop      = name | "woset" | "woclr" | "rclr" | "rset" .
 -- given     = expr | "rw" | "wr" | "r" | "w" | "rw1" | "w1" | "na" | "woset" | "woclr" | "wot" | "wzs" | "wzc" | "wzt"
@@ -87,8 +87,8 @@ rule Range = mark marks.OpenBracket then Non Expr then mark marks.Colon then Non
 rule Enum = word words.Enum then name then mark marks.OpenBrace then Many (Non Entry) then mark marks.CloseBrace then mark marks.Semicolon
 rule Entry = name then Opt (behind marks.Equals) then Opt (mark marks.OpenBrace then Many (Non Local) then mark marks.CloseBrace) then mark marks.Semicolon
 rule Default = word words.Default then Non Local
-rule Local = Non Prop then Opt (mark marks.Equals then Non Given) then mark marks.Semicolon or Non Edge then Non Prop then mark marks.Semicolon
-rule Edge = word words.Posedge or word words.Negedge or word words.Bothedge or word words.Level or word words.Nonsticky
+rule Local = Non Prop then Opt (mark marks.Equals then Non Given) then mark marks.Semicolon or Non Trigger then Non Prop then mark marks.Semicolon
+rule Trigger = word words.Posedge or word words.Negedge or word words.Bothedge or word words.Level or word words.Nonsticky
 rule Dynamic = Non Path then mark marks.Arrow then Non Prop then Opt (mark marks.Equals then Non Given) then mark marks.Semicolon
 rule Prop = name or word words.Woset or word words.Woclr or word words.Rclr or word words.Rset
 rule Given =

@@ -1,8 +1,8 @@
 -- Which tree a list of tokens derives: each relation says what stands before the second list in the first.
 use Rattle.std.specs.Borrow.{Bor}
 use Rattle.std.specs.Prelude.{◌≡◌, ℕ, ◌+◌, ◌≤◌, true, false, Option, Some, None, Bool, IsTrue, List, [], ◌∷◌, option_copied}
-use Rattle.rb_base.specs.declared.edge.Edge.{Edge}
-use Rattle.rb_base.specs.declared.edge.Edge.TheVariants as edges
+use Rattle.rb_base.specs.declared.trigger.Trigger.{Trigger}
+use Rattle.rb_base.specs.declared.trigger.Trigger.TheVariants as triggers
 use Rattle.rdl_base.specs.declared.keyword.Keyword.{Keyword}
 use Rattle.rdl_base.specs.declared.keyword.Keyword.TheVariants as words
 use Rattle.rb_base.specs.declared.place.Place.{Place}
@@ -207,25 +207,25 @@ pub data DerivesAssigned : List Token → List Token → Option Assigned → Typ
   none : {ts : List Token} → DerivesAssigned ts ts None
   some : {t : Token} {ts us vs : List Token} {g : Assigned} → IsMark marks.Equals ts t us → DerivesGiven us vs g → DerivesAssigned ts vs (Some g)
 
-abbrev pub edge_of : Keyword → Option Edge
-edge_of words.Posedge = Some edges.Posedge
-edge_of words.Negedge = Some edges.Negedge
-edge_of words.Bothedge = Some edges.Bothedge
-edge_of words.Level = Some edges.Level
-edge_of words.Nonsticky = Some edges.Nonsticky
-edge_of k = None
+abbrev pub trigger_of : Keyword → Option Trigger
+trigger_of words.Posedge = Some triggers.Posedge
+trigger_of words.Negedge = Some triggers.Negedge
+trigger_of words.Bothedge = Some triggers.Bothedge
+trigger_of words.Level = Some triggers.Level
+trigger_of words.Nonsticky = Some triggers.Nonsticky
+trigger_of k = None
 
 -- the list begins at this place
 abbrev pub StartsAt : List Token → Place → Type 0
 StartsAt [] place = ⊥
 StartsAt (t ∷ ts) place = place ≡ t.place
 
--- local = prop [ "=" given ] ";" | edge prop ";" .
+-- local = prop [ "=" given ] ";" | trigger prop ";" .
 pub data DerivesLocal (place : Place) : List Token → List Token → Set → Type 0 where
   assigned : {t : Token} {ts us vs ws : List Token} {n : Name} {g : Option Assigned} → DerivesProp ts us n → DerivesAssigned us vs g → IsMark marks.Semicolon vs t ws
-      → DerivesLocal place ts ws (record { prop = n; edge = None; value = g; place = place })
-  edged : {t u : Token} {ts us vs ws : List Token} {k : Keyword} {e : Edge} {n : Name} → edge_of k ≡ Some e → IsWord k ts t us → DerivesProp us vs n → IsMark marks.Semicolon vs u ws
-      → DerivesLocal place ts ws (record { prop = n; edge = Some e; value = None; place = place })
+      → DerivesLocal place ts ws (record { prop = n; trigger = None; value = g; place = place })
+  triggered : {t u : Token} {ts us vs ws : List Token} {k : Keyword} {e : Trigger} {n : Name} → trigger_of k ≡ Some e → IsWord k ts t us → DerivesProp us vs n → IsMark marks.Semicolon vs u ws
+      → DerivesLocal place ts ws (record { prop = n; trigger = Some e; value = None; place = place })
 
 -- local, at the place of its first token
 pub record DerivesSet (ts us : List Token) (s : Set) : Type 0 where
@@ -310,7 +310,7 @@ mutual
     default : {t : Token} {ts us vs : List Token} {s : Set} → IsWord words.Default ts t us → s.place ≡ t.place → DerivesLocal s.place us vs s → DerivesItem ts vs (items.Default s)
     local : {ts us : List Token} {s : Set} → DerivesSet ts us s → DerivesItem ts us (items.Local s)
     dynamic : {t u : Token} {ts us vs ws xs ys : List Token} {p : Path} {n : Name} {g : Option Assigned} {place : Place} → StartsAt ts place → DerivesPath ts us p → IsMark marks.Arrow us t vs → DerivesProp vs ws n
-        → DerivesAssigned ws xs g → IsMark marks.Semicolon xs u ys → DerivesItem ts ys (items.Dynamic p (record { prop = n; edge = None; value = g; place = place }))
+        → DerivesAssigned ws xs g → IsMark marks.Semicolon xs u ys → DerivesItem ts ys (items.Dynamic p (record { prop = n; trigger = None; value = g; place = place }))
 
   -- component = [ "internal" ] kind ( name [ params ] body [ [ "internal" ] insts ] | body [ "internal" ] inst { "," inst } ) ";" .
   pub data DerivesDef : List Token → List Token → Def → Type 0 where

@@ -1,7 +1,7 @@
 //! The items of a source: definitions, instances and property assignments (SystemRDL 2.0, clause 5 and annex B).
 
 use crate::expr::{Expr, Name, Path};
-use rb_base::{Edge, Place};
+use rb_base::{Place, Trigger};
 use rdl_base::Keyword;
 
 /// What a component is (SystemRDL 2.0, 5.1.1).
@@ -63,12 +63,12 @@ pub enum Assigned<'a> {
     Word(Keyword),
 }
 
-/// An assignment of a property (SystemRDL 2.0, 5.1.3): its edge word or its value, if it has one. The place is its
+/// An assignment of a property (SystemRDL 2.0, 5.1.3): its trigger word or its value, if it has one. The place is its
 /// first byte, the word `default` or a target included.
 #[derive(Clone, Copy)]
 pub struct Set<'a> {
     pub prop: Name<'a>,
-    pub edge: Option<Edge>,
+    pub trigger: Option<Trigger>,
     pub value: Option<Assigned<'a>>,
     pub place: Place,
 }

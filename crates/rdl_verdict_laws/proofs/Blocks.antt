@@ -2,7 +2,7 @@
 use Rattle.std.specs.List.{list_any}
 use Rattle.std.proofs.Common.{◌≡◌, ℕ, ◌+◌, ◌-◌, ◌*◌, ◌/◌, ◌^◌, ◌==◌, Bool, true, false, not, ◌&&◌, ◌||◌, cond, refl, sym, ap, ◌∙◌, subst, List, [], ◌∷◌, ◌++◌, map, flat_map, filter, Option, Some, None}
 use Rattle.std.proofs.lemmas.List.{map-append}
-use Rattle.rb_base.specs.declared.edge.Edge.TheVariants as edge
+use Rattle.rb_base.specs.declared.trigger.Trigger.TheVariants as trigger
 use Rattle.rb_model.specs.declared.block.Block.{Block}
 use Rattle.rb_model.specs.declared.block.Field.{Field}
 use Rattle.rb_model.specs.declared.block.View.{View}
@@ -259,7 +259,7 @@ class-plain : (vs : List Instance) (f : Instance) → class_of (map plain_instan
 class-plain vs f = λ i. cond (wire-plain vs f i) class.Wire (cond (storage-plain vs f i) class.Storage class.Constant)
 
 abbrev latch_by : Bool → Meaning → Latch
-latch_by b (intr edge.Nonsticky) = latch.Plain
+latch_by b (intr trigger.Nonsticky) = latch.Plain
 latch_by b (intr e) = cond b (latch.Whole e) (latch.Bits e)
 latch_by b _ = latch.Off
 

@@ -40,7 +40,7 @@ hw = items.Local (assign (name (codes "hw") 35) None (word words.R) 35)
 
 -- NAME = WORD ; as a setting
 set : (n e w s : Token) (k : Keyword) (us : List Token) → IsTrue (is terminals.Name n) → IsTrue (is (terminals.Mark marks.Equals) e) → IsTrue (tree.is_value k) → IsTrue (is (terminals.Reserved k) w) → IsTrue (is (terminals.Mark marks.Semicolon) s)
-    → tree.DerivesItem (n ∷ e ∷ w ∷ s ∷ us) us (items.Local (record { prop = record { text = n.text; place = n.place }; edge = None; value = word k; place = n.place }))
+    → tree.DerivesItem (n ∷ e ∷ w ∷ s ∷ us) us (items.Local (record { prop = record { text = n.text; place = n.place }; trigger = None; value = word k; place = n.place }))
 set n e w s k us hn he hk hw hs = tree.local (record {
   at = refl;
   local = tree.assigned (tree.name (named n (e ∷ w ∷ s ∷ us) hn)) (tree.some (took (terminals.Mark marks.Equals) e (w ∷ s ∷ us) he) (tree.word hk (took (terminals.Reserved k) w (s ∷ us) hw))) (took (terminals.Mark marks.Semicolon) s us hs);

@@ -1,6 +1,6 @@
 -- Tokens derive one list of items, apart from addresses.
 use Rattle.std.proofs.Common.{◌≡◌, ◌⊎◌, inl, inr, Bool, true, false, refl, sym, ap, ◌∙◌, List, [], ◌∷◌, map, Option, Some, None, option_map}
-use Rattle.rb_base.specs.declared.edge.Edge.{Edge}
+use Rattle.rb_base.specs.declared.trigger.Trigger.{Trigger}
 use Rattle.rdl_base.specs.declared.keyword.Keyword.{Keyword}
 use Rattle.rdl_base.specs.declared.keyword.Keyword.TheVariants as words
 use Rattle.rb_base.specs.declared.place.Place.{Place}
@@ -18,7 +18,7 @@ use Rattle.rdl_tree.specs.declared.token.Mark.TheVariants as marks
 use Rattle.rdl_tree.specs.declared.token.Token.{Token}
 use Rattle.rdl_tree.specs.declared.token.Terminal.{Terminal}
 use Rattle.rdl_tree.specs.declared.token.Terminal.TheVariants as terminals
-use Rattle.rdl_tree.specs.Tree.{IsMark, IsWord, IsName, kind_of, edge_of, names_property, StartsAt, DerivesProp, DerivesPath, DerivesSteps, DerivesIndices, DerivesAssigned, DerivesLocal, DerivesSet, DerivesListed, DerivesHashed, DerivesParam, DerivesInst, DerivesInsts, SkipsInternal, DerivesMade, DerivesAlias, DerivesItem, DerivesDef, DerivesBody, DerivesItems}
+use Rattle.rdl_tree.specs.Tree.{IsMark, IsWord, IsName, kind_of, trigger_of, names_property, StartsAt, DerivesProp, DerivesPath, DerivesSteps, DerivesIndices, DerivesAssigned, DerivesLocal, DerivesSet, DerivesListed, DerivesHashed, DerivesParam, DerivesInst, DerivesInsts, SkipsInternal, DerivesMade, DerivesAlias, DerivesItem, DerivesDef, DerivesBody, DerivesItems}
 use Rattle.rdl_tree.specs.Tree as tree
 use Rattle.rdl_verdict_laws.specs.Plain.{nowhere, plain_name, plain_arg, plain_insts, plain_param, plain_item, plain_def}
 use Rattle.rdl_verdict_laws.proofs.Built.{def-plain}
@@ -124,13 +124,13 @@ kind_internal _ x e = refl
 not_internal : (k : Keyword) (x : Kind) → kind_of k ≡ Some x → k ≡ words.Internal → ⊥
 not_internal k x e h = let f : kind_of words.Internal ≡ Some x = sym (ap kind_of h) ∙ e in cc
 
-edge_word : (k : Keyword) (x : Edge) → edge_of k ≡ Some x → (b : Option Terminal) → word_role k b ≡ setting
-edge_word words.Posedge x e b = refl
-edge_word words.Negedge x e b = refl
-edge_word words.Bothedge x e b = refl
-edge_word words.Level x e b = refl
-edge_word words.Nonsticky x e b = refl
-edge_word _ x e b = cc
+trigger_word : (k : Keyword) (x : Trigger) → trigger_of k ≡ Some x → (b : Option Terminal) → word_role k b ≡ setting
+trigger_word words.Posedge x e b = refl
+trigger_word words.Negedge x e b = refl
+trigger_word words.Bothedge x e b = refl
+trigger_word words.Level x e b = refl
+trigger_word words.Nonsticky x e b = refl
+trigger_word _ x e b = cc
 
 prop_word : (k : Keyword) → names_property k ≡ true → (b : Option Terminal) → word_role k b ≡ setting
 prop_word words.Woset e b = refl
@@ -167,7 +167,7 @@ assigned_role (tree.some p d) e = ap behind_name (next_is p)
 local_role : {q : Place} {ts us : List Token} {s : Set} → DerivesLocal q ts us s → role ts ≡ setting
 local_role (tree.assigned (tree.name p) v e) = role_at _ (next_is p.1) (second_is p.1) (assigned_role v e)
 local_role {ts = ts} (tree.assigned (tree.word {k = k} h p n) v e) = role_at _ (next_is p) refl (prop_word k h (second ts))
-local_role {ts = ts} (tree.edged {k = k} {e = x} h w n e) = role_at _ (next_is w) refl (edge_word k x h (second ts))
+local_role {ts = ts} (tree.triggered {k = k} {e = x} h w n e) = role_at _ (next_is w) refl (trigger_word k x h (second ts))
 
 indices_role : {ts us : List Token} {es : List _} → DerivesIndices ts us es → behind_name (next us) ≡ dynamic → behind_name (next ts) ≡ dynamic
 indices_role tree.no_index h = h
@@ -264,7 +264,7 @@ mutual
       let i = prop_once n n' (taken a a' h.rest).rest in
       let k = assigned_once v v' i.rest (next_is m) (next_is m') in
       let z = starts_once ts ts' x y p p' s in
-      record { rest = (taken m m' k.rest).rest; tree = λ j. items.Dynamic (h.tree j) (record { prop = i.tree j; edge = None; value = k.tree j; place = z j }) }
+      record { rest = (taken m m' k.rest).rest; tree = λ j. items.Dynamic (h.tree j) (record { prop = i.tree j; trigger = None; value = k.tree j; place = z j }) }
   item_once {ts = ts} d {ts' = ts'} b s = absurd (clash (role_in d) (role_in b) refl (sym (item_role d) ∙ role_same ts ts' s ∙ item_role b))
 
   def_once : {ts us : List Token} {d : Def} → DerivesDef ts us d → {ts' us' : List Token} {b : Def} → DerivesDef ts' us' b → Same ts ts' → Once plain_def us us' d b

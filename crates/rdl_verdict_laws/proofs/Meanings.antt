@@ -2,7 +2,7 @@
 use Rattle.std.specs.Option.{option_and_then}
 use Rattle.std.specs.Prelude.{bytes_eq, codes}
 use Rattle.std.proofs.Common.{◌≡◌, Bool, true, false, cond, refl, sym, ap, ◌∙◌, List, flat_map, Option, Some, None, option_map, Ok, Err}
-use Rattle.rb_base.specs.declared.edge.Edge.{Edge}
+use Rattle.rb_base.specs.declared.trigger.Trigger.{Trigger}
 use Rattle.rdl_base.specs.declared.keyword.Keyword.{Keyword}
 use Rattle.rb_base.specs.declared.place.Place.{Place}
 use Rattle.rdl_base.specs.declared.rule.Rule.{Rule}
@@ -28,7 +28,7 @@ use Rattle.rdl_verdict_laws.proofs.Lists.{flat_under}
 use Rattle.rdl_verdict_laws.proofs.Values.{steps-plain, bare_name-plain, parameter-plain, value-plain, values-plain}
 use Rattle.rdl_verdict_laws.proofs.Bodies.{around-plain}
 use Rattle.rdl_layers.specs.Forms.{Meaning, unset, flag, number, text, named, intr, hard, enum_of, reference, only_true, level_if, flag_or_number, from_value, from_word, addressing_word, sw_word, hw_word, write_word, read_word, takes_reference, side}
-use Rattle.rdl_layers.specs.Meanings.{Assignment, enum_named, parameter_or_reference, from_path, from_expr, from_given, from_edge, meaning_as, meaning}
+use Rattle.rdl_layers.specs.Meanings.{Assignment, enum_named, parameter_or_reference, from_path, from_expr, from_given, from_trigger, meaning_as, meaning}
 use Rattle.rdl_verdict_laws.specs.PlainSettings.{plain_meaning, plain_outcome, plain_assignment}
 
 -- Constants and words have no addresses.
@@ -154,17 +154,17 @@ given-plain f s place None = or_clean (from_value f (val.flag true)) rules.P6 pl
 given-plain f s place (Some (given.Word w)) = or_clean (from_word f w) rules.P6 place (word_clean f w)
 given-plain f s place (Some (given.Expr e)) = from_expr-plain f s place e
 
-edge-plain : (f : Form) (place : Place) (e : Edge) (v : Option Assigned) → from_edge f place e (option_map plain_given v) ≡ plain_outcome (from_edge f place e v)
-edge-plain form.Intr place e None = refl
-edge-plain form.Intr place e (Some g) = refl
-edge-plain _ place e v = refl
+trigger-plain : (f : Form) (place : Place) (e : Trigger) (v : Option Assigned) → from_trigger f place e (option_map plain_given v) ≡ plain_outcome (from_trigger f place e v)
+trigger-plain form.Intr place e None = refl
+trigger-plain form.Intr place e (Some g) = refl
+trigger-plain _ place e v = refl
 
-as_of : (f : Form) (n : Name) (edge : Option Edge) (v : Option Assigned) (place : Place) (s : Scope) → meaning_as f (plain_assignment (record { set_ = record { prop = n; edge = edge; value = v; place = place }; scope = s })) ≡ plain_outcome (meaning_as f (record { set_ = record { prop = n; edge = edge; value = v; place = place }; scope = s }))
+as_of : (f : Form) (n : Name) (trigger : Option Trigger) (v : Option Assigned) (place : Place) (s : Scope) → meaning_as f (plain_assignment (record { set_ = record { prop = n; trigger = edge; value = v; place = place }; scope = s })) ≡ plain_outcome (meaning_as f (record { set_ = record { prop = n; trigger = edge; value = v; place = place }; scope = s }))
 as_of f n None v place s = given-plain f s place v
-as_of f n (Some e) v place s = edge-plain f place e v
+as_of f n (Some e) v place s = trigger-plain f place e v
 
 pub meaning-plain : (p : Prop) (a : Assignment) → meaning p (plain_assignment a) ≡ plain_outcome (meaning p a)
-meaning-plain p a = as_of (takes_of p) a.set_.prop a.set_.edge a.set_.value a.set_.place a.scope
+meaning-plain p a = as_of (takes_of p) a.set_.prop a.set_.trigger a.set_.value a.set_.place a.scope
 
 -- a test that looks at no reference and no enum
 pub tested : {A : Type 0} (f : Meaning → A) (h : (n : Name) (s : Scope) → f (enum_of (plain_name n) (plain_scope s)) ≡ f (enum_of n s)) (k : (p : Path) (n : Option Name) (s : Scope) (q : Place) → f (reference (plain_path p) (option_map plain_name n) (plain_scope s) q) ≡ f (reference p n s q))

@@ -3,7 +3,7 @@ use Rattle.std.specs.Borrow.{Bor}
 use Rattle.std.proofs.Common.{◌≡◌, ◌⊎◌, inl, inr, ℕ, ◌+◌, ◌≤◌, Bool, true, false, refl, sym, ap, ◌∙◌, subst, List, [], ◌∷◌, map, Option, Some, None, option_map, arith, IsTrue}
 use Rattle.std.specs.Prelude.{option_copied}
 use Rattle.plain_lemmas.proofs.Bools.{and-left}
-use Rattle.rb_base.specs.declared.edge.Edge.{Edge}
+use Rattle.rb_base.specs.declared.trigger.Trigger.{Trigger}
 use Rattle.rdl_base.specs.declared.keyword.Keyword.{Keyword}
 use Rattle.rdl_base.specs.declared.keyword.Keyword.TheVariants as words
 use Rattle.rb_base.specs.declared.place.Place.{Place}
@@ -23,7 +23,7 @@ use Rattle.rdl_tree.specs.declared.token.Mark.TheVariants as marks
 use Rattle.rdl_tree.specs.declared.token.Token.{Token}
 use Rattle.rdl_tree.specs.declared.token.Terminal.{Terminal}
 use Rattle.rdl_tree.specs.declared.token.Terminal.TheVariants as terminals
-use Rattle.rdl_tree.specs.Tree.{IsMark, IsWord, is_value, edge_of, type_of, StartsAt, names_property, DerivesProp, DerivesExpr, DerivesBinary, DerivesPrefix, DerivesPrimary, DerivesPath, DerivesIndices, DerivesGiven, DerivesAssigned, DerivesBehind, DerivesLocal, DerivesSet, DerivesMany, DerivesListed, DerivesSets, DerivesEntry, DerivesType, DerivesParam, DerivesArg, DerivesHashed, DerivesShape, DerivesInst, DerivesInsts, SkipsInternal, DerivesMade, DerivesAlias}
+use Rattle.rdl_tree.specs.Tree.{IsMark, IsWord, is_value, trigger_of, type_of, StartsAt, names_property, DerivesProp, DerivesExpr, DerivesBinary, DerivesPrefix, DerivesPrimary, DerivesPath, DerivesIndices, DerivesGiven, DerivesAssigned, DerivesBehind, DerivesLocal, DerivesSet, DerivesMany, DerivesListed, DerivesSets, DerivesEntry, DerivesType, DerivesParam, DerivesArg, DerivesHashed, DerivesShape, DerivesInst, DerivesInsts, SkipsInternal, DerivesMade, DerivesAlias}
 use Rattle.rdl_tree.specs.Tree as tree
 use Rattle.rdl_verdict_laws.specs.Plain.{nowhere, plain_name, plain_expr, plain_token, plain_given, plain_set, plain_entry, plain_behind, plain_pair, plain_range, plain_inst, plain_arg, plain_insts, plain_param}
 use Rattle.rdl_verdict_laws.proofs.Tokens.{Same, Once, next, next_same, next_is, taken, name_once, prop_once, no_index, no_dot, ends_expr, path_ends, primary_ends, binary_ends}
@@ -119,27 +119,27 @@ prop_at : {ts us : List Token} {n : Name} → DerivesProp ts us n → (k : Keywo
 prop_at (tree.name p) k e = let h = next_is p.1 in let g : Some terminals.Name ≡ Some (terminals.Reserved k) = sym h ∙ e in cc
 prop_at (tree.word {k = l} v p n) k e = let g : Some (terminals.Reserved l) ≡ Some (terminals.Reserved k) = sym (next_is p) ∙ e in let h : l ≡ k = cc in subst (λ z. names_property z ≡ true) h v
 
-edge_no_prop : (k : Keyword) (e : Edge) → edge_of k ≡ Some e → names_property k ≡ true → ⊥
-edge_no_prop words.Posedge e h p = cc
-edge_no_prop words.Negedge e h p = cc
-edge_no_prop words.Bothedge e h p = cc
-edge_no_prop words.Level e h p = cc
-edge_no_prop words.Nonsticky e h p = cc
-edge_no_prop _ e h p = cc
+trigger_no_prop : (k : Keyword) (e : Trigger) → trigger_of k ≡ Some e → names_property k ≡ true → ⊥
+trigger_no_prop words.Posedge e h p = cc
+trigger_no_prop words.Negedge e h p = cc
+trigger_no_prop words.Bothedge e h p = cc
+trigger_no_prop words.Level e h p = cc
+trigger_no_prop words.Nonsticky e h p = cc
+trigger_no_prop _ e h p = cc
 
 pub local_once : {p q : Place} {ts us ts' us' : List Token} {a b : Set} → DerivesLocal p ts us a → DerivesLocal q ts' us' b → p ≡ q → Same ts ts' → Once plain_set us us' a b
 local_once (tree.assigned n v e) (tree.assigned n' v' e') z s =
     let h = prop_once n n' s in
     let i = assigned_once v v' h.rest (next_is e) (next_is e') in
-    record { rest = (taken e e' i.rest).rest; tree = λ j. record { prop = h.tree j; edge = None; value = i.tree j; place = z j } }
-local_once (tree.assigned n v e) (tree.edged {k = k} {e = x} h w m f) z s = absurd (edge_no_prop k x h (prop_at n k (next_same _ _ s ∙ next_is w)))
-local_once (tree.edged {k = k} {e = x} h w m f) (tree.assigned n v e) z s = absurd (edge_no_prop k x h (prop_at n k (sym (next_same _ _ s) ∙ next_is w)))
-local_once (tree.edged {k = k} {e = x} h w m f) (tree.edged {k = k'} {e = x'} h' w' m' f') z s =
+    record { rest = (taken e e' i.rest).rest; tree = λ j. record { prop = h.tree j; trigger = None; value = i.tree j; place = z j } }
+local_once (tree.assigned n v e) (tree.triggered {k = k} {e = x} h w m f) z s = absurd (trigger_no_prop k x h (prop_at n k (next_same _ _ s ∙ next_is w)))
+local_once (tree.triggered {k = k} {e = x} h w m f) (tree.assigned n v e) z s = absurd (trigger_no_prop k x h (prop_at n k (sym (next_same _ _ s) ∙ next_is w)))
+local_once (tree.triggered {k = k} {e = x} h w m f) (tree.triggered {k = k'} {e = x'} h' w' m' f') z s =
     let e = apart _ _ s (next_is w) (next_is w') in
     let kk : k ≡ k' = cc in
-    let ee : Some x ≡ Some x' = sym h ∙ ap edge_of kk ∙ h' in
+    let ee : Some x ≡ Some x' = sym h ∙ ap trigger_of kk ∙ h' in
     let i = prop_once m m' (taken w w' s).rest in
-    record { rest = (taken f f' i.rest).rest; tree = λ j. record { prop = i.tree j; edge = ee j; value = None; place = z j } }
+    record { rest = (taken f f' i.rest).rest; tree = λ j. record { prop = i.tree j; trigger = ee j; value = None; place = z j } }
 
 pub starts_once : (ts us : List Token) (p q : Place) → StartsAt ts p → StartsAt us q → Same ts us → p ≡ q
 starts_once [] us p q a b s = absurd a
@@ -195,7 +195,7 @@ prop_opens (tree.word v p n) e = cc (next_is p)
 
 local_opens : {q : Place} {m : Mark} {ts us : List Token} {s : Set} → DerivesLocal q ts us s → next ts ≡ Some (terminals.Mark m) → ⊥
 local_opens (tree.assigned n v e) h = prop_opens n h
-local_opens (tree.edged x w n e) h = cc (next_is w)
+local_opens (tree.triggered x w n e) h = cc (next_is w)
 
 pub sets_once : {ts us ts' us' : List Token} {a b : List Set} → DerivesSets ts us a → DerivesSets ts' us' b → Same ts ts' → next us ≡ Some (terminals.Mark marks.Semicolon) → next us' ≡ Some (terminals.Mark marks.Semicolon) → Once (map plain_set) us us' a b
 sets_once tree.none tree.none s x y = record { rest = s; tree = refl }

@@ -5,7 +5,7 @@ use Rattle.rdl_tree.specs.declared.item.Source.{Source}
 use Rattle.rdl_tree.specs.declared.expr.Expr.TheVariants as expr
 use Rattle.rdl_tree.specs.declared.item.Kind.TheVariants as kind
 use Rattle.rdl_tree.specs.declared.item.PType.TheVariants as ptype
-use Rattle.rb_base.specs.declared.edge.Edge.TheVariants as edge
+use Rattle.rb_base.specs.declared.trigger.Trigger.TheVariants as trigger
 use Rattle.rdl_base.specs.declared.keyword.Keyword.TheVariants as keyword
 use Rattle.rdl_worked.proofs.Trees.{lend, at, name, step_to, path_of, word, value, assign, inst, insts_of, component, source}
 
@@ -66,7 +66,7 @@ serial_port = source (
     item.Def (component kind.Reg None [] 561 (
     item.Def (component kind.Field None [] 567 (
     item.Local (assign (name (codes "hw") 575) None (word keyword.W) 575) ∷
-    item.Local (assign (name (codes "intr") 591) (Some edge.Posedge) None 583) ∷
+    item.Local (assign (name (codes "intr") 591) (Some trigger.Posedge) None 583) ∷
     item.Local (assign (name (codes "woclr") 597) None None 597) ∷ []) (Some (insts_of [] ((record (inst (name (codes "ev") 606)) { dims = lend ((expr.Number 4 (at 609)) ∷ []); reset = Some (lend (expr.Number 0 (at 614))) }) ∷ [])))) ∷ []) (Some (insts_of [] ((record (inst (name (codes "isr") 619)) { at = Some (lend (expr.Number 8 (at 624))) }) ∷ [])))) ∷
     item.Made None (name (codes "ier_t") 632) (insts_of ((record { name = (name (codes "W") 641); value = (expr.Number 4 (at 643)) }) ∷ []) ((record (inst (name (codes "ier") 647)) { at = Some (lend (expr.Number 12 (at 652))) }) ∷ [])) ∷
     item.Dynamic (path_of ((step_to (name (codes "isr") 660) []) ∷ (step_to (name (codes "ev") 664) []) ∷ [])) (assign (name (codes "enable") 668) None (value (expr.Ref (path_of ((step_to (name (codes "ier") 677) []) ∷ (step_to (name (codes "en") 681) []) ∷ [])) None)) 660) ∷
@@ -245,13 +245,13 @@ many_kinds = source (
     item.Def (component kind.Field None [] 184 (
     item.Local (assign (name (codes "sw") 192) None (word keyword.Rw) 192) ∷
     item.Local (assign (name (codes "hw") 199) None (word keyword.W) 199) ∷
-    item.Local (assign (name (codes "intr") 213) (Some edge.Posedge) None 205) ∷
+    item.Local (assign (name (codes "intr") 213) (Some trigger.Posedge) None 205) ∷
     item.Local (assign (name (codes "woclr") 219) None None 219) ∷
     item.Local (assign (name (codes "sticky") 226) None (value (expr.Flag false (at 235))) 226) ∷ []) (Some (insts_of [] ((record (inst (name (codes "ev") 244)) { dims = lend ((expr.Number 4 (at 247)) ∷ []); reset = Some (lend (expr.Number 0 (at 252))) }) ∷ [])))) ∷
     item.Def (component kind.Field None [] 259 (
     item.Local (assign (name (codes "sw") 267) None (word keyword.R) 267) ∷
     item.Local (assign (name (codes "hw") 273) None (word keyword.W) 273) ∷
-    item.Local (assign (name (codes "intr") 289) (Some edge.Nonsticky) None 279) ∷ []) (Some (insts_of [] ((record (inst (name (codes "ns") 297)) { dims = lend ((expr.Number 4 (at 300)) ∷ []) }) ∷ [])))) ∷
+    item.Local (assign (name (codes "intr") 289) (Some trigger.Nonsticky) None 279) ∷ []) (Some (insts_of [] ((record (inst (name (codes "ns") 297)) { dims = lend ((expr.Number 4 (at 300)) ∷ []) }) ∷ [])))) ∷
     item.Def (component kind.Field None [] 304 (
     item.Local (assign (name (codes "sw") 312) None (word keyword.Rw) 312) ∷
     item.Local (assign (name (codes "hw") 319) None (word keyword.Na) 319) ∷ []) (Some (insts_of [] ((record (inst (name (codes "cfg") 328)) { dims = lend ((expr.Number 4 (at 332)) ∷ []); reset = Some (lend (expr.Number 3 (at 337))) }) ∷ [])))) ∷

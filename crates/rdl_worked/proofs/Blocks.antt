@@ -2,7 +2,7 @@
 use Rattle.std.proofs.Common.{drop, take, ◌≡◌, ℕ, Bool, true, false, List, [], ◌∷◌, ◌++◌, refl, map, flat_map, filter, Option, None, Some, codes, arith}
 use Rattle.std.proofs.lemmas.List.Sorted.{IsPermutation-refl}
 use Rattle.std.specs.Fmt.{digits}
-use Rattle.rb_base.specs.declared.edge.Edge.TheVariants as edge
+use Rattle.rb_base.specs.declared.trigger.Trigger.TheVariants as trigger
 use Rattle.rb_model.specs.declared.block.Block.{Block}
 use Rattle.rb_model.specs.declared.block.Field.{Field}
 use Rattle.rb_model.specs.declared.block.Slot.{Slot}
@@ -132,7 +132,7 @@ unfolding nodes lineages setting items led_to layout all_groups failures3 failur
 serial_port_classes = refl
 
 -- its interrupt keeps each bit from a rising edge on, and is enabled by a field
-serial_port_interrupt : map {B = Latch × Mask} (λ f. (f.latch, f.enable)) (filter (λ f. f.hw_writes) (fields_in serial_port)) ≡ (latch.Off, mask.Off) ∷ (latch.Off, mask.Off) ∷ (latch.Bits edge.Posedge, mask.Enable (item.Field 7)) ∷ []
+serial_port_interrupt : map {B = Latch × Mask} (λ f. (f.latch, f.enable)) (filter (λ f. f.hw_writes) (fields_in serial_port)) ≡ (latch.Off, mask.Off) ∷ (latch.Off, mask.Off) ∷ (latch.Bits trigger.Posedge, mask.Enable (item.Field 7)) ∷ []
 unfolding nodes lineages setting items led_to layout all_groups failures3 failures4 failures_ab failures_r failures6 digits props reference_props roll-Path denote.Hole.Carrier.roll Rattle.rdl_tree.specs.declared.expr.Expr.TheBlock.hidden-the_row-Step-1 denote.Hole.Carrier.hidden Rattle.rdl_tree.specs.declared.item.Item.TheBlock.hidden-the_row-Item-0
 serial_port_interrupt = refl
 

@@ -4,7 +4,7 @@ use Rattle.rdl_tree.specs.declared.item.Item.TheVariants as item
 use Rattle.rdl_tree.specs.declared.item.Source.{Source}
 use Rattle.rdl_tree.specs.declared.expr.Expr.TheVariants as expr
 use Rattle.rdl_tree.specs.declared.item.Kind.TheVariants as kind
-use Rattle.rb_base.specs.declared.edge.Edge.TheVariants as edge
+use Rattle.rb_base.specs.declared.trigger.Trigger.TheVariants as trigger
 use Rattle.rdl_base.specs.declared.keyword.Keyword.TheVariants as keyword
 use Rattle.rdl_worked.proofs.Trees.{lend, at, name, step_to, path_of, word, value, assign, inst, insts_of, component, source}
 
@@ -60,7 +60,7 @@ field_rules = source (
     item.Def (component kind.Field None [] 316 (
     item.Local (assign (name (codes "sw") 324) None (word keyword.R) 324) ∷
     item.Local (assign (name (codes "hw") 330) None (word keyword.W) 330) ∷
-    item.Local (assign (name (codes "intr") 346) (Some edge.Nonsticky) None 336) ∷
+    item.Local (assign (name (codes "intr") 346) (Some trigger.Nonsticky) None 336) ∷
     item.Local (assign (name (codes "sticky") 352) None None 352) ∷ []) (Some (insts_of [] ((inst (name (codes "i") 362)) ∷ [])))) ∷
     item.Def (component kind.Field None [] 365 (
     item.Local (assign (name (codes "sw") 373) None (word keyword.Rw) 373) ∷

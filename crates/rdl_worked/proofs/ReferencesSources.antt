@@ -4,7 +4,7 @@ use Rattle.rdl_tree.specs.declared.item.Item.TheVariants as item
 use Rattle.rdl_tree.specs.declared.item.Source.{Source}
 use Rattle.rdl_tree.specs.declared.expr.Expr.TheVariants as expr
 use Rattle.rdl_tree.specs.declared.item.Kind.TheVariants as kind
-use Rattle.rb_base.specs.declared.edge.Edge.TheVariants as edge
+use Rattle.rb_base.specs.declared.trigger.Trigger.TheVariants as trigger
 use Rattle.rdl_base.specs.declared.keyword.Keyword.TheVariants as keyword
 use Rattle.rdl_worked.proofs.Trees.{lend, at, name, step_to, path_of, word, value, assign, inst, insts_of, component, source}
 
@@ -113,7 +113,7 @@ many_items = source (
     item.Def (component kind.Field None [] 128 (
     item.Local (assign (name (codes "sw") 136) None (word keyword.R) 136) ∷
     item.Local (assign (name (codes "hw") 142) None (word keyword.W) 142) ∷
-    item.Local (assign (name (codes "intr") 158) (Some edge.Nonsticky) None 148) ∷ []) (Some (insts_of [] ((inst (name (codes "lv") 166)) ∷ [])))) ∷
+    item.Local (assign (name (codes "intr") 158) (Some trigger.Nonsticky) None 148) ∷ []) (Some (insts_of [] ((inst (name (codes "lv") 166)) ∷ [])))) ∷
     item.Dynamic (path_of ((step_to (name (codes "lv") 170) []) ∷ [])) (assign (name (codes "next") 174) None (value (expr.Ref (path_of ((step_to (name (codes "en") 181) []) ∷ [])) (Some (name (codes "xored") 185)))) 170) ∷
     item.Def (component kind.Field None [] 192 (
     item.Local (assign (name (codes "sw") 200) None (word keyword.Rw) 200) ∷

@@ -1,7 +1,7 @@
 -- Settings and failures of the settings phase, worked out by hand and computed.
 use Rattle.std.proofs.Common.{◌≡◌, ℕ, Bool, true, false, List, [], ◌∷◌, refl, map, flat_map, filter, length, Option, None, Some, codes}
 use Rattle.std.specs.Fmt.{digits}
-use Rattle.rb_base.specs.declared.edge.Edge.TheVariants as edge
+use Rattle.rb_base.specs.declared.trigger.Trigger.TheVariants as trigger
 use Rattle.rdl_base.specs.declared.fault.Fault.{Fault}
 use Rattle.rdl_base.specs.declared.keyword.Keyword.TheVariants as word
 use Rattle.rb_base.specs.declared.place.Place.{Place}
@@ -398,8 +398,8 @@ interrupts_is_clean : verdict interrupts ≡ []
 unfolding nodes setting failures4 digits props reference_props left_out_names roll-Path denote.Hole.Carrier.roll Rattle.rdl_tree.specs.declared.expr.Expr.TheBlock.hidden-the_row-Step-1 denote.Hole.Carrier.hidden Rattle.rdl_tree.specs.declared.item.Item.TheBlock.hidden-the_row-Item-0
 interrupts_is_clean = refl
 
--- an interrupt without an edge word is one of level
-interrupts_intr : settings kind.Field prop.Intr interrupts ≡ intr edge.Level ∷ intr edge.Posedge ∷ intr edge.Level ∷ intr edge.Nonsticky ∷ intr edge.Level ∷ intr edge.Bothedge ∷ intr edge.Negedge ∷ []
+-- an interrupt without a trigger word is one of level
+interrupts_intr : settings kind.Field prop.Intr interrupts ≡ intr trigger.Level ∷ intr trigger.Posedge ∷ intr trigger.Level ∷ intr trigger.Nonsticky ∷ intr trigger.Level ∷ intr trigger.Bothedge ∷ intr trigger.Negedge ∷ []
 unfolding nodes setting failures4 digits props reference_props left_out_names roll-Path denote.Hole.Carrier.roll Rattle.rdl_tree.specs.declared.expr.Expr.TheBlock.hidden-the_row-Step-1 denote.Hole.Carrier.hidden Rattle.rdl_tree.specs.declared.item.Item.TheBlock.hidden-the_row-Item-0
 interrupts_intr = refl
 

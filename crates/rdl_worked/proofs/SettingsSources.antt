@@ -6,7 +6,7 @@ use Rattle.rdl_tree.specs.declared.expr.Expr.TheVariants as expr
 use Rattle.rdl_tree.specs.declared.expr.Op.TheVariants as op
 use Rattle.rdl_tree.specs.declared.item.Kind.TheVariants as kind
 use Rattle.rdl_tree.specs.declared.item.PType.TheVariants as ptype
-use Rattle.rb_base.specs.declared.edge.Edge.TheVariants as edge
+use Rattle.rb_base.specs.declared.trigger.Trigger.TheVariants as trigger
 use Rattle.rdl_base.specs.declared.keyword.Keyword.TheVariants as keyword
 use Rattle.rdl_worked.proofs.Trees.{lend, at, name, step_to, path_of, word, value, assign, inst, insts_of, component, source}
 
@@ -237,17 +237,17 @@ interrupts = source (
     item.Def (component kind.Field None [] 18 (
     item.Local (assign (name (codes "intr") 26) None None 26) ∷ []) (Some (insts_of [] ((inst (name (codes "f") 34)) ∷ [])))) ∷
     item.Def (component kind.Field None [] 37 (
-    item.Local (assign (name (codes "intr") 53) (Some edge.Posedge) None 45) ∷ []) (Some (insts_of [] ((inst (name (codes "g") 61)) ∷ [])))) ∷
+    item.Local (assign (name (codes "intr") 53) (Some trigger.Posedge) None 45) ∷ []) (Some (insts_of [] ((inst (name (codes "g") 61)) ∷ [])))) ∷
     item.Def (component kind.Field None [] 64 (
     item.Local (assign (name (codes "intr") 72) None (value (expr.Number 2 (at 79))) 72) ∷ []) (Some (insts_of [] ((inst (name (codes "h") 84)) ∷ [])))) ∷
     item.Def (component kind.Field None [] 87 (
-    item.Local (assign (name (codes "intr") 105) (Some edge.Nonsticky) None 95) ∷ []) (Some (insts_of [] ((inst (name (codes "k") 113)) ∷ [])))) ∷
+    item.Local (assign (name (codes "intr") 105) (Some trigger.Nonsticky) None 95) ∷ []) (Some (insts_of [] ((inst (name (codes "k") 113)) ∷ [])))) ∷
     item.Def (component kind.Field None [] 116 (
-    item.Local (assign (name (codes "intr") 130) (Some edge.Level) None 124) ∷ []) (Some (insts_of [] ((inst (name (codes "l") 138)) ∷ [])))) ∷
+    item.Local (assign (name (codes "intr") 130) (Some trigger.Level) None 124) ∷ []) (Some (insts_of [] ((inst (name (codes "l") 138)) ∷ [])))) ∷
     item.Def (component kind.Field None [] 141 (
-    item.Local (assign (name (codes "intr") 158) (Some edge.Bothedge) None 149) ∷ []) (Some (insts_of [] ((inst (name (codes "m") 166)) ∷ [])))) ∷
+    item.Local (assign (name (codes "intr") 158) (Some trigger.Bothedge) None 149) ∷ []) (Some (insts_of [] ((inst (name (codes "m") 166)) ∷ [])))) ∷
     item.Def (component kind.Field None [] 169 (
-    item.Local (assign (name (codes "intr") 185) (Some edge.Negedge) None 177) ∷ []) (Some (insts_of [] ((inst (name (codes "n") 193)) ∷ [])))) ∷ []) (Some (insts_of [] ((inst (name (codes "a") 198)) ∷ [])))) ∷ []) None) ∷ [])
+    item.Local (assign (name (codes "intr") 185) (Some trigger.Negedge) None 177) ∷ []) (Some (insts_of [] ((inst (name (codes "n") 193)) ∷ [])))) ∷ []) (Some (insts_of [] ((inst (name (codes "a") 198)) ∷ [])))) ∷ []) None) ∷ [])
 
 -- addrmap d { reg { regwidth = 16; field {} f; } a; reg { regwidth = 64; accesswidth = 32; field {} f; } b; reg { field {} f; } c; };
 abbrev pub accesswidths : Source
@@ -406,7 +406,7 @@ unknown_properties = source (
     item.Def (component kind.Reg None [] 12 (
     item.Local (assign (name (codes "bogus") 18) None (value (expr.Binary op.Div (lend (expr.Number 1 (at 26))) (lend (expr.Number 0 (at 28))) (at 27))) 18) ∷
     item.Local (assign (name (codes "ispresent") 31) None (value (expr.Binary op.Div (lend (expr.Number 1 (at 43))) (lend (expr.Number 0 (at 45))) (at 44))) 31) ∷
-    item.Local (assign (name (codes "bogus") 56) (Some edge.Posedge) None 48) ∷
+    item.Local (assign (name (codes "bogus") 56) (Some trigger.Posedge) None 48) ∷
     item.Def (component kind.Field None [] 63 (
     item.Local (assign (name (codes "alignment") 71) None (value (expr.Str (lend (codes "x")) (at 83))) 71) ∷ []) (Some (insts_of [] ((inst (name (codes "f") 90)) ∷ [])))) ∷
     item.Def (component kind.Field None [] 93 [] (Some (insts_of [] ((inst (name (codes "g") 102)) ∷ [])))) ∷ []) (Some (insts_of [] ((inst (name (codes "a") 107)) ∷ [])))) ∷
@@ -462,8 +462,8 @@ bad_values = source (
     item.Local (assign (name (codes "precedence") 275) None None 275) ∷
     item.Local (assign (name (codes "encode") 287) None None 287) ∷ []) (Some (insts_of [] ((inst (name (codes "h") 297)) ∷ [])))) ∷
     item.Def (component kind.Field None [] 300 (
-    item.Local (assign (name (codes "sticky") 316) (Some edge.Posedge) None 308) ∷
-    item.Local (assign (name (codes "counter") 330) (Some edge.Level) None 324) ∷
+    item.Local (assign (name (codes "sticky") 316) (Some trigger.Posedge) None 308) ∷
+    item.Local (assign (name (codes "counter") 330) (Some trigger.Level) None 324) ∷
     item.Local (assign (name (codes "reset") 339) None (value (expr.Str (lend (codes "1")) (at 347))) 339) ∷
     item.Local (assign (name (codes "anded") 352) None (value (expr.Str (lend (codes "x")) (at 360))) 352) ∷
     item.Local (assign (name (codes "incrsaturate") 365) None (value (expr.Str (lend (codes "x")) (at 380))) 365) ∷ []) (Some (insts_of [] ((inst (name (codes "k") 387)) ∷ [])))) ∷ []) (Some (insts_of [] ((inst (name (codes "a") 392)) ∷ [])))) ∷ []) None) ∷ [])
@@ -538,7 +538,7 @@ enum_names = source (
 abbrev pub enum_entries : Source
 enum_entries = source (
     item.Def (component kind.Addrmap (Some (name (codes "d") 8)) [] 8 (
-    item.EnumDef (name (codes "E") 17) (lend ((record { name = (name (codes "A") 21); value = (Some (expr.Number 1 (at 25))); sets = lend (((assign (name (codes "name") 29) None (value (expr.Str (lend (codes "x")) (at 36))) 29)) ∷ ((assign (name (codes "desc") 41) None (value (expr.Str (lend (codes "y")) (at 48))) 41)) ∷ []) }) ∷ (record { name = (name (codes "B") 56); value = None; sets = lend (((assign (name (codes "sw") 60) None (word keyword.R) 60)) ∷ ((assign (name (codes "name") 68) None (value (expr.Number 3 (at 75))) 68)) ∷ []) }) ∷ (record { name = (name (codes "C") 81); value = None; sets = lend (((assign (name (codes "name") 85) None (value (expr.Str (lend (codes "x")) (at 92))) 85)) ∷ ((assign (name (codes "name") 97) None (value (expr.Str (lend (codes "y")) (at 104))) 97)) ∷ ((assign (name (codes "bogus") 109) None None 109)) ∷ ((assign (name (codes "encode") 116) None (value (expr.Ref (path_of ((step_to (name (codes "X") 125) []) ∷ [])) None)) 116)) ∷ ((assign (name (codes "msb0") 128) None None 128)) ∷ ((assign (name (codes "name") 140) (Some edge.Level) None 134)) ∷ []) }) ∷ [])) ∷ []) None) ∷ [])
+    item.EnumDef (name (codes "E") 17) (lend ((record { name = (name (codes "A") 21); value = (Some (expr.Number 1 (at 25))); sets = lend (((assign (name (codes "name") 29) None (value (expr.Str (lend (codes "x")) (at 36))) 29)) ∷ ((assign (name (codes "desc") 41) None (value (expr.Str (lend (codes "y")) (at 48))) 41)) ∷ []) }) ∷ (record { name = (name (codes "B") 56); value = None; sets = lend (((assign (name (codes "sw") 60) None (word keyword.R) 60)) ∷ ((assign (name (codes "name") 68) None (value (expr.Number 3 (at 75))) 68)) ∷ []) }) ∷ (record { name = (name (codes "C") 81); value = None; sets = lend (((assign (name (codes "name") 85) None (value (expr.Str (lend (codes "x")) (at 92))) 85)) ∷ ((assign (name (codes "name") 97) None (value (expr.Str (lend (codes "y")) (at 104))) 97)) ∷ ((assign (name (codes "bogus") 109) None None 109)) ∷ ((assign (name (codes "encode") 116) None (value (expr.Ref (path_of ((step_to (name (codes "X") 125) []) ∷ [])) None)) 116)) ∷ ((assign (name (codes "msb0") 128) None None 128)) ∷ ((assign (name (codes "name") 140) (Some trigger.Level) None 134)) ∷ []) }) ∷ [])) ∷ []) None) ∷ [])
 
 -- addrmap d { reg { regwidth = 7; field {} f; } a; reg { regwidth = 64; field {} f; } b; reg { regwidth = 16; accesswidth = 32; field {} f; } c; reg { accesswidth = 64; regwidth = 64; field {} f; } e; reg { regwidth; accesswidth = 8; field {} f; } g; reg { accesswidth = 8; field {} f; } h; };
 abbrev pub register_widths : Source
@@ -685,7 +685,7 @@ classes = source (
     item.Def (component kind.Field None [] 277 (
     item.Local (assign (name (codes "sw") 285) None (word keyword.R) 285) ∷
     item.Local (assign (name (codes "hw") 291) None (word keyword.W) 291) ∷
-    item.Local (assign (name (codes "intr") 307) (Some edge.Nonsticky) None 297) ∷ []) (Some (insts_of [] ((inst (name (codes "k") 315)) ∷ [])))) ∷
+    item.Local (assign (name (codes "intr") 307) (Some trigger.Nonsticky) None 297) ∷ []) (Some (insts_of [] ((inst (name (codes "k") 315)) ∷ [])))) ∷
     item.Def (component kind.Field None [] 318 (
     item.Local (assign (name (codes "sw") 326) None (word keyword.W) 326) ∷
     item.Local (assign (name (codes "hw") 332) None (word keyword.R) 332) ∷

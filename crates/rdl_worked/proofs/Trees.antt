@@ -1,7 +1,7 @@
 -- Syntax trees in short: what stands behind a name is its place.
 use Rattle.std.proofs.Common.{ℕ, List, [], Option, None, Some}
 use Rattle.std.specs.Borrow.{Bor}
-use Rattle.rb_base.specs.declared.edge.Edge.{Edge}
+use Rattle.rb_base.specs.declared.trigger.Trigger.{Trigger}
 use Rattle.rdl_base.specs.declared.keyword.Keyword.{Keyword}
 use Rattle.rb_base.specs.declared.place.Place.{Place}
 use Rattle.rdl_tree.specs.declared.expr.Expr.{Expr}
@@ -42,8 +42,8 @@ word k = Some (given.Word k)
 abbrev pub value : Expr → Option Assigned
 value e = Some (given.Expr e)
 
-abbrev pub assign : Name → Option Edge → Option Assigned → ℕ → Set
-assign prop edge v place = record { prop = prop; edge = edge; value = v; place = at place }
+abbrev pub assign : Name → Option Trigger → Option Assigned → ℕ → Set
+assign prop trigger v place = record { prop = prop; trigger = trigger; value = v; place = at place }
 
 -- an instance without any part but its name
 abbrev pub inst : Name → Inst

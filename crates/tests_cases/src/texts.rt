@@ -1,17 +1,17 @@
 //! Settings as texts.
 
-use rb_base::{Edge, NoMemory};
+use rb_base::{NoMemory, Trigger};
 use rdl_layers::Setting;
 use std::alloc::Global;
 
-// An edge as a word.
-fn edge_word(edge: Edge) -> &'static str {
-    match edge {
-        Edge::Level => "level",
-        Edge::Posedge => "posedge",
-        Edge::Negedge => "negedge",
-        Edge::Bothedge => "bothedge",
-        Edge::Nonsticky => "nonsticky",
+// A trigger as a word.
+fn trigger_word(trigger: Trigger) -> &'static str {
+    match trigger {
+        Trigger::Level => "level",
+        Trigger::Posedge => "posedge",
+        Trigger::Negedge => "negedge",
+        Trigger::Bothedge => "bothedge",
+        Trigger::Nonsticky => "nonsticky",
     }
 }
 
@@ -28,7 +28,7 @@ pub(crate) fn text_of(alloc: Global, setting: Setting<'_>) -> Result<String, NoM
         Setting::Number(number) => format!(in alloc; "{number}")?,
         Setting::Str(text) => format!(in alloc; "a string of {} bytes", text.len())?,
         Setting::Word(word) => format!(in alloc; "{}", word.word())?,
-        Setting::Intr(edge) => format!(in alloc; "{}", edge_word(edge))?,
+        Setting::Intr(trigger) => format!(in alloc; "{}", trigger_word(trigger))?,
         Setting::Hard(hardware) => format!(in alloc; "{}", side(hardware))?,
         Setting::EnumOf { scope, .. } => {
             format!(in alloc; "an enumeration, seen from body {scope}")?

@@ -1,6 +1,6 @@
 /// What an interrupt field waits for at its input (SystemRDL 2.0, 9.9).
 #[derive(Clone, Copy, Debug, PartialEq, Eq)]
-pub enum Edge {
+pub enum Trigger {
     Level,
     Posedge,
     Negedge,
