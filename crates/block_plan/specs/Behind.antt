@@ -2,10 +2,9 @@
 use Rattle.std.specs.Prelude.{◌≡◌, ℕ, ◌<◌, List, Contains, length}
 use Rattle.v_design.specs.Expr.{Values}
 use Rattle.rb_model.specs.declared.block.Block.{Block}
-use Rattle.rb_model.specs.Kept.{Kept, Map}
+use Rattle.rb_model.specs.Kept.{Kept, Map, field_kept}
 use Rattle.rb_model.specs.Items.{Access, NoAccess, Read, Write, Now, ItemValues, AreItemValues}
 use Rattle.rb_model.specs.Machine.{held, next, outputs, read_data}
-use Rattle.block_plan.specs.Kept.{field_kept}
 
 -- the word of an access is there
 abbrev pub IsThere : Block → Access → Type 0

@@ -1,22 +1,12 @@
 -- What the fields of a block keep, and its places in a list.
 use Rattle.std.specs.Prelude.{◌≡◌, ℕ, Bool, true, false, Option, Some, MatchOption, List, map, slice_get}
 use Rattle.std.specs.List.{enumerate_from, flat_map}
-use Rattle.rb_base.specs.declared.ports.Pin.{Pin}
-use Rattle.rb_model.specs.declared.block.Block.{Block}
 use Rattle.rb_model.specs.declared.block.Field.{Field}
-use Rattle.rb_model.specs.Kept.{Kept, Val, Last, Done, is_storage, keeps_last, kept_of, register_name, register_width}
+use Rattle.rb_model.specs.Kept.{Kept, Val, Last, Done, is_storage, keeps_last, kept_of}
 use Rattle.block_plan.specs.declared.kept.FieldKept.{FieldKept}
 use Rattle.block_plan.specs.declared.kept.KeptValue.{KeptValue}
 use Rattle.block_plan.specs.declared.kept.KeptValue.TheVariants as value
 use Rattle.block_plan.specs.declared.kept.KeptValues.{KeptValues}
-
--- the kept values of the fields, without those of the bus
-abbrev pub field_kept : Block → List Kept
-field_kept b = flat_map kept_of (enumerate_from 0 b.fields)
-
--- the register of a kept value, as a pin
-abbrev pub kept_pin : Block → Kept → Pin
-kept_pin b k = record { name = register_name b k; width = register_width b k }
 
 abbrev pub kept_seen : KeptValue → Kept
 kept_seen (value.Val k) = Val k

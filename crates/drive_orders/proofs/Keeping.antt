@@ -2,8 +2,7 @@
 use Rattle.std.proofs.Common.{◌≡◌, ⊎_elim, ℕ, zero, suc, List, [], ◌∷◌, ◌++◌, map, replicate, refl, arith}
 use Rattle.rb_model.specs.declared.block.Block.{Block}
 use Rattle.rb_model.specs.Protocol.{Bus, Phase, IDLE, ACCESS, IsKeptIdle, IsUnderWay, KeepsFrom, KeepsProtocol, bus_of, idle}
-use Rattle.rb_model.specs.Run.{pins_of}
-use Rattle.rb_model.specs.Agreement.{buses}
+use Rattle.rb_model.specs.Run.{buses, pins_of}
 use Rattle.drive_orders.specs.declared.order.Order.{Order}
 use Rattle.drive_orders.specs.declared.order.Order.TheVariants.{Poke, Peek, Expect, Set, See, Wait, Reset}
 use Rattle.drive_orders.specs.declared.order.Line.{Line}

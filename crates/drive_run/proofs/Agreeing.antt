@@ -3,11 +3,12 @@ use Rattle.std.proofs.Common.{◌≡◌, ℕ, Ok, Err, List, get_or, map, zip, r
 use Rattle.std.proofs.lemmas.Nat.{pow_pos}
 use Rattle.v_design.specs.Design.{module_of}
 use Rattle.rb_model.specs.declared.block.Block.{Block}
-use Rattle.rb_model.specs.Agreement.{Agrees, buses}
+use Rattle.rb_model.specs.Agreement.{Agrees}
 use Rattle.rb_model.specs.Kept.{Fits, kept, register_width}
 use Rattle.rb_model.specs.Protocol.{KeepsProtocol}
-use Rattle.rb_model.specs.Run.{MachineRun}
+use Rattle.rb_model.specs.Run.{MachineRun, apb, buses}
 use Rattle.rb_model.specs.Sound.{IsSound}
+use Rattle.rb_model.proofs.ApbFront.{contain, within}
 use Rattle.rb_model.proofs.Runs.{one_run}
 use Rattle.sim_run.specs.Simulated as simulated
 use Rattle.drive_orders.specs.Steps.{Step, played}
@@ -30,14 +31,14 @@ script_keeps b bytes steps e = go (lines_from b 1 most_vectors (lines_of bytes))
     go (Ok ls) e = let same : played ls (at_first b) ≡ steps = cc e in subst (λ ss. KeepsProtocol 0 (buses b (map (λ s. s.vector) ss))) same (keeps b ls (at_first b))
     go (Err x) e = cc e
 
-pub agree : (b : Block) (verilog bytes text : List ℕ) (failed : ℕ) → b.waits ≡ 0 → Agrees verilog b → IsTranscriptOf b bytes text failed → IsSeenOf b verilog bytes text failed
+pub agree : (b : Block) (verilog bytes text : List ℕ) (failed : ℕ) → b.waits ≡ 0 → Agrees verilog (apb b) → IsTranscriptOf b bytes text failed → IsSeenOf b verilog bytes text failed
 agree b verilog bytes text failed none agrees of = record {
   module_ = module_of agrees.tree;
   is_module = record { tree = agrees.tree; is_tree = agrees.is_tree; well_formed = agrees.well_formed; is = refl };
   steps = of.steps;
   script = of.script;
   results = of.seen.results;
-  run = agrees.runs zeros simulated.zeros (map (λ s. s.vector) of.steps) of.seen.results (zeros_fit b) (λ k has. refl) of.fits
+  run = agrees.runs zeros simulated.zeros (map (λ s. s.vector) of.steps) of.seen.results (within b zeros (zeros_fit b)) (contain b zeros simulated.zeros (λ k has. refl)) of.fits
       (subst (λ w. KeepsProtocol w (buses b (map (λ s. s.vector) of.steps))) (sym none) (script_keeps b bytes of.steps of.script)) of.seen.run;
   text_is = of.seen.text_is;
   failed_is = of.seen.failed_is;

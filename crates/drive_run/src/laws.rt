@@ -3,6 +3,7 @@
 ghost use Rattle.std.specs.Prelude.{◌≡◌, ℕ, List};
 ghost use Rattle.rb_model.specs.declared.block.Block.{Block};
 ghost use Rattle.rb_model.specs.Agreement.{Agrees};
+ghost use Rattle.rb_model.specs.Run.{apb};
 ghost use Rattle.rb_model.specs.Sound.{IsSound};
 ghost use Rattle.drive_run.specs.Playing.{IsTranscriptOf};
 ghost use Rattle.drive_run.specs.Modules.{IsSeenOf};
@@ -16,6 +17,6 @@ pub fn one_transcript()
 /// A script keeps the bus protocol without wait states, so what it sees of a block's machine from zeros it sees of each module that
 /// agrees with the block, from zeros too.
 pub fn transcripts_agree()
-    ensures { (b : Block) (verilog bytes text : List ℕ) (failed : ℕ) → b.waits ≡ 0 → Agrees verilog b
+    ensures { (b : Block) (verilog bytes text : List ℕ) (failed : ℕ) → b.waits ≡ 0 → Agrees verilog (apb b)
         → IsTranscriptOf b bytes text failed → IsSeenOf b verilog bytes text failed }
 {}

@@ -12,9 +12,8 @@ use Rattle.rtl_net.specs.declared.node.Id.{Id}
 use Rattle.v_design.specs.Expr.{Values}
 use Rattle.rb_model.specs.declared.block.Block.{Block}
 use Rattle.rb_model.specs.declared.block.Field.{Field}
-use Rattle.rb_model.specs.Agreement.{Holds}
 use Rattle.rb_model.specs.Items.{NoAccess, Read, Write, Now, ItemValues, AreItemValues}
-use Rattle.rb_model.specs.Kept.{Kept, Map, Val, Last, Done, Waited, Data, Error, has_wait, is_kept, is_storage, kept, kept_of, keeps_last, of_field, only_kept, register_name, when}
+use Rattle.rb_model.specs.Kept.{Kept, Map, Val, Last, Done, Waited, Data, Error, has_wait, is_kept, is_storage, kept, kept_of, keeps_last, of_field, only_kept, register_name, when, field_kept}
 use Rattle.rb_model.specs.Machine.{held, is_asserted, outputs, read_data}
 use Rattle.rb_model.specs.Ports.{outlets}
 use Rattle.rb_model.specs.Protocol.{Bus, bus_of}
@@ -24,7 +23,6 @@ use Rattle.rb_model.specs.Sound.{IsSound}
 use Rattle.rb_model.proofs.Eachs.{Each-append, Each-at, Each-flat_map, Each-numbered_all}
 use Rattle.rb_model.proofs.OwnViews.{by_cases}
 use Rattle.block_plan.specs.Behind.{IsThere}
-use Rattle.block_plan.specs.Kept.{field_kept}
 use Rattle.gen_scene.specs.declared.base.Inlet.{Inlet}
 use Rattle.gen_scene.specs.Bases.{kept_number}
 use Rattle.gen_scene.specs.Worth.{Finds, access_at}
@@ -113,6 +111,10 @@ there_from b true p = by (p.write == 0) (word_at b.reads p.address) (word_at b.w
     by false o (Some i) e f = (position-Some (λ w. p.address == w.address) b.writes i (record { address = 0; width = 0; reg = 0; number = 0; slots = [] }) f).0
 
 -- One edge
+
+-- the registers contain the values of the map
+abbrev pub Holds : Block → Map → Values → Type 0
+Holds b m contents = (k : Kept) → Contains (kept b) k → contents (register_name b k) ≡ m k
 
 -- nothing is selected under PRESETn
 abbrev pub IsQuiet : Bus → Type 0

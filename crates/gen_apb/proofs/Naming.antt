@@ -14,13 +14,12 @@ use Rattle.rtl_net.specs.Names.{Lacks}
 use Rattle.rtl_net.specs.Ports.{seat_names}
 use Rattle.rtl_net.specs.declared.node.Seat.{Seat}
 use Rattle.rb_model.specs.declared.block.Block.{Block}
-use Rattle.rb_model.specs.Kept.{Kept, kept, kept_pins, register_name}
+use Rattle.rb_model.specs.Kept.{Kept, kept, kept_pins, register_name, field_kept, kept_pin}
 use Rattle.rb_model.specs.Ports.{outlets, ports}
 use Rattle.rb_model.specs.References.{Each}
 use Rattle.rb_model.proofs.Apart.{Apart, Apart-filter, Apart-from, Apart-place, Name, bytes_eq-from, bytes_eq-not}
 use Rattle.rb_model.proofs.Eachs.{Each-append, Each-left, Each-right, Each-weaker}
 use Rattle.rb_model.proofs.InputPins.{output_pins_are}
-use Rattle.block_plan.specs.Kept.{field_kept, kept_pin}
 use Rattle.gen_scene.specs.Bases.{kept_number}
 use Rattle.gen_scene.proofs.ResetPins.{kept_is_of}
 use Rattle.gen_ports.specs.Laid.{AreSeatsOf}

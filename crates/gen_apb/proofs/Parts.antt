@@ -18,13 +18,12 @@ use Rattle.rtl_net.proofs.Others.{IsFree-seated, Lacks-seated}
 use Rattle.rtl_net.proofs.Distinct.{Differ-sym}
 use Rattle.rtl_net.proofs.Nets.{Extends-trans, Stands-extends}
 use Rattle.rb_model.specs.declared.block.Block.{Block}
-use Rattle.rb_model.specs.Kept.{Kept, Waited, Data, Error, has_wait, kept, register_name}
+use Rattle.rb_model.specs.Kept.{Kept, Waited, Data, Error, has_wait, kept, register_name, field_kept, kept_pin}
 use Rattle.rb_model.specs.Ports.{Outlet, field_pins, input_pins, outlets, ports, signal_pins, view_pins}
 use Rattle.rb_model.specs.References.{Each}
 use Rattle.rb_model.specs.Sound.{IsSound}
 use Rattle.rb_model.proofs.Eachs.{Each-append, Each-map, Each-passing, Each-right, Each-weaker}
 use Rattle.rb_model.proofs.InputPins.{bus_pins, input_pins_are, output_pins_are}
-use Rattle.block_plan.specs.Kept.{field_kept, kept_pin}
 use Rattle.gen_scene.specs.Bases.{kept_number}
 use Rattle.gen_apb.specs.declared.front.Front.{Front}
 use Rattle.gen_apb.specs.Fronts.{IsClosing, IsFront, ShowsData, access_registers, data_registers}

@@ -17,21 +17,20 @@ use Rattle.rtl_net.proofs.HasRun.{is_edge}
 use Rattle.rtl_net.proofs.OneRun.{same_refl}
 use Rattle.rtl_net.proofs.ValuesFit.{edge_fits}
 use Rattle.rb_model.specs.declared.block.Block.{Block}
-use Rattle.rb_model.specs.Agreement.{Holds, buses}
-use Rattle.rb_model.specs.Kept.{Fits, Kept, Map, Waited, Data, Error, kept, kept_pins, only_kept, register_width}
+use Rattle.rb_model.specs.Kept.{Fits, Kept, Map, Waited, Data, Error, kept, kept_pins, only_kept, register_width, field_kept, kept_pin}
 use Rattle.rb_model.specs.Ports.{Outlet, input_pins, module_name, outlets, ports}
 use Rattle.rb_model.specs.Protocol.{Bus, IDLE, IsKeptIn, KeepsFrom, Phase, bus_of, idle, phase_after}
-use Rattle.rb_model.specs.Run.{ClockEdge, MachineRun, all_outputs, kept_next, now, pins_of}
+use Rattle.rb_model.specs.Run.{ClockEdge, MachineRun, all_outputs, apb, buses, kept_next, now, pins_of}
 use Rattle.rb_model.specs.Sound.{IsSound}
 use Rattle.rb_model.specs.Items.{AreItemValues}
+use Rattle.rb_model.proofs.ApbFront.{apb_pins, contained, fits}
 use Rattle.rb_model.proofs.Apart.{Apart}
 use Rattle.rb_model.proofs.InputPins.{output_pins_are, pin_by_place}
-use Rattle.block_plan.specs.Kept.{field_kept, kept_pin}
 use Rattle.gen_apb.specs.Fronts.{IsClosing, access_registers, data_registers}
 use Rattle.gen_text.specs.Netlist.{IsNetlistOf}
 use Rattle.gen_core.specs.Ties.{outlet_pin}
 use Rattle.gen_apb.specs.Built.{IsBuilt, bus_shown}
-use Rattle.gen_apb.proofs.Edging.{IsQuiet, held_after, outs_are}
+use Rattle.gen_apb.proofs.Edging.{Holds, IsQuiet, held_after, outs_are}
 use Rattle.gen_apb.proofs.Filling.{IsFilled, all_become, all_filled, all_taken, given_pins, ports_of, shown_pins}
 use Rattle.gen_apb.proofs.Naming.{AllApart, all_shown, contains_at, names_of, outs, outs_among, ports_apart}
 
@@ -220,7 +219,7 @@ module _ (b : Block) (sound : IsSound b) (net : Net) (made : IsMade net) (built 
       let below : m q < 2 ^ register_width b q = subst (λ (r : Kept). m r < 2 ^ register_width b r) here.2 (fits here.0 q here.1) in
       subst (λ (r : Pin). contents r.name < 2 ^ r.width) is (subst (λ n. n < 2 ^ register_width b q) (sym (holds q here)) below))
 
-  pub is_netlist : net.name ≡ module_name b → IsNetlistOf net b
+  pub is_netlist : net.name ≡ module_name b → IsNetlistOf net (apb b)
   is_netlist named = record {
     made = made;
     whole = record {
@@ -230,6 +229,8 @@ module _ (b : Block) (sound : IsSound b) (net : Net) (made : IsMade net) (built 
     };
     named = named;
     ported = ports_of (ports b) net.seats seats;
-    kept_only = kept_only;
-    runs = λ m contents vectors results fits holds pins keeps run. run_from vectors results IDLE idle m contents holds (contents_fit m contents fits holds) pins keeps run;
+    kept_only = subst (λ ps. (p : Pin) → Contains (registers net) p ↔ Contains ps p) (sym (apb_pins b)) kept_only;
+    runs = λ m contents vectors results within contain pins keeps run.
+        let holds : Holds b m contents = contained b m contents contain in
+        run_from vectors results IDLE idle m contents holds (contents_fit m contents (fits b m within) holds) pins keeps run;
   }

@@ -7,6 +7,7 @@ ghost use Rattle.rb_model.specs.declared.block.Block.{Block as BlockOf};
 ghost use Rattle.rb_model.specs.Sound.{IsSound};
 ghost use Rattle.gen_ports.specs.Laid.{AreInputs};
 ghost use Rattle.gen_text.specs.Netlist.{IsNetlistOf};
+ghost use Rattle.rb_model.specs.Run.{apb};
 ghost use Rattle.gen_apb.specs.Pins.{HasBusPins};
 ghost use Rattle.gen_apb.specs.Built.{IsBuilt};
 
@@ -71,7 +72,7 @@ fn build(alloc: Global, net: &mut Netlist, block: &Block) -> Result<(), NoMemory
 /// the outputs of the block's machine. The only error is want of memory.
 pub fn apb(alloc: Global, block: &Block) -> Result<Netlist, NoMemory>
     requires { IsSound block.now }
-    ensures { IfOk result (λ net. IsNetlistOf net block.now) }
+    ensures { IfOk result (λ net. IsNetlistOf net (apb block.now)) }
 {
     names_differ();
     let name = module_name(alloc, block)?;

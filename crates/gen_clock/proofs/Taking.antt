@@ -12,7 +12,7 @@ use Rattle.rtl_net.specs.declared.node.Id.{Id}
 use Rattle.rtl_net.proofs.Nets.{Grows-refl, Grows-trans}
 use Rattle.rb_model.specs.declared.block.Block.{Block}
 use Rattle.rb_model.specs.declared.block.Field.{Field}
-use Rattle.rb_model.specs.Kept.{Kept, Val, Last, Done, Waited, Data, Error, is_storage, keeps_last, kept_of, register_width, when}
+use Rattle.rb_model.specs.Kept.{Kept, Val, Last, Done, Waited, Data, Error, is_storage, keeps_last, kept_of, register_width, when, field_kept}
 use Rattle.rb_model.specs.Items.{Now, ItemValues, source_value}
 use Rattle.rb_model.specs.Machine.{changed, held, is_asserted, moved, next}
 use Rattle.std.proofs.lemmas.Nat.{pow_pos}
@@ -22,7 +22,7 @@ use Rattle.rb_model.specs.Sound.{IsSound}
 use Rattle.rb_model.specs.SoundField.{FieldIsSoundIn}
 use Rattle.rb_model.proofs.Eachs.{Each-append, Each-at, Each-flat_map, Each-from_zero, Each-numbered_all}
 use Rattle.block_plan.specs.declared.kept.KeptValue.{KeptValue}
-use Rattle.block_plan.specs.Kept.{field_kept, kept_seen}
+use Rattle.block_plan.specs.Kept.{kept_seen}
 use Rattle.gen_scene.specs.declared.base.Inlet.{Inlet}
 use Rattle.gen_scene.specs.Bases.{kept_number, kept_reset, kept_width}
 use Rattle.gen_scene.specs.Worth.{IsWorth}

@@ -8,8 +8,7 @@ use Rattle.rb_model.specs.declared.kinds.RefItem.TheVariants as item
 use Rattle.rb_model.specs.declared.block.Block.{Block}
 use Rattle.rb_model.specs.declared.block.Field.{Field}
 use Rattle.rb_model.specs.declared.block.Slot.{Slot}
-use Rattle.rb_model.specs.Kept.{Kept, Map, Val, Last, Done, Waited, Data, Error, is_storage, keeps_last, register_width}
-use Rattle.block_plan.specs.Kept.{field_kept}
+use Rattle.rb_model.specs.Kept.{Kept, Map, Val, Last, Done, Waited, Data, Error, is_storage, keeps_last, register_width, field_kept}
 use Rattle.gen_scene.specs.Bases.{kept_number, kept_reset, kept_width}
 use Rattle.rb_model.specs.Items.{Now, ItemValues}
 use Rattle.rb_model.specs.Machine.{changed, is_asserted, moved, reset_where, slot_value, software, uses_up}

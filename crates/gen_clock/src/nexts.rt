@@ -3,9 +3,9 @@
 ghost use Rattle.std.specs.Prelude.{◌≡◌, ◌<◌, ℕ, IfOk, Some, Contains, length, slice_get, if◌then◌else◌};
 ghost use Rattle.rtl_net.specs.Net.{Grows, Stands};
 ghost use Rattle.rb_model.specs.declared.block.Field.{Field};
-ghost use Rattle.rb_model.specs.Kept.{Map, register_width};
+ghost use Rattle.rb_model.specs.Kept.{Map, register_width, field_kept};
 ghost use Rattle.rb_model.specs.Machine.{moved};
-ghost use Rattle.block_plan.specs.Kept.{field_kept, kept_seen};
+ghost use Rattle.block_plan.specs.Kept.{kept_seen};
 ghost use Rattle.gen_scene.specs.Bases.{kept_number, kept_reset, kept_width};
 ghost use Rattle.gen_scene.specs.Worth.{IsWorth};
 ghost use Rattle.gen_clock.specs.Edges as spec;

@@ -13,11 +13,10 @@ use Rattle.rtl_net.specs.declared.node.NetNode.TheVariants.{Register}
 use Rattle.rtl_net.specs.declared.node.NetReset.{NetReset}
 use Rattle.rtl_net.proofs.Nets.{Extends-refl, Extends-trans, Stands-extends}
 use Rattle.rb_model.specs.declared.block.Block.{Block}
-use Rattle.rb_model.specs.Kept.{Kept, Waited, Data, Error, has_wait, kept, kept_pins, register_name, register_width}
+use Rattle.rb_model.specs.Kept.{Kept, Waited, Data, Error, has_wait, kept, kept_pins, register_name, register_width, field_kept, kept_pin}
 use Rattle.rb_model.specs.Ports.{ports}
 use Rattle.rb_model.proofs.Apart.{Apart-from, Apart-place}
 use Rattle.block_plan.specs.declared.plan.Plan.{Plan}
-use Rattle.block_plan.specs.Kept.{field_kept, kept_pin}
 use Rattle.gen_scene.specs.declared.base.Base.{Base}
 use Rattle.gen_scene.specs.declared.base.Inlet.{Inlet}
 use Rattle.gen_scene.specs.Bases.{IsBase, reset_of}

@@ -12,13 +12,12 @@ use Rattle.rtl_net.specs.Names.{Lacks}
 use Rattle.rtl_net.specs.Net.{Net, registers_of}
 use Rattle.rtl_net.specs.Ports.{IsFree, has_room}
 use Rattle.rb_model.specs.declared.block.Block.{Block}
-use Rattle.rb_model.specs.Kept.{Kept, Waited, Data, Error, has_wait, kept_pins}
+use Rattle.rb_model.specs.Kept.{Kept, Waited, Data, Error, has_wait, kept_pins, field_kept, kept_pin}
 use Rattle.rb_model.specs.Ports.{Outlet, outlets, ports}
 use Rattle.rb_model.specs.References.{Each}
 use Rattle.rb_model.proofs.Apart.{Apart, Apart-from, Each-filter, Name, bytes_eq-not}
 use Rattle.rb_model.proofs.Eachs.{Each-left, Each-map, Each-right}
 use Rattle.rb_model.proofs.InputPins.{bus_shown, outlet_pin, output_pins_are}
-use Rattle.block_plan.specs.Kept.{field_kept, kept_pin}
 use Rattle.gen_core.proofs.Joining.{contained}
 
 lacks_from : (ms : List Name) (n : Name) → Each (λ m. m ≡ n → ⊥) ms → Lacks ms n

@@ -10,13 +10,12 @@ use Rattle.rtl_net.specs.declared.node.Id.{Id}
 use Rattle.v_design.specs.Expr.{Values}
 use Rattle.rb_model.specs.declared.block.Block.{Block}
 use Rattle.rb_model.specs.Items.{Now, ItemValues, AreItemValues}
-use Rattle.rb_model.specs.Kept.{Kept, Map, Val, Last, Done, Waited, Data, Error, of_field, register_name}
+use Rattle.rb_model.specs.Kept.{Kept, Map, Val, Last, Done, Waited, Data, Error, of_field, register_name, field_kept, kept_pin}
 use Rattle.rb_model.specs.Machine.{held, is_asserted}
 use Rattle.rb_model.specs.Ports.{Outlet, outlets}
 use Rattle.rb_model.specs.Sound.{IsSound}
 use Rattle.rb_model.proofs.ItemValues.{item_value, are_values}
 use Rattle.block_plan.specs.Behind.{IsThere, InnerEdge, found}
-use Rattle.block_plan.specs.Kept.{field_kept, kept_pin}
 use Rattle.gen_scene.specs.Worth.{Finds, access_at}
 use Rattle.gen_scene.specs.declared.base.Inlet.{Inlet}
 use Rattle.gen_core.specs.Core.{IsCore}

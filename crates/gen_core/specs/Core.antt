@@ -4,11 +4,10 @@ use Rattle.rtl_net.specs.Value.{At}
 use Rattle.rtl_net.specs.Net.{Net, Settles}
 use Rattle.rtl_net.specs.declared.node.Id.{Id}
 use Rattle.rb_model.specs.declared.block.Block.{Block}
-use Rattle.rb_model.specs.Kept.{Kept, register_name}
+use Rattle.rb_model.specs.Kept.{Kept, register_name, field_kept}
 use Rattle.rb_model.specs.Items.{Now, ItemValues, AreItemValues}
 use Rattle.rb_model.specs.Machine.{next, read_data}
 use Rattle.rb_model.specs.Ports.{Outlet, outlets}
-use Rattle.block_plan.specs.Kept.{field_kept}
 use Rattle.gen_scene.specs.declared.base.Inlet.{Inlet}
 use Rattle.gen_scene.specs.Worth.{Finds, IsWorth}
 

@@ -6,10 +6,9 @@ use Rattle.rtl_net.specs.Run.{SameAt, registers}
 use Rattle.rtl_net.specs.declared.node.Id.{Id}
 use Rattle.v_design.specs.Expr.{Values}
 use Rattle.rb_model.specs.declared.block.Block.{Block}
-use Rattle.rb_model.specs.Kept.{Kept, Map, register_name}
+use Rattle.rb_model.specs.Kept.{Kept, Map, register_name, field_kept}
 use Rattle.rb_model.specs.Ports.{outlets}
 use Rattle.block_plan.specs.Behind.{InnerEdge}
-use Rattle.block_plan.specs.Kept.{field_kept}
 use Rattle.gen_scene.specs.Worth.{access_at}
 use Rattle.gen_scene.specs.declared.base.Inlet.{Inlet}
 

@@ -9,12 +9,11 @@ use Rattle.rtl_net.specs.declared.node.Id.{Id}
 use Rattle.rtl_net.specs.declared.node.Seat.{Seat}
 use Rattle.rtl_net.specs.declared.node.Occupant.TheVariants.{Output}
 use Rattle.rb_model.specs.declared.block.Block.{Block}
-use Rattle.rb_model.specs.Kept.{Kept, register_name, register_width}
+use Rattle.rb_model.specs.Kept.{Kept, register_name, register_width, field_kept}
 use Rattle.rb_model.specs.Ports.{Outlet, outlets}
 use Rattle.rb_model.specs.Items.{Now, ItemValues, AreItemValues}
 use Rattle.rb_model.specs.Machine.{next}
 use Rattle.block_plan.specs.declared.plan.Plan.{Plan}
-use Rattle.block_plan.specs.Kept.{field_kept}
 use Rattle.gen_scene.specs.declared.base.Inlet.{Inlet}
 use Rattle.gen_scene.specs.Bases.{reset_of}
 use Rattle.gen_scene.specs.Worth.{Finds}

@@ -3,10 +3,9 @@
 ghost use Rattle.std.specs.Prelude.{◌≡◌, ◌+◌, ◌++◌, IfOk, OnOk, Contains, length, map};
 ghost use Rattle.rtl_net.specs.Net.{Extends, HasClock, registers_of, undriven};
 ghost use Rattle.rtl_net.specs.Ports.{IsFree, IsNew};
-ghost use Rattle.rb_model.specs.Kept.{Kept, register_name};
+ghost use Rattle.rb_model.specs.Kept.{Kept, register_name, field_kept, kept_pin};
 ghost use Rattle.rb_model.specs.Ports.{Outlet, outlets};
 ghost use Rattle.rb_model.specs.Sound.{IsSound};
-ghost use Rattle.block_plan.specs.Kept.{field_kept, kept_pin};
 ghost use Rattle.gen_scene.specs.Bases.{HasInlet, HasPins, IsBase};
 ghost use Rattle.gen_core.specs.Ties.{AreAwaiting, SeatsTaken, outlet_pin};
 ghost use Rattle.gen_core.specs.Core.{IsCore};

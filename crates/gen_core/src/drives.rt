@@ -2,7 +2,7 @@
 
 ghost use Rattle.std.specs.Prelude.{◌≡◌, ◌+◌, length};
 ghost use Rattle.rtl_net.specs.Net.{Extends, registers_of, undriven};
-ghost use Rattle.block_plan.specs.Kept.{field_kept};
+ghost use Rattle.rb_model.specs.Kept.{field_kept};
 ghost use Rattle.gen_scene.specs.Bases.{IsBase};
 ghost use Rattle.gen_clock.specs.Edges.{AreNexts};
 ghost use Rattle.gen_core.specs.Ties.{AreAwaiting, MovesOn};

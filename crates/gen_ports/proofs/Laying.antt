@@ -25,13 +25,12 @@ use Rattle.rtl_net.specs.declared.node.Occupant.{Occupant}
 use Rattle.rtl_net.specs.declared.node.Occupant.TheVariants.{Input}
 use Rattle.rtl_net.proofs.Nets.{Extends-refl, Extends-trans, IsNode-extends}
 use Rattle.rb_model.specs.declared.block.Block.{Block}
-use Rattle.rb_model.specs.Kept.{Kept, Waited, Data, Error, has_wait, kept, kept_pins, register_name}
+use Rattle.rb_model.specs.Kept.{Kept, Waited, Data, Error, has_wait, kept, kept_pins, register_name, field_kept, kept_pin}
 use Rattle.rb_model.specs.Ports.{input, input_pins, pin, ports}
 use Rattle.rb_model.specs.References.{Each}
 use Rattle.rb_model.specs.Sound.{IsSound}
 use Rattle.rb_model.proofs.Apart.{Apart, Apart-from, Name, bytes_eq-from, bytes_eq-not}
 use Rattle.rb_model.proofs.Eachs.{Each-at, Each-left, Each-map, Each-passing}
-use Rattle.block_plan.specs.Kept.{field_kept, kept_pin}
 use Rattle.gen_scene.specs.Bases.{HasPins, IsPinNode}
 use Rattle.gen_ports.specs.Laid.{AreInputs, AreSeatsOf, HasPort, HasPortIf, IsSeatOf, IsTakenAs}
 use Rattle.gen_ports.proofs.Portals.{IsPort, ports_are}

@@ -9,11 +9,10 @@ ghost use Rattle.rtl_net.specs.Net.{Extends, HasClock, IsWidth, registers_of, un
 ghost use Rattle.rtl_net.specs.Ports.{IsFree, IsNew};
 ghost use Rattle.rtl_net.specs.declared.node.Seat.{Seat};
 ghost use Rattle.rb_base.specs.declared.ports.Dir.TheVariants.{In};
-ghost use Rattle.rb_model.specs.Kept.{Kept, kept, register_name};
+ghost use Rattle.rb_model.specs.Kept.{Kept, kept, register_name, field_kept};
 ghost use Rattle.rb_model.specs.Ports as spec;
 ghost use Rattle.rb_model.specs.References.{Each};
 ghost use Rattle.rb_model.specs.Sound.{IsSound};
-ghost use Rattle.block_plan.specs.Kept.{field_kept};
 ghost use Rattle.gen_scene.specs.Bases.{HasPins};
 ghost use Rattle.gen_ports.specs.Laid.{AreInputs, AreSeatsOf, HasPort, IsSeatOf};
 

@@ -17,14 +17,14 @@ use Rattle.rtl_net.specs.Ports.{IsNew, seat_names}
 use Rattle.rtl_net.specs.declared.node.Id.{Id}
 use Rattle.rtl_net.proofs.Nets.{Extends-refl, Extends-trans, Keeps-refl, Keeps-trans, IsNode-extends}
 use Rattle.rb_model.specs.declared.block.Block.{Block}
-use Rattle.rb_model.specs.Kept.{Kept, Waited, Data, Error, has_wait, kept, kept_pins, register_name, register_width}
+use Rattle.rb_model.specs.Kept.{Kept, Waited, Data, Error, has_wait, kept, kept_pins, register_name, register_width, field_kept, kept_pin}
 use Rattle.rb_model.specs.Ports.{ports}
 use Rattle.rb_model.specs.Sound.{IsSound}
 use Rattle.rb_model.proofs.Apart.{Apart-from, Apart-place, bytes_eq-to}
 use Rattle.rb_model.proofs.OwnViews.{by_cases}
 use Rattle.block_plan.specs.declared.plan.Plan.{Plan}
 use Rattle.block_plan.specs.declared.kept.KeptValue.{KeptValue}
-use Rattle.block_plan.specs.Kept.{field_kept, kept_pin, kept_seen}
+use Rattle.block_plan.specs.Kept.{kept_seen}
 use Rattle.block_plan.specs.Plan.{IsPlanOf}
 use Rattle.gen_scene.specs.declared.base.Inlet.{Inlet}
 use Rattle.gen_scene.specs.Bases.{HasKept, HasPins, reset_of}

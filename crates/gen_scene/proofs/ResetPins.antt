@@ -23,7 +23,7 @@ use Rattle.rb_model.specs.declared.kinds.ResetBy.{ResetBy}
 use Rattle.rb_model.specs.declared.block.Block.{Block}
 use Rattle.rb_model.specs.declared.block.Field.{Field}
 use Rattle.rb_model.specs.declared.block.Signal.{Signal}
-use Rattle.rb_model.specs.Kept.{Kept, Val, Last, Done, Waited, Data, Error, Map, of_field, kept_of, when, is_storage, keeps_last, register_name, register_width}
+use Rattle.rb_model.specs.Kept.{Kept, Val, Last, Done, Waited, Data, Error, Map, of_field, kept_of, when, is_storage, keeps_last, register_name, register_width, field_kept}
 use Rattle.rb_model.specs.Ports.{pin, signal_name}
 use Rattle.rb_model.specs.Items.{Now, ItemValues, AreItemValues}
 use Rattle.rb_model.specs.Machine.{held, reset_pin, is_asserted}
@@ -31,7 +31,6 @@ use Rattle.rb_model.specs.References.{Each, WithSome}
 use Rattle.rb_model.specs.Sound.{IsSound, is_path}
 use Rattle.rb_model.proofs.Eachs.{Each-append, Each-at, Each-flat_map, Each-numbered_all}
 use Rattle.block_plan.specs.declared.plan.Plan.{Plan}
-use Rattle.block_plan.specs.Kept.{field_kept}
 use Rattle.block_plan.specs.Pins.{IsDataPin}
 use Rattle.block_plan.specs.Plan.{IsPlanOf, IsPlaceOf}
 use Rattle.block_plan.proofs.DataPins.{resetn_data, signal_data}

@@ -18,7 +18,7 @@ use Rattle.rb_model.specs.declared.block.Block.{Block}
 use Rattle.rb_model.specs.declared.block.Field.{Field}
 use Rattle.rb_model.specs.declared.block.View.{View}
 use Rattle.rb_model.specs.declared.block.Signal.{Signal}
-use Rattle.rb_model.specs.Kept.{Kept, of_field, register_width}
+use Rattle.rb_model.specs.Kept.{Kept, of_field, register_width, field_kept}
 use Rattle.rb_model.specs.Ports.{input_pins, pin, signal_name}
 use Rattle.rb_model.specs.PinsHave.{GateHas}
 use Rattle.rb_model.specs.Items.{fed, gated, mask_value, source_value}
@@ -29,7 +29,7 @@ use Rattle.rb_model.specs.Sound.{IsSound, ViewIsSound}
 use Rattle.rb_model.proofs.Eachs.{Each-from_zero, Each-left, Each-right}
 use Rattle.block_plan.specs.declared.kept.FieldKept.{FieldKept}
 use Rattle.block_plan.specs.declared.plan.FieldPlaces.{FieldPlaces}
-use Rattle.block_plan.specs.Kept.{AreFieldKept, field_kept}
+use Rattle.block_plan.specs.Kept.{AreFieldKept}
 use Rattle.block_plan.specs.Pins.{IsDataPin}
 use Rattle.block_plan.specs.Plan.{AreFieldPlaces, IsGatePlace, IsPlaceOf}
 use Rattle.block_plan.specs.Table.{item_place}

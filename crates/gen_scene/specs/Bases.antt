@@ -10,11 +10,10 @@ use Rattle.rtl_net.specs.declared.node.NetReset.TheVariants as resets
 use Rattle.rb_model.specs.declared.kinds.ResetBy.{ResetBy}
 use Rattle.rb_model.specs.declared.block.Block.{Block}
 use Rattle.rb_model.specs.declared.block.Field.{Field}
-use Rattle.rb_model.specs.Kept.{Kept, Val, Last, Done, Waited, Data, Error, of_field, register_width}
+use Rattle.rb_model.specs.Kept.{Kept, Val, Last, Done, Waited, Data, Error, of_field, register_width, field_kept}
 use Rattle.rb_model.specs.Ports.{input_pins}
 use Rattle.rb_model.specs.Sound.{IsSound}
 use Rattle.block_plan.specs.declared.plan.Plan.{Plan}
-use Rattle.block_plan.specs.Kept.{field_kept}
 use Rattle.block_plan.specs.Pins.{is_access_pin}
 use Rattle.block_plan.specs.Plan.{IsPlanOf}
 use Rattle.gen_scene.specs.declared.base.Inlet.{Inlet}

@@ -5,12 +5,11 @@ use Rattle.rtl_net.specs.Value.{At}
 use Rattle.rtl_net.specs.Net.{Net, Settles, Stands, MayHave, seen, seen_or_zero}
 use Rattle.rtl_net.specs.declared.node.Id.{Id}
 use Rattle.rb_model.specs.declared.block.Block.{Block}
-use Rattle.rb_model.specs.Kept.{Kept, register_name}
+use Rattle.rb_model.specs.Kept.{Kept, register_name, field_kept}
 use Rattle.rb_model.specs.Ports.{input_pins}
 use Rattle.rb_model.specs.Items.{Access, NoAccess, Read, Write, Now, ItemValues, AreItemValues}
 use Rattle.rb_model.specs.Machine.{held}
 use Rattle.block_plan.specs.Behind.{IsThere}
-use Rattle.block_plan.specs.Kept.{field_kept}
 use Rattle.block_plan.specs.Pins.{is_access_pin}
 use Rattle.gen_scene.specs.declared.base.Inlet.{Inlet}
 

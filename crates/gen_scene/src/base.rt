@@ -58,8 +58,8 @@ impl<'a> Base<'a> {
     ghost use Rattle.rtl_net.specs.Value.{bit_of};
     ghost use Rattle.rtl_net.specs.Net.{Net, Grows};
     ghost use Rattle.rb_model.specs.declared.block.Field.{Field};
-    ghost use Rattle.rb_model.specs.Kept.{Kept, Val, Last, Done, is_storage, keeps_last, register_width};
-    ghost use Rattle.block_plan.specs.Kept.{IsKeptAt, field_kept};
+    ghost use Rattle.rb_model.specs.Kept.{Kept, Val, Last, Done, is_storage, keeps_last, register_width, field_kept};
+    ghost use Rattle.block_plan.specs.Kept.{IsKeptAt};
     ghost use Rattle.rb_model.specs.Machine.{is_asserted};
     ghost use Rattle.gen_scene.specs.Worth.{IsWorth, MayBeWorth};
     ghost use Rattle.gen_scene.specs.Bases.{IsBase};

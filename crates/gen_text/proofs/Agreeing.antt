@@ -1,4 +1,4 @@
--- A text of a block's netlist agrees with the block.
+-- A text of a netlist of a block behind a bus agrees with that.
 use Rattle.std.proofs.Common.{◌≡◌, ◌↔◌, ℕ, List, ◌++◌, ap, sym, ◌∙◌, subst}
 use Rattle.std.specs.Prelude.{Contains}
 use Rattle.rb_base.specs.declared.ports.Pin.{Pin}
@@ -6,19 +6,17 @@ use Rattle.rb_base.specs.declared.ports.Port.{Port}
 use Rattle.rtl_net.specs.Net.{Net}
 use Rattle.v_printer.specs.TextOf.{IsTextOf}
 use Rattle.v_printer.specs.Module as printed_module
-use Rattle.rb_model.specs.declared.block.Block.{Block}
-use Rattle.rb_model.specs.Kept.{kept_pins}
-use Rattle.rb_model.specs.Ports.{ports, module_name}
 use Rattle.v_design.specs.Header.{header}
+use Rattle.rb_model.specs.Front.{Front, register_pins}
 use Rattle.rb_model.specs.Agreement.{Agrees}
 use Rattle.gen_text.specs.Netlist.{IsNetlistOf}
 
-pub agrees : (net : Net) (b : Block) (text : List ℕ) → IsNetlistOf net b → IsTextOf net text → Agrees text b
-agrees net b text is of =
-    let head : header net.name (printed_module.ports net) ≡ header (module_name b) (ports b) =
+pub agrees : (net : Net) (F : Front) (text : List ℕ) → IsNetlistOf net F → IsTextOf net text → Agrees text F
+agrees net F text is of =
+    let head : header net.name (printed_module.ports net) ≡ header F.name F.ports =
     ap (λ (n : List ℕ). header n (printed_module.ports net)) is.named
-    ∙ ap (λ (ps : List Port). header (module_name b) ps) is.ported in
-    let P : List Pin → Type 0 = λ ps. (p : Pin) → Contains ps p ↔ Contains (kept_pins b) p in
+    ∙ ap (λ (ps : List Port). header F.name ps) is.ported in
+    let P : List Pin → Type 0 = λ ps. (p : Pin) → Contains ps p ↔ Contains (register_pins F) p in
     record {
       tree = of.tree;
       is_tree = of.is_tree;
@@ -28,6 +26,6 @@ agrees net b text is of =
       named = of.named ∙ is.named;
       ported = of.ported ∙ is.ported;
       kept_only = subst P (sym of.kept) is.kept_only;
-      runs = λ m contents vectors outputs fits holds inputs_fit keeps machine.
-          (of.runs contents vectors outputs).0 (is.runs m contents vectors outputs fits holds inputs_fit keeps machine);
+      runs = λ k contents vectors outputs within held inputs_fit keeps machine.
+          (of.runs contents vectors outputs).0 (is.runs k contents vectors outputs within held inputs_fit keeps machine);
     }

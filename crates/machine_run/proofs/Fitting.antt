@@ -2,7 +2,7 @@
 use Rattle.std.proofs.Common.{◌≡◌, ℕ, zero, suc, ◌+◌, Ok, Err, List, [], ◌∷◌, take, sym, ◌∙◌, subst}
 use Rattle.rb_model.specs.declared.block.Block.{Block}
 use Rattle.rb_model.specs.Protocol.{Bus, Phase, IDLE, idle, KeepsFrom, KeepsProtocol, phase_after}
-use Rattle.rb_model.specs.Agreement.{buses}
+use Rattle.rb_model.specs.Run.{buses}
 use Rattle.machine_run.specs.Runs.{IsBreak, IsFitFor, IsProblem}
 
 -- so do the first of the vectors

@@ -5,9 +5,8 @@ use Rattle.rb_base.specs.declared.ports.Pin.{Pin}
 use Rattle.v_design.specs.Fits.{FitsPins, AllFit}
 use Rattle.rb_model.specs.declared.block.Block.{Block}
 use Rattle.rb_model.specs.Ports.{input_pins}
-use Rattle.rb_model.specs.Agreement.{buses}
 use Rattle.rb_model.specs.Protocol.{bus_of}
-use Rattle.rb_model.specs.Run.{pins_of}
+use Rattle.rb_model.specs.Run.{buses, pins_of}
 use Rattle.stim_csv.specs.Buses.{HasBus, bus_first}
 
 fits_length : (ps : List Pin) (xs : List ℕ) → FitsPins ps xs → length xs ≡ length ps

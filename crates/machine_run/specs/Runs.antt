@@ -6,8 +6,7 @@ use Rattle.rb_model.specs.declared.block.Block.{Block}
 use Rattle.rb_model.specs.Kept.{Map}
 use Rattle.rb_model.specs.Ports.{ports, input_pins}
 use Rattle.rb_model.specs.Protocol.{KeepsProtocol}
-use Rattle.rb_model.specs.Run.{MachineRun}
-use Rattle.rb_model.specs.Agreement.{buses}
+use Rattle.rb_model.specs.Run.{buses, MachineRun}
 use Rattle.stim_csv.specs.Buses.{IsFirstBreak}
 use Rattle.stim_csv.specs.PinTable.{table_of, records_of}
 use Rattle.stim_csv.specs.declared.error.StimError.{StimError}

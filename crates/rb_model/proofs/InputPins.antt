@@ -14,7 +14,7 @@ use Rattle.rb_model.specs.declared.block.Block.{Block}
 use Rattle.rb_model.specs.declared.block.Field.{Field}
 use Rattle.rb_model.specs.declared.block.Reg.{Reg}
 use Rattle.rb_model.specs.declared.block.View.{View}
-use Rattle.rb_model.specs.Ports.{Outlet, pin, ports, input, output, bus_inputs, bus_outputs, signal_pins, field_ports, field_pins, field_outlets, view_pins, reg_outlets, outlets, input_pins, by_name}
+use Rattle.rb_model.specs.Ports.{Outlet, pin, block_ports, ports, input, output, bus_inputs, bus_outputs, signal_pins, field_ports, field_pins, field_outlets, view_pins, reg_outlets, outlets, input_pins, by_name}
 use Rattle.rb_model.specs.References.{Each}
 use Rattle.rb_model.specs.Sound.{IsSound}
 use Rattle.rb_model.proofs.Eachs.{Each-left, Each-right, Each-at, Each-weaker}
@@ -24,10 +24,10 @@ use Rattle.rb_model.proofs.Apart.{Name, Apart, bytes_eq-from, bytes_eq-to, bytes
 use Rattle.rb_model.proofs.FieldNames.{pin_names, port_names}
 use Rattle.rb_model.proofs.PortNames.{port_names_apart}
 
-abbrev clock : Name
+abbrev pub clock : Name
 clock = codes "PCLK"
 
-abbrev pin_of : Port → Pin
+abbrev pub pin_of : Port → Pin
 pin_of p = record { name = p.name; width = p.width }
 
 -- an input that isn't the clock, the clock, and an output
@@ -51,22 +51,22 @@ named_each P (q ∷ ps) (suc k) p h e = named_each P ps k p h.1 e
 
 -- Inputs
 
-NotClock : Port → Type 0
+pub NotClock : Port → Type 0
 NotClock p = p.name ≡ clock → ⊥
 
-inputs-append : (ps qs : List Port) → Each NotClock ps → inputs_among (ps ++ qs) ≡ inputs_among ps ++ inputs_among qs
+pub inputs-append : (ps qs : List Port) → Each NotClock ps → inputs_among (ps ++ qs) ≡ inputs_among ps ++ inputs_among qs
 unfolding NotClock
 inputs-append [] qs h = refl
 inputs-append (p ∷ ps) qs h = sides p.dir
     (λ d. keeps_input p (ps ++ qs) d h.0 ∙ ap (λ xs. pin_of p ∷ xs) (inputs-append ps qs h.1) ∙ ap (λ xs. xs ++ inputs_among qs) (sym (keeps_input p ps d h.0)))
     (λ d. drops_output p (ps ++ qs) d ∙ inputs-append ps qs h.1 ∙ ap (λ xs. xs ++ inputs_among qs) (sym (drops_output p ps d)))
 
-inputs-map_input : (ps : List Pin) → Each NotClock (map input ps) → inputs_among (map input ps) ≡ ps
+pub inputs-map_input : (ps : List Pin) → Each NotClock (map input ps) → inputs_among (map input ps) ≡ ps
 unfolding NotClock
 inputs-map_input [] h = refl
 inputs-map_input (p ∷ ps) h = keeps_input (input p) (map input ps) refl h.0 ∙ ap (λ xs. p ∷ xs) (inputs-map_input ps h.1)
 
-inputs-map_output : (os : List Outlet) → inputs_among (map output os) ≡ []
+pub inputs-map_output : (os : List Outlet) → inputs_among (map output os) ≡ []
 inputs-map_output [] = refl
 inputs-map_output (o ∷ os) = drops_output (output o) (map output os) refl ∙ inputs-map_output os
 
@@ -96,7 +96,7 @@ five a b c d e h =
     inputs-append (a ++ b ++ c ++ d) e h4 ∙ ap (λ xs. xs ++ inputs_among e) (inputs-append (a ++ b ++ c) d h3
     ∙ ap (λ xs. xs ++ inputs_among d) (inputs-append (a ++ b) c h2 ∙ ap (λ xs. xs ++ inputs_among c) (inputs-append a b h1)))
 
-names_each : (ps : List Port) → Each (λ m. m ≡ clock → ⊥) (port_names ps) → Each NotClock ps
+pub names_each : (ps : List Port) → Each (λ m. m ≡ clock → ⊥) (port_names ps) → Each NotClock ps
 unfolding NotClock
 names_each [] h = tt
 names_each (p ∷ ps) h = (h.0, names_each ps h.1)
@@ -147,6 +147,15 @@ module _ (b : Block) (sound : IsSound b) where
       ∙ ap (λ xs. inputs_among bus ++ signal_pins true b.signals ++ signal_pins false b.signals ++ flat_map (field_pins b.views) (enumerate_from 0 b.fields) ++ flat_map view_pins (filter (λ v. v.alias) b.views) ++ xs) g
       ∙ append-nil (bus_pins ++ signal_pins true b.signals ++ signal_pins false b.signals ++ flat_map (field_pins b.views) (enumerate_from 0 b.fields) ++ flat_map view_pins (filter (λ v. v.alias) b.views))
 
+  pub block_not_clock : Each NotClock (block_ports b)
+  unfolding others
+  block_not_clock = Each-right NotClock (map input bus_pins ++ bus_outputs) (block_ports b) others_not_clock
+
+  -- those of the bus come first
+  pub block_inputs : input_pins b ≡ bus_pins ++ inputs_among (block_ports b)
+  unfolding others
+  block_inputs = inputs-append (map input bus_pins ++ bus_outputs) (block_ports b) (Each-left NotClock (map input bus_pins ++ bus_outputs) (block_ports b) others_not_clock)
+
 -- By place
 
 names_among : (P : Name → Type 0) (ps : List Port) → Each P (port_names ps) → Each P (pin_names (inputs_among ps))
@@ -160,7 +169,7 @@ names_among P (p ∷ ps) h =
     (λ f. take (λ e. let t : bytes_eq p.name clock ≡ true = bytes_eq-from p.name clock e in cc) d))
     (λ d. skip (drops_output p ps d))
 
-inputs_apart : (ps : List Port) → Apart (port_names ps) → Apart (pin_names (inputs_among ps))
+pub inputs_apart : (ps : List Port) → Apart (port_names ps) → Apart (pin_names (inputs_among ps))
 inputs_apart [] h = tt
 inputs_apart (p ∷ ps) h =
     let rest : Apart (pin_names (inputs_among ps)) = inputs_apart ps h.1 in
@@ -175,7 +184,7 @@ pub input_names_apart : (b : Block) → IsSound b → Apart (pin_names (input_pi
 input_names_apart b sound = inputs_apart (ports b) (port_names_apart b sound)
 
 -- a pin's number is that at its place
-by_name-at : (ps : List Pin) (xs : List ℕ) (k : ℕ) (p : Pin) → Apart (pin_names ps) → slice_get ps k ≡ Some p → by_name ps xs p.name ≡ get_or xs k 0
+pub by_name-at : (ps : List Pin) (xs : List ℕ) (k : ℕ) (p : Pin) → Apart (pin_names ps) → slice_get ps k ≡ Some p → by_name ps xs p.name ≡ get_or xs k 0
 by_name-at [] xs k p a e = cc
 by_name-at (q ∷ ps) [] k p a e = refl
 by_name-at (q ∷ ps) (x ∷ xs) zero p a e =
@@ -196,20 +205,20 @@ keeps_output p ps d = rw d refl
 drops_input : (p : Port) (ps : List Port) → p.dir ≡ In → outputs_among (p ∷ ps) ≡ outputs_among ps
 drops_input p ps d = rw d refl
 
-outputs-append : (ps qs : List Port) → outputs_among (ps ++ qs) ≡ outputs_among ps ++ outputs_among qs
+pub outputs-append : (ps qs : List Port) → outputs_among (ps ++ qs) ≡ outputs_among ps ++ outputs_among qs
 outputs-append [] qs = refl
 outputs-append (p ∷ ps) qs = sides p.dir
     (λ d. drops_input p (ps ++ qs) d ∙ outputs-append ps qs ∙ ap (λ xs. xs ++ outputs_among qs) (sym (drops_input p ps d)))
     (λ d. keeps_output p (ps ++ qs) d ∙ ap (λ xs. pin_of p ∷ xs) (outputs-append ps qs) ∙ ap (λ xs. xs ++ outputs_among qs) (sym (keeps_output p ps d)))
 
-outputs-map_input : (ps : List Pin) → outputs_among (map input ps) ≡ []
+pub outputs-map_input : (ps : List Pin) → outputs_among (map input ps) ≡ []
 outputs-map_input [] = refl
 outputs-map_input (p ∷ ps) = drops_input (input p) (map input ps) refl ∙ outputs-map_input ps
 
 abbrev pub outlet_pin : Outlet → Pin
 outlet_pin o = record { name = o.name; width = o.width }
 
-outputs-map_output : (os : List Outlet) → outputs_among (map output os) ≡ map outlet_pin os
+pub outputs-map_output : (os : List Outlet) → outputs_among (map output os) ≡ map outlet_pin os
 outputs-map_output [] = refl
 outputs-map_output (o ∷ os) = keeps_output (output o) (map output os) refl ∙ ap (λ xs. outlet_pin o ∷ xs) (outputs-map_output os)
 
@@ -225,24 +234,26 @@ outputs-fields views (e ∷ es) =
 abbrev pub bus_shown : List Pin
 bus_shown = pin (codes "PREADY") 1 ∷ pin (codes "PRDATA") 32 ∷ pin (codes "PSLVERR") 1 ∷ []
 
-six_outputs : (a b c d e f : List Port) → outputs_among (a ++ b ++ c ++ d ++ e ++ f) ≡ outputs_among a ++ outputs_among b ++ outputs_among c ++ outputs_among d ++ outputs_among e ++ outputs_among f
-six_outputs a b c d e f =
-    outputs-append (a ++ b ++ c ++ d ++ e) f ∙ ap (λ xs. xs ++ outputs_among f) (outputs-append (a ++ b ++ c ++ d) e ∙ ap (λ xs. xs ++ outputs_among e) (outputs-append (a ++ b ++ c) d
-    ∙ ap (λ xs. xs ++ outputs_among d) (outputs-append (a ++ b) c ∙ ap (λ xs. xs ++ outputs_among c) (outputs-append a b))))
+five_outputs : (a b c d e : List Port) → outputs_among (a ++ b ++ c ++ d ++ e) ≡ outputs_among a ++ outputs_among b ++ outputs_among c ++ outputs_among d ++ outputs_among e
+five_outputs a b c d e =
+    outputs-append (a ++ b ++ c ++ d) e ∙ ap (λ xs. xs ++ outputs_among e) (outputs-append (a ++ b ++ c) d
+    ∙ ap (λ xs. xs ++ outputs_among d) (outputs-append (a ++ b) c ∙ ap (λ xs. xs ++ outputs_among c) (outputs-append a b)))
 
-pub output_pins_are : (b : Block) → outputs_among (ports b) ≡ bus_shown ++ map outlet_pin (outlets b)
-output_pins_are b =
-    let bus = map input bus_inputs ++ bus_outputs in
+pub block_outputs : (b : Block) → outputs_among (block_ports b) ≡ map outlet_pin (outlets b)
+block_outputs b =
     let root = map input (signal_pins true b.signals) in
     let tree = map input (signal_pins false b.signals) in
     let fields = flat_map (field_ports b.views) (enumerate_from 0 b.fields) in
     let aliases = map input (flat_map view_pins (filter (λ v. v.alias) b.views)) in
     let regs = map output (flat_map reg_outlets (enumerate_from 0 b.regs)) in
-    six_outputs bus root tree fields aliases regs
-    ∙ ap (λ xs. bus_shown ++ xs ++ outputs_among tree ++ outputs_among fields ++ outputs_among aliases ++ outputs_among regs) (outputs-map_input (signal_pins true b.signals))
-    ∙ ap (λ xs. bus_shown ++ xs ++ outputs_among fields ++ outputs_among aliases ++ outputs_among regs) (outputs-map_input (signal_pins false b.signals))
-    ∙ ap (λ xs. bus_shown ++ xs ++ outputs_among aliases ++ outputs_among regs) (outputs-fields b.views (enumerate_from 0 b.fields))
-    ∙ ap (λ xs. bus_shown ++ map outlet_pin (flat_map field_outlets (enumerate_from 0 b.fields)) ++ xs ++ outputs_among regs) (outputs-map_input (flat_map view_pins (filter (λ v. v.alias) b.views)))
-    ∙ ap (λ xs. xs ++ outputs_among regs) (append-nil (bus_shown ++ map outlet_pin (flat_map field_outlets (enumerate_from 0 b.fields))))
-    ∙ ap (λ xs. bus_shown ++ map outlet_pin (flat_map field_outlets (enumerate_from 0 b.fields)) ++ xs) (outputs-map_output (flat_map reg_outlets (enumerate_from 0 b.regs)))
-    ∙ ap (λ xs. bus_shown ++ xs) (sym (map-append outlet_pin (flat_map field_outlets (enumerate_from 0 b.fields)) (flat_map reg_outlets (enumerate_from 0 b.regs))))
+    five_outputs root tree fields aliases regs
+    ∙ ap (λ xs. xs ++ outputs_among tree ++ outputs_among fields ++ outputs_among aliases ++ outputs_among regs) (outputs-map_input (signal_pins true b.signals))
+    ∙ ap (λ xs. xs ++ outputs_among fields ++ outputs_among aliases ++ outputs_among regs) (outputs-map_input (signal_pins false b.signals))
+    ∙ ap (λ xs. xs ++ outputs_among aliases ++ outputs_among regs) (outputs-fields b.views (enumerate_from 0 b.fields))
+    ∙ ap (λ xs. map outlet_pin (flat_map field_outlets (enumerate_from 0 b.fields)) ++ xs ++ outputs_among regs) (outputs-map_input (flat_map view_pins (filter (λ v. v.alias) b.views)))
+    ∙ ap (λ xs. xs ++ outputs_among regs) (append-nil (map outlet_pin (flat_map field_outlets (enumerate_from 0 b.fields))))
+    ∙ ap (λ xs. map outlet_pin (flat_map field_outlets (enumerate_from 0 b.fields)) ++ xs) (outputs-map_output (flat_map reg_outlets (enumerate_from 0 b.regs)))
+    ∙ sym (map-append outlet_pin (flat_map field_outlets (enumerate_from 0 b.fields)) (flat_map reg_outlets (enumerate_from 0 b.regs)))
+
+pub output_pins_are : (b : Block) → outputs_among (ports b) ≡ bus_shown ++ map outlet_pin (outlets b)
+output_pins_are b = outputs-append (map input bus_inputs ++ bus_outputs) (block_ports b) ∙ ap (λ xs. bus_shown ++ xs) (block_outputs b)

@@ -8,7 +8,7 @@ use Rattle.rb_model.proofs.Eachs.{Each-append, Each-weaker, Each-at}
 use Rattle.rb_model.proofs.Apart.{Name, Apart, Apart-from, Apart-place}
 
 abbrev pub words : List Name
-words = codes "global$" ∷ codes "signal$" ∷ codes "in$" ∷ codes "we$" ∷ codes "wel$" ∷ codes "swwe$" ∷ codes "swwel$" ∷ codes "hwset$" ∷ codes "hwclr$" ∷ codes "incr$" ∷ codes "incrvalue$" ∷ codes "decr$" ∷ codes "decrvalue$" ∷ codes "out$" ∷ codes "anded$" ∷ codes "ored$" ∷ codes "xored$" ∷ codes "incrthreshold$" ∷ codes "decrthreshold$" ∷ codes "overflow$" ∷ codes "underflow$" ∷ codes "swmod$" ∷ codes "swacc$" ∷ codes "intr$" ∷ codes "halt$" ∷ codes "val$" ∷ codes "last$" ∷ codes "done$" ∷ codes "apb$" ∷ []
+words = codes "global$" ∷ codes "signal$" ∷ codes "in$" ∷ codes "we$" ∷ codes "wel$" ∷ codes "swwe$" ∷ codes "swwel$" ∷ codes "hwset$" ∷ codes "hwclr$" ∷ codes "incr$" ∷ codes "incrvalue$" ∷ codes "decr$" ∷ codes "decrvalue$" ∷ codes "out$" ∷ codes "anded$" ∷ codes "ored$" ∷ codes "xored$" ∷ codes "incrthreshold$" ∷ codes "decrthreshold$" ∷ codes "overflow$" ∷ codes "underflow$" ∷ codes "swmod$" ∷ codes "swacc$" ∷ codes "intr$" ∷ codes "halt$" ∷ codes "val$" ∷ codes "last$" ∷ codes "done$" ∷ codes "apb$" ∷ codes "axi$" ∷ []
 
 -- what stands before the first `$`, and behind it
 front : Name → Name
@@ -29,7 +29,7 @@ record Splits (w : Name) : Type 0 where
 
 all_split : Each Splits words
 unfolding front back
-all_split = (record { at_front = λ p. refl; at_back = λ p. refl; dollar = λ p. refl }, (record { at_front = λ p. refl; at_back = λ p. refl; dollar = λ p. refl }, (record { at_front = λ p. refl; at_back = λ p. refl; dollar = λ p. refl }, (record { at_front = λ p. refl; at_back = λ p. refl; dollar = λ p. refl }, (record { at_front = λ p. refl; at_back = λ p. refl; dollar = λ p. refl }, (record { at_front = λ p. refl; at_back = λ p. refl; dollar = λ p. refl }, (record { at_front = λ p. refl; at_back = λ p. refl; dollar = λ p. refl }, (record { at_front = λ p. refl; at_back = λ p. refl; dollar = λ p. refl }, (record { at_front = λ p. refl; at_back = λ p. refl; dollar = λ p. refl }, (record { at_front = λ p. refl; at_back = λ p. refl; dollar = λ p. refl }, (record { at_front = λ p. refl; at_back = λ p. refl; dollar = λ p. refl }, (record { at_front = λ p. refl; at_back = λ p. refl; dollar = λ p. refl }, (record { at_front = λ p. refl; at_back = λ p. refl; dollar = λ p. refl }, (record { at_front = λ p. refl; at_back = λ p. refl; dollar = λ p. refl }, (record { at_front = λ p. refl; at_back = λ p. refl; dollar = λ p. refl }, (record { at_front = λ p. refl; at_back = λ p. refl; dollar = λ p. refl }, (record { at_front = λ p. refl; at_back = λ p. refl; dollar = λ p. refl }, (record { at_front = λ p. refl; at_back = λ p. refl; dollar = λ p. refl }, (record { at_front = λ p. refl; at_back = λ p. refl; dollar = λ p. refl }, (record { at_front = λ p. refl; at_back = λ p. refl; dollar = λ p. refl }, (record { at_front = λ p. refl; at_back = λ p. refl; dollar = λ p. refl }, (record { at_front = λ p. refl; at_back = λ p. refl; dollar = λ p. refl }, (record { at_front = λ p. refl; at_back = λ p. refl; dollar = λ p. refl }, (record { at_front = λ p. refl; at_back = λ p. refl; dollar = λ p. refl }, (record { at_front = λ p. refl; at_back = λ p. refl; dollar = λ p. refl }, (record { at_front = λ p. refl; at_back = λ p. refl; dollar = λ p. refl }, (record { at_front = λ p. refl; at_back = λ p. refl; dollar = λ p. refl }, (record { at_front = λ p. refl; at_back = λ p. refl; dollar = λ p. refl }, (record { at_front = λ p. refl; at_back = λ p. refl; dollar = λ p. refl }, tt)))))))))))))))))))))))))))))
+all_split = (record { at_front = λ p. refl; at_back = λ p. refl; dollar = λ p. refl }, (record { at_front = λ p. refl; at_back = λ p. refl; dollar = λ p. refl }, (record { at_front = λ p. refl; at_back = λ p. refl; dollar = λ p. refl }, (record { at_front = λ p. refl; at_back = λ p. refl; dollar = λ p. refl }, (record { at_front = λ p. refl; at_back = λ p. refl; dollar = λ p. refl }, (record { at_front = λ p. refl; at_back = λ p. refl; dollar = λ p. refl }, (record { at_front = λ p. refl; at_back = λ p. refl; dollar = λ p. refl }, (record { at_front = λ p. refl; at_back = λ p. refl; dollar = λ p. refl }, (record { at_front = λ p. refl; at_back = λ p. refl; dollar = λ p. refl }, (record { at_front = λ p. refl; at_back = λ p. refl; dollar = λ p. refl }, (record { at_front = λ p. refl; at_back = λ p. refl; dollar = λ p. refl }, (record { at_front = λ p. refl; at_back = λ p. refl; dollar = λ p. refl }, (record { at_front = λ p. refl; at_back = λ p. refl; dollar = λ p. refl }, (record { at_front = λ p. refl; at_back = λ p. refl; dollar = λ p. refl }, (record { at_front = λ p. refl; at_back = λ p. refl; dollar = λ p. refl }, (record { at_front = λ p. refl; at_back = λ p. refl; dollar = λ p. refl }, (record { at_front = λ p. refl; at_back = λ p. refl; dollar = λ p. refl }, (record { at_front = λ p. refl; at_back = λ p. refl; dollar = λ p. refl }, (record { at_front = λ p. refl; at_back = λ p. refl; dollar = λ p. refl }, (record { at_front = λ p. refl; at_back = λ p. refl; dollar = λ p. refl }, (record { at_front = λ p. refl; at_back = λ p. refl; dollar = λ p. refl }, (record { at_front = λ p. refl; at_back = λ p. refl; dollar = λ p. refl }, (record { at_front = λ p. refl; at_back = λ p. refl; dollar = λ p. refl }, (record { at_front = λ p. refl; at_back = λ p. refl; dollar = λ p. refl }, (record { at_front = λ p. refl; at_back = λ p. refl; dollar = λ p. refl }, (record { at_front = λ p. refl; at_back = λ p. refl; dollar = λ p. refl }, (record { at_front = λ p. refl; at_back = λ p. refl; dollar = λ p. refl }, (record { at_front = λ p. refl; at_back = λ p. refl; dollar = λ p. refl }, (record { at_front = λ p. refl; at_back = λ p. refl; dollar = λ p. refl }, (record { at_front = λ p. refl; at_back = λ p. refl; dollar = λ p. refl }, tt))))))))))))))))))))))))))))))
 
 fronts : Apart (map front words)
 unfolding front

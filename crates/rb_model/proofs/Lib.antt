@@ -1,18 +1,19 @@
 mod Among
+pub mod ApbFront
 pub mod Apart
 pub mod Eachs
 pub mod EdgeWidths
 mod EffectWidths
-mod FieldNames
+pub mod FieldNames
 mod HasPins
 pub mod InputPins
 pub mod ItemValues
-mod KindWords
+pub mod KindWords
 pub mod Made
 mod NextWidths
 pub mod OwnViews
 pub mod PortLists
-mod PortNames
+pub mod PortNames
 pub mod Runs
-mod SameEdge
+pub mod SameEdge
 pub mod ValueWidths

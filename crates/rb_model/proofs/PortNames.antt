@@ -14,8 +14,8 @@ use Rattle.rb_model.specs.declared.block.View.{View}
 use Rattle.rb_model.specs.declared.block.Reg.{Reg}
 use Rattle.rb_model.specs.declared.block.Signal.{Signal}
 use Rattle.std.specs.Option.{option_map_or}
-use Rattle.rb_model.specs.Kept.{Kept, Val, Last, Done, Waited, Data, Error, when, is_storage, keeps_last, of_field, has_wait, kept, kept_of, kept_pins, register_name, register_width}
-use Rattle.rb_model.specs.Ports.{ports, input, output, bus_inputs, bus_outputs, signal_name, signal_pins, field_ports, field_pins, field_outlets, view_pins, reg_outlets}
+use Rattle.rb_model.specs.Kept.{Kept, Val, Last, Done, Waited, Data, Error, when, is_storage, keeps_last, of_field, field_kept, has_wait, kept, kept_of, kept_pins, register_name, register_width}
+use Rattle.rb_model.specs.Ports.{block_ports, ports, input, output, bus_inputs, bus_outputs, signal_name, signal_pins, field_ports, field_pins, field_outlets, view_pins, reg_outlets}
 use Rattle.rb_model.specs.Own.{IsOwnView, own_pins, outlet_ports}
 use Rattle.rb_model.specs.References.{Each}
 use Rattle.rb_model.specs.SoundField.{FieldIsSoundIn}
@@ -63,6 +63,10 @@ named-flat_map f (x ∷ xs) = ports_appended (f x) (flat_map f xs) ∙ ap (λ ns
 pub pins-flat_map : {X : Type 0} (f : X → List Pin) (xs : List X) → pin_names (flat_map f xs) ≡ flat_map (λ x. pin_names (f x)) xs
 pins-flat_map f [] = refl
 pins-flat_map f (x ∷ xs) = map-append {A = Pin} {B = Name} (λ p. p.name) (f x) (flat_map f xs) ∙ ap (λ ns. pin_names (f x) ++ ns) (pins-flat_map f xs)
+
+spread : {X : Type 0} (a b c d e f : List X) → a ++ (b ++ c ++ d ++ e ++ f) ≡ a ++ b ++ c ++ d ++ e ++ f
+spread a b c d e f = sym (append_assoc a (b ++ c ++ d ++ e) f) ∙ ap (λ xs. xs ++ f) (sym (append_assoc a (b ++ c ++ d) e)
+    ∙ ap (λ xs. xs ++ e) (sym (append_assoc a (b ++ c) d) ∙ ap (λ xs. xs ++ d) (sym (append_assoc a b c))))
 
 six_named : (a b c d e f : List Port) → port_names (a ++ b ++ c ++ d ++ e ++ f) ≡ port_names a ++ port_names b ++ port_names c ++ port_names d ++ port_names e ++ port_names f
 six_named a b c d e f =
@@ -228,11 +232,10 @@ module _ (b : Block) (sound : IsSound b) where
 
   -- All ports
 
-  ports_named : port_names (ports b) ≡ port_names (map input bus_inputs ++ bus_outputs) ++ port_names (map input (signal_pins true b.signals)) ++ port_names (map input (signal_pins false b.signals))
+  ports_named : (bus : List Port) → port_names (bus ++ block_ports b) ≡ port_names bus ++ port_names (map input (signal_pins true b.signals)) ++ port_names (map input (signal_pins false b.signals))
       ++ field_names ++ alias_names ++ reg_outlet_names
   unfolding field_names alias_names reg_outlet_names
-  ports_named =
-      let bus = map input bus_inputs ++ bus_outputs in
+  ports_named bus =
       let root = map input (signal_pins true b.signals) in
       let tree = map input (signal_pins false b.signals) in
       let fields = flat_map (field_ports b.views) (enumerate_from 0 b.fields) in
@@ -241,7 +244,8 @@ module _ (b : Block) (sound : IsSound b) where
       let a : port_names aliases ≡ flat_map (λ v. pin_names (view_pins v)) (filter (λ v. v.alias) b.views) = inputs_named (flat_map view_pins (filter (λ v. v.alias) b.views)) ∙ pins-flat_map view_pins (filter (λ v. v.alias) b.views) in
       let f : port_names fields ≡ flat_map (λ e. port_names (field_ports b.views e)) (enumerate_from 0 b.fields) = named-flat_map (field_ports b.views) (enumerate_from 0 b.fields) in
       let r : port_names regs ≡ flat_map (λ e. port_names (map output (reg_outlets e))) (enumerate_from 0 b.regs) = ap port_names (mapped_flat reg_outlets (enumerate_from 0 b.regs)) ∙ named-flat_map (λ e. map output (reg_outlets e)) (enumerate_from 0 b.regs) in
-      six_named bus root tree fields aliases regs
+      ap port_names (spread bus root tree fields aliases regs)
+      ∙ six_named bus root tree fields aliases regs
       ∙ ap (λ ns. port_names bus ++ port_names root ++ port_names tree ++ ns ++ port_names aliases ++ port_names regs) f
       ∙ ap (λ ns. port_names bus ++ port_names root ++ port_names tree ++ field_names ++ ns ++ port_names regs) a
       ∙ ap (λ ns. port_names bus ++ port_names root ++ port_names tree ++ field_names ++ alias_names ++ ns) r
@@ -271,10 +275,11 @@ module _ (b : Block) (sound : IsSound b) where
       weaker n (inl f) = inl f
       weaker n (inr v) = inr (v.0, (v.1.0, (v.1.1.0, v.1.1.1, (let x : v.1.0 < mid = v.1.1.2 in omega arith))))
 
-  ports_apart : PartApart 0 25 (port_names (ports b))
+  -- behind the ports of any bus, whose names have no `$`
+  ports_apart : (first : List Port) → Apart (port_names first) → Each (λ n. has_dollar n ≡ false) (port_names first) → PartApart 0 25 (port_names (first ++ block_ports b))
   unfolding OfField OfAlias
-  ports_apart =
-      let bus = port_names (map input bus_inputs ++ bus_outputs) in
+  ports_apart first bus_apart bus_plain =
+      let bus = port_names first in
       let root = port_names (map input (signal_pins true b.signals)) in
       let tree = port_names (map input (signal_pins false b.signals)) in
       let p0 : PartApart 0 0 bus = record { apart = bus_apart; kinds = Each-weaker (λ n. has_dollar n ≡ false) (λ n. (has_dollar n ≡ false) ⊎ Kind 0 0 n) (λ n f. inl f) bus bus_plain } in
@@ -286,12 +291,12 @@ module _ (b : Block) (sound : IsSound b) where
       (Each-weaker OfAlias (Kind 2 23) (λ n o. (o.0, (o.1.0.0, (o.1.0.1.0, (let x : 5 ≤ o.1.0.0 = o.1.0.1.1 in omega arith), (let y : o.1.0.0 < 7 = o.1.0.1.2 in omega arith))))) alias_names alias_of) in
       let p3 : PartApart 0 23 (bus ++ root ++ tree ++ (field_names ++ alias_names)) = PartApart-append 0 2 23 (bus ++ root ++ tree) (field_names ++ alias_names) (omega arith) (omega arith) p2 fa fk in
       let p4 : PartApart 0 25 (bus ++ root ++ tree ++ (field_names ++ alias_names) ++ reg_outlet_names) = PartApart-append 0 23 25 (bus ++ root ++ tree ++ (field_names ++ alias_names)) reg_outlet_names (omega arith) (omega arith) p3 regs_apart regs_kind in
-      let grouped : (bus ++ root ++ tree) ++ (field_names ++ alias_names) ++ reg_outlet_names ≡ port_names (ports b) =
-      ap (λ ns. ns ++ reg_outlet_names) (sym (append_assoc (bus ++ root ++ tree) field_names alias_names)) ∙ sym ports_named in
+      let grouped : (bus ++ root ++ tree) ++ (field_names ++ alias_names) ++ reg_outlet_names ≡ port_names (first ++ block_ports b) =
+      ap (λ ns. ns ++ reg_outlet_names) (sym (append_assoc (bus ++ root ++ tree) field_names alias_names)) ∙ sym (ports_named first) in
       subst (λ ns. PartApart 0 25 ns) grouped p4
 
   pub port_names_apart : Apart (port_names (ports b))
-  port_names_apart = ports_apart.apart
+  port_names_apart = (ports_apart (map input bus_inputs ++ bus_outputs) bus_apart bus_plain).apart
 
   -- Kept values
 
@@ -316,19 +321,19 @@ module _ (b : Block) (sound : IsSound b) where
       by true l d = (25, (record { word = codes "val$"; known = refl; is = ap (λ p. codes "val$" ++ p) path }, omega arith, last l d))
       by false l d = Rising-lower 25 26 28 f.path (map (register_name b) (when l (Last k) ++ when d (Done k))) (omega arith) (last l d)
 
-  field_kept : List Name
-  field_kept = flat_map (λ e. map (register_name b) (kept_of e)) (enumerate_from 0 b.fields)
+  fields_kept : List Name
+  fields_kept = flat_map (λ e. map (register_name b) (kept_of e)) (enumerate_from 0 b.fields)
 
-  field_kept_apart : Apart field_kept
-  unfolding field_kept
-  field_kept_apart = Apart-flat_map (Within 25 28) (one_path 25 28) (λ e. e.1.path) (λ e. map (register_name b) (kept_of e)) (enumerate_from 0 b.fields)
+  fields_kept_apart : Apart fields_kept
+  unfolding fields_kept
+  fields_kept_apart = Apart-flat_map (Within 25 28) (one_path 25 28) (λ e. e.1.path) (λ e. map (register_name b) (kept_of e)) (enumerate_from 0 b.fields)
       (rw (map-enumerate_from (λ f. f.path) 0 b.fields) (Apart-from (map (λ f. f.path) b.fields) (both_true (distinct (map (λ f. f.path) b.fields)) _ sound.field_paths).0))
       (Each-numbered_all (λ e. Apart (map (register_name b) (kept_of e)) × Each (Within 25 28 e.1.path) (map (register_name b) (kept_of e))) b.fields
       (λ k f e. (Rising-apart 25 28 f.path _ (field_kept_names k f e), Rising-within 25 28 f.path _ (field_kept_names k f e))))
 
-  field_kept_kind : Each (Kind 25 28) field_kept
-  unfolding field_kept
-  field_kept_kind = Each-flat_map (Kind 25 28) (λ e. map (register_name b) (kept_of e)) (enumerate_from 0 b.fields)
+  fields_kept_kind : Each (Kind 25 28) fields_kept
+  unfolding fields_kept
+  fields_kept_kind = Each-flat_map (Kind 25 28) (λ e. map (register_name b) (kept_of e)) (enumerate_from 0 b.fields)
       (Each-numbered_all (λ e. Each (Kind 25 28) (map (register_name b) (kept_of e))) b.fields
       (λ k f e. Each-weaker (Within 25 28 f.path) (Kind 25 28) (λ n w. (f.path, w)) (map (register_name b) (kept_of (k, f))) (Rising-within 25 28 f.path _ (field_kept_names k f e))))
 
@@ -346,23 +351,36 @@ module _ (b : Block) (sound : IsSound b) where
       by true = (Apart-from (codes "apb$wait" ∷ codes "apb$data" ∷ codes "apb$error" ∷ []) refl, (bus (codes "wait") _ refl, (bus (codes "data") _ refl, (bus (codes "error") _ refl, tt))))
       by false = (tt, tt)
 
-  kept_named : map (λ p. p.name) (kept_pins b) ≡ field_kept ++ map (register_name b) waits
-  unfolding field_kept waits
-  kept_named = pins (kept b) ∙ map-append (register_name b) (flat_map kept_of (enumerate_from 0 b.fields)) (if has_wait b then Waited ∷ Data ∷ Error ∷ [] else [])
-      ∙ ap (λ ns. ns ++ map (register_name b) (if has_wait b then Waited ∷ Data ∷ Error ∷ [] else [])) (flat (enumerate_from 0 b.fields))
+  fields_named : map (register_name b) (field_kept b) ≡ fields_kept
+  unfolding fields_kept
+  fields_named = flat (enumerate_from 0 b.fields)
+    where
+      flat : (es : List (ℕ × Field)) → map (register_name b) (flat_map kept_of es) ≡ flat_map (λ e. map (register_name b) (kept_of e)) es
+      flat [] = refl
+      flat (e ∷ es) = map-append (register_name b) (kept_of e) (flat_map kept_of es) ∙ ap (λ ns. map (register_name b) (kept_of e) ++ ns) (flat es)
+
+  kept_named : map (λ p. p.name) (kept_pins b) ≡ map (register_name b) (field_kept b) ++ map (register_name b) waits
+  unfolding waits
+  kept_named = pins (kept b) ∙ map-append (register_name b) (field_kept b) (if has_wait b then Waited ∷ Data ∷ Error ∷ [] else [])
     where
       pins : (ks : List Kept) → map (λ p. p.name) (map {A = Kept} {B = Pin} (λ k. record { name = register_name b k; width = register_width b k }) ks) ≡ map (register_name b) ks
       pins [] = refl
       pins (k ∷ ks) = ap (λ ns. register_name b k ∷ ns) (pins ks)
 
-      flat : (es : List (ℕ × Field)) → map (register_name b) (flat_map kept_of es) ≡ flat_map (λ e. map (register_name b) (kept_of e)) es
-      flat [] = refl
-      flat (e ∷ es) = map-append (register_name b) (kept_of e) (flat_map kept_of es) ∙ ap (λ ns. map (register_name b) (kept_of e) ++ ns) (flat es)
+  -- the ports behind any bus, the registers of the fields and those of the bus together
+  pub names_behind : (bus : List Port) (own : List Name) → Apart (port_names bus) → Each (λ n. has_dollar n ≡ false) (port_names bus) → Apart own → Each (Kind 28 30) own
+      → Apart (port_names (bus ++ block_ports b) ++ map (register_name b) (field_kept b) ++ own)
+  names_behind bus own apart plain own_apart own_kind =
+      let ns = port_names (bus ++ block_ports b) in
+      let p : PartApart 0 28 (ns ++ fields_kept) = PartApart-append 0 25 28 ns fields_kept (omega arith) (omega arith) (ports_apart bus apart plain) fields_kept_apart fields_kept_kind in
+      let q : PartApart 0 30 (ns ++ fields_kept ++ own) = PartApart-append 0 28 30 (ns ++ fields_kept) own (omega arith) (omega arith) p own_apart own_kind in
+      subst (λ ms. Apart (ns ++ ms ++ own)) (sym fields_named) q.apart
 
   -- ports and registers together
   pub all_names_apart : Apart (port_names (ports b) ++ map (λ p. p.name) (kept_pins b))
   all_names_apart =
       let w = wait_names in
-      let p : PartApart 0 28 (port_names (ports b) ++ field_kept) = PartApart-append 0 25 28 (port_names (ports b)) field_kept (omega arith) (omega arith) ports_apart field_kept_apart field_kept_kind in
-      let q : PartApart 0 29 (port_names (ports b) ++ field_kept ++ map (register_name b) waits) = PartApart-append 0 28 29 (port_names (ports b) ++ field_kept) (map (register_name b) waits) (omega arith) (omega arith) p w.0 w.1 in
-      subst (λ ns. Apart ns) (append_assoc (port_names (ports b)) field_kept (map (register_name b) waits) ∙ ap (λ ns. port_names (ports b) ++ ns) (sym kept_named)) q.apart
+      let own = map (register_name b) waits in
+      let names = port_names (ports b) in
+      subst (λ ns. Apart ns) (append_assoc names (map (register_name b) (field_kept b)) own ∙ ap (λ ns. names ++ ns) (sym kept_named))
+      (names_behind (map input bus_inputs ++ bus_outputs) own bus_apart bus_plain w.0 (wider 28 29 28 30 (omega arith) (omega arith) own w.1))

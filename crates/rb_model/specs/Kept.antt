@@ -50,8 +50,12 @@ kept_of f = when (is_storage f.1.class) (Val f.0) ++ when (keeps_last f.1.latch)
 abbrev pub has_wait : Block → Bool
 has_wait b = b.waits == 1
 
+-- the kept values of the fields, without those of the bus
+abbrev pub field_kept : Block → List Kept
+field_kept b = flat_map kept_of (enumerate_from 0 b.fields)
+
 abbrev pub kept : Block → List Kept
-kept b = flat_map kept_of (enumerate_from 0 b.fields) ++ (if has_wait b then Waited ∷ Data ∷ Error ∷ [] else [])
+kept b = field_kept b ++ (if has_wait b then Waited ∷ Data ∷ Error ∷ [] else [])
 
 -- g of the field of this number, or other where there is none
 abbrev pub of_field : {X : Type 0} → Block → ℕ → X → (Field → X) → X
@@ -86,8 +90,12 @@ register_width b Waited = 1
 register_width b Data = 32
 register_width b Error = 1
 
+-- the register of a kept value, as a pin
+abbrev pub kept_pin : Block → Kept → Pin
+kept_pin b k = record { name = register_name b k; width = register_width b k }
+
 abbrev pub kept_pins : Block → List Pin
-kept_pins b = map (λ k. record { name = register_name b k; width = register_width b k }) (kept b)
+kept_pins b = map (kept_pin b) (kept b)
 
 -- each kept value is within its width
 abbrev pub Fits : Block → Map → Type 0

@@ -1,5 +1,6 @@
 pub mod Agreement
 pub mod Effects
+pub mod Front
 pub mod Items
 pub mod Kept
 pub mod Machine

@@ -123,12 +123,15 @@ reg_outlets r = when r.1.intr (outlet (codes "intr$" ++ r.1.path) 1 (item.Intr r
 abbrev pub field_ports : List View → ℕ × Field → List Port
 field_ports views f = map input (field_pins views f) ++ map output (field_outlets f)
 
-abbrev pub ports : Block → List Port
-ports b = map input bus_inputs ++ bus_outputs
-    ++ map input (signal_pins true b.signals) ++ map input (signal_pins false b.signals)
+-- the ports behind those of the bus
+abbrev pub block_ports : Block → List Port
+block_ports b = map input (signal_pins true b.signals) ++ map input (signal_pins false b.signals)
     ++ flat_map (field_ports b.views) (enumerate_from 0 b.fields)
     ++ map input (flat_map view_pins (filter (λ v. v.alias) b.views))
     ++ map output (flat_map reg_outlets (enumerate_from 0 b.regs))
+
+abbrev pub ports : Block → List Port
+ports b = map input bus_inputs ++ bus_outputs ++ block_ports b
 
 -- the outputs behind those of the bus
 abbrev pub outlets : Block → List Outlet

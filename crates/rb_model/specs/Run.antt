@@ -1,13 +1,14 @@
 -- The register machine behind its bus, at a clock edge and over whole lists of vectors.
-use Rattle.std.specs.Prelude.{◌≡◌, ℕ, ◌==◌, Bool, not, ◌&&◌, if◌then◌else◌, Option, is_none, List, [], ◌∷◌, position}
+use Rattle.std.specs.Prelude.{ℕ, ◌==◌, Bool, not, ◌&&◌, if◌then◌else◌, Option, is_none, List, ◌∷◌, map, position}
 use Rattle.std.specs.Option.{option_map_or}
 use Rattle.v_design.specs.Expr.{Values, bit_of}
 use Rattle.rb_model.specs.declared.block.Block.{Block}
 use Rattle.rb_model.specs.declared.block.Word.{Word}
-use Rattle.rb_model.specs.Kept.{Val, Last, Done, Waited, Data, Error, Map, has_wait, only_kept}
-use Rattle.rb_model.specs.Ports.{input_pins, by_name}
-use Rattle.rb_model.specs.Protocol.{Bus, bus_of}
-use Rattle.rb_model.specs.Items.{Access, NoAccess, Read, Write, Now, ItemValues, AreItemValues}
+use Rattle.rb_model.specs.Kept.{Val, Last, Done, Waited, Data, Error, Map, has_wait, kept, only_kept, register_name, register_width}
+use Rattle.rb_model.specs.Ports.{ports, module_name}
+use Rattle.rb_model.specs.Protocol.{Bus, bus_of, KeepsProtocol}
+use Rattle.rb_model.specs.Items.{Access, NoAccess, Read, Write, Now, ItemValues}
+use Rattle.rb_model.specs.Front.{Front, FrontEdge, FrontRun, pins_at}
 use Rattle.rb_model.specs.Machine.{held, next, outputs, read_data}
 
 -- the vector of an access
@@ -79,20 +80,32 @@ kept_next b n v Waited = bit_of (carries b (bus_of n.pins) n.kept)
 kept_next b n v Data = answer b n v
 kept_next b n v Error = error b n
 
+-- Behind an APB slave port (IHI 0024B), with no or one wait state as the block says.
+abbrev pub apb : Block → Front
+apb b = record {
+  Kept = Map;
+  block = b;
+  name = module_name b;
+  ports = ports b;
+  registers = map (λ k. record { name = register_name b k; width = register_width b k; value = λ m. m k }) (kept b);
+  found = now b;
+  shown = λ p m v. all_outputs b (now b p m) v;
+  next = λ p m v. only_kept b (kept_next b (now b p m) v);
+  Keeps = λ ps. KeepsProtocol b.waits (map bus_of ps);
+}
+
 -- the input pins of a vector, by name
 abbrev pub pins_of : Block → List ℕ → Values
-pins_of b x = by_name (input_pins b) x
+pins_of b x = pins_at (apb b) x
+
+-- the bus at each vector
+abbrev pub buses : Block → List (List ℕ) → List Bus
+buses b vectors = map bus_of (map (pins_of b) vectors)
 
 -- At one edge, from the kept values m and for the vector x, the outputs are these, and so is what is kept after it.
-pub record ClockEdge (b : Block) (m : Map) (x outs : List ℕ) (after : Map) : Type 0 where
-  pub items : ItemValues
-  pub valued : AreItemValues b (now b (pins_of b x) m) items
-  pub seen : outs ≡ all_outputs b (now b (pins_of b x) m) items
-  pub moved : after ≡ only_kept b (kept_next b (now b (pins_of b x) m) items)
+abbrev pub ClockEdge : Block → Map → (x outs : List ℕ) → Map → Type 0
+ClockEdge b m x outs after = FrontEdge (apb b) m x outs after
 
 -- from these kept values and for these vectors, the outputs are these
 abbrev pub MachineRun : Block → Map → List (List ℕ) → List (List ℕ) → Type 0
-MachineRun b m [] [] = Unit {0}
-MachineRun b m [] (o ∷ os) = ⊥
-MachineRun b m (x ∷ xs) [] = ⊥
-MachineRun b m (x ∷ xs) (o ∷ os) = (after : Map) × ClockEdge b m x o after × MachineRun b after xs os
+MachineRun b m vectors outputs = FrontRun (apb b) m vectors outputs

@@ -18,4 +18,4 @@ pub use laws::{
     names_differ, one_machine_run, order_is_free, pins_are_by_place,
 };
 pub use lists::{Fields, Order, Regs, Shows, Signals, Slots, Views, Words};
-pub use port_list::ports;
+pub use port_list::{ports, push_block_ports, push_port};

@@ -4,7 +4,7 @@ ghost use Rattle.std.specs.Prelude.{◌≡◌, ℕ, ◌<◌, false, [], ◌∷�
 ghost use Rattle.std.specs.List.{flat_map, enumerate_from};
 ghost use Rattle.rb_model.specs.Kept.{when};
 ghost use Rattle.rb_model.specs.Ports as spec;
-ghost use Rattle.rb_model.specs.Ports.{amount_pins, bus_inputs, bus_outputs, count_pins, field_ports, gate_pins, input, is_pin, output, part_pins, pin, reg_outlets, shown_word, signal_name, signal_pins, view_pins};
+ghost use Rattle.rb_model.specs.Ports.{amount_pins, block_ports, bus_inputs, bus_outputs, count_pins, field_ports, gate_pins, input, is_pin, output, part_pins, pin, reg_outlets, shown_word, signal_name, signal_pins, view_pins};
 ghost use Rattle.rb_model.specs.Own.{IsOwnView, own_pins, shown_ports, outlet_ports};
 ghost use Rattle.rb_model.specs.Sound.{IsSound};
 
@@ -14,8 +14,8 @@ use crate::own::own_views;
 use rb_base::{Dir, NoMemory, Port, Text};
 use std::alloc::Global;
 
-/// Adds a port whose name is the word and the path.
-fn push_port(
+/// Adds a port whose name is the word and the path. The only error is want of memory.
+pub fn push_port(
     alloc: Global,
     out: &mut Vec<Port>,
     dir: Dir,
@@ -291,21 +291,30 @@ fn push_fields(
     Ok(())
 }
 
-/// The ports of a block's module, in order: those of an APB slave, the pins of its signals, the pins and outputs of its
-/// fields, the pins of its aliases, and the outputs of its registers. Widths are in bits. The only error is want of memory.
-pub fn ports(alloc: Global, block: &Block) -> Result<Vec<Port>, NoMemory>
+/// Adds the ports that a block's module has behind those of its bus, in order: the pins of its signals, the pins and outputs
+/// of its fields, the pins of its aliases, and the outputs of its registers. The only error is want of memory.
+pub fn push_block_ports(alloc: Global, out: &mut Vec<Port>, block: &Block) -> Result<(), NoMemory>
     requires { IsSound block.now }
-    ensures { IfOk result (λ all. all.items ≡ spec.ports block.now) }
+    ensures { OnOk result (out.new.items ≡ out.old.items ++ block_ports block.now) }
 {
     let views: &[View] = &block.views.items;
     let fields: &[Field] = &block.fields.items;
     let own = own_views(alloc, views, fields.len())?;
+    push_signals(alloc, out, &block.signals.items, true)?;
+    push_signals(alloc, out, &block.signals.items, false)?;
+    push_fields(alloc, out, fields, views, &own)?;
+    push_alias_views(alloc, out, views)?;
+    push_regs(alloc, out, &block.regs.items)
+}
+
+/// The ports of a block's module, in order: those of an APB slave, and those of the block. Widths are in bits. The only error
+/// is want of memory.
+pub fn ports(alloc: Global, block: &Block) -> Result<Vec<Port>, NoMemory>
+    requires { IsSound block.now }
+    ensures { IfOk result (λ all. all.items ≡ spec.ports block.now) }
+{
     let mut out = Vec::new(alloc);
     push_bus(alloc, &mut out)?;
-    push_signals(alloc, &mut out, &block.signals.items, true)?;
-    push_signals(alloc, &mut out, &block.signals.items, false)?;
-    push_fields(alloc, &mut out, fields, views, &own)?;
-    push_alias_views(alloc, &mut out, views)?;
-    push_regs(alloc, &mut out, &block.regs.items)?;
+    push_block_ports(alloc, &mut out, block)?;
     Ok(out)
 }

@@ -5,6 +5,7 @@ use Rattle.rdl_base.specs.declared.rule.Rule.{Rule}
 use Rattle.rb_edge.specs.Shelf.{Files, Holds}
 use Rattle.rb_model.specs.declared.block.Block.{Block}
 use Rattle.rb_model.specs.Agreement.{Agrees}
+use Rattle.rb_model.specs.Run.{apb}
 use Rattle.rdl_base.specs.declared.fault.Fault.{Fault}
 use Rattle.rdl_tree.specs.declared.item.Source.{Source}
 use Rattle.report_text.specs.Lines.{address_lines}
@@ -24,7 +25,7 @@ pub record IsRight (contents : Option Files) (waits : â„•) (top : Option (List â
   pub held : Holds contents file source
   pub clean : IsVerdict top source []
   pub described : IsDescribedWith top source tree waits block
-  pub agrees : Agrees text block
+  pub agrees : Agrees text (apb block)
   pub written : TookAll out text
   pub quiet : TookAll err []
 

@@ -5,6 +5,7 @@ use Rattle.rb_edge.specs.Count.{Rose, raised}
 use Rattle.rb_edge.specs.Shelf.{Files, Holds, IsLonger}
 use Rattle.rb_model.specs.declared.block.Block.{Block}
 use Rattle.rb_model.specs.Agreement.{Agrees}
+use Rattle.rb_model.specs.Run.{apb}
 use Rattle.rdl_base.specs.declared.fault.Fault.{Fault}
 use Rattle.rdl_tree.specs.declared.item.Source.{Source}
 use Rattle.rdl_verdict.specs.Verdict.{IsVerdict}
@@ -90,7 +91,7 @@ pub record IsCompiled (waits : ℕ) (top : Option (List ℕ)) (source : List ℕ
   pub tree : Source
   pub block : Block
   pub described : IsDescribedWith top source tree waits block
-  pub agrees : Agrees texts.out block
+  pub agrees : Agrees texts.out (apb block)
   pub quiet : texts.err ≡ []
 
 -- the source breaks no rule, and on out is the address table of the block that it describes
@@ -176,7 +177,7 @@ pub record IsBadStimulus (verilog file stimulus : List ℕ) (texts : Texts) : Ty
 -- on out is the run of a block's machine over a table, which a simulation of each module of the block prints too
 pub record IsRunText (b : Block) (stimulus text : List ℕ) : Type 0 where
   pub run : IsRunOf b stimulus text
-  pub simulated : (verilog : List ℕ) → Agrees verilog b → IsSimulated verilog stimulus text
+  pub simulated : (verilog : List ℕ) → Agrees verilog (apb b) → IsSimulated verilog stimulus text
 
 -- the source breaks no rule, and on out is the run of its block's machine
 pub record IsRan (waits : ℕ) (top : Option (List ℕ)) (source stimulus : List ℕ) (texts : Texts) : Type 0 where
@@ -207,7 +208,7 @@ pub record IsBroken (waits : ℕ) (top : Option (List ℕ)) (source file stimulu
 -- the text is what a script sees of a block's machine, of which so many checks failed, and what it sees of each module of the block
 pub record IsDriveText (b : Block) (bytes text : List ℕ) (failed : ℕ) : Type 0 where
   pub seen : IsTranscriptOf b bytes text failed
-  pub of_modules : (verilog : List ℕ) → Agrees verilog b → IsSeenOf b verilog bytes text failed
+  pub of_modules : (verilog : List ℕ) → Agrees verilog (apb b) → IsSeenOf b verilog bytes text failed
 
 -- the source breaks no rule, and on out is what the script sees of its block's machine, of which so many checks failed
 pub record IsDriven (top : Option (List ℕ)) (source bytes : List ℕ) (failed : ℕ) (texts : Texts) : Type 0 where
@@ -229,7 +230,7 @@ pub record IsBadScript (top : Option (List ℕ)) (source file bytes : List ℕ) 
 -- the length of some module of the block, or the greatest count of 64 bits where the module is longer
 pub record IsModuleLength (b : Block) (bytes : ℕ) : Type 0 where
   pub text : List ℕ
-  pub agrees : Agrees text b
+  pub agrees : Agrees text (apb b)
   pub counted : bytes ≡ raised 0 (length text)
 
 -- on out is the source of so many registers, which breaks no rule, and on err its summary, with the length of a module of the

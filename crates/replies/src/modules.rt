@@ -2,6 +2,7 @@
 
 ghost use Rattle.std.specs.Prelude.{IfOk};
 ghost use Rattle.rb_model.specs.Agreement.{Agrees};
+ghost use Rattle.rb_model.specs.Run.{apb};
 ghost use Rattle.rb_model.specs.Sound.{IsSound};
 ghost use Rattle.v_printer.specs.Layout.{text_of};
 ghost use Rattle.v_printer.specs.TextOf.{IsTextOf, IsWhole};
@@ -18,7 +19,7 @@ use std::alloc::Global;
 pub(crate) fn module_net(alloc: Global, block: &Block) -> Result<Netlist, NoMemory>
     requires { IsSound block.now }
     ensures whole { IfOk result IsWhole }
-    ensures agrees { IfOk result (λ net. IsTextOf net (text_of net) → Agrees (text_of net) block.now) }
+    ensures agrees { IfOk result (λ net. IsTextOf net (text_of net) → Agrees (text_of net) (apb block.now)) }
 {
     text_agrees();
     let net = apb(alloc, block)?;

@@ -2,9 +2,8 @@ use Rattle.std.proofs.Common.{◌++◌, codes, map, sym, ◌∙◌, subst}
 use Rattle.rtl_net.specs.Names.{Lacks}
 use Rattle.rtl_net.specs.Ports.{seat_names}
 use Rattle.rtl_net.proofs.Nets.{Extends-trans}
-use Rattle.rb_model.specs.Kept.{Waited, Data, Error}
+use Rattle.rb_model.specs.Kept.{Waited, Data, Error, field_kept}
 use Rattle.rb_model.specs.Ports.{input_pins, outlets, pin}
-use Rattle.block_plan.specs.Kept.{field_kept}
 use Rattle.gen_scene.specs.Bases.{HasPins}
 use Rattle.gen_ports.specs.Laid.{AreInputs}
 use Rattle.gen_core.specs.Ties.{outlet_pin}

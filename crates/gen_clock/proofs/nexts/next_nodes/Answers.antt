@@ -2,7 +2,8 @@ use Rattle.std.proofs.Common.{◌≡◌, length, map, sym, ap, ◌∙◌, arith}
 use Rattle.std.proofs.lemmas.Option.{slice_get_within}
 use Rattle.std.proofs.lemmas.List.{length-map}
 use Rattle.block_plan.specs.declared.kept.KeptValue.TheVariants as value
-use Rattle.block_plan.specs.Kept.{field_kept, kept_seen}
+use Rattle.rb_model.specs.Kept.{field_kept}
+use Rattle.block_plan.specs.Kept.{kept_seen}
 use Rattle.gen_clock.proofs.Edging.{IsScene-grows}
 use Rattle.gen_clock.proofs.Taking.{AreMoved-grows, AreUsed-grows, contains_at, kept_at, nexts_more}
 use Rattle.gen_clock.proofs.nexts.next_nodes.Goals as goal

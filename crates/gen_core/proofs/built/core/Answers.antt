@@ -2,7 +2,7 @@ use Rattle.std.proofs.Common.{◌∙◌, sym, subst}
 use Rattle.std.specs.Prelude.{length, map}
 use Rattle.rtl_net.specs.Net.{undriven}
 use Rattle.rb_model.specs.Ports.{outlets}
-use Rattle.block_plan.specs.Kept.{field_kept}
+use Rattle.rb_model.specs.Kept.{field_kept}
 use Rattle.gen_scene.specs.Bases.{HasKept}
 use Rattle.gen_scene.proofs.Worths.{HasInlet-extends, HasPins-extends}
 use Rattle.gen_core.specs.Ties.{AreAwaiting, SeatsTaken, outlet_pin}

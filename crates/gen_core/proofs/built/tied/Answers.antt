@@ -3,7 +3,7 @@ use Rattle.std.specs.Prelude.{Contains}
 use Rattle.rtl_net.specs.Net.{registers_of}
 use Rattle.rtl_net.proofs.Nets.{Extends-grows, Extends-trans}
 use Rattle.rb_model.specs.Ports.{Outlet, outlets}
-use Rattle.block_plan.specs.Kept.{field_kept}
+use Rattle.rb_model.specs.Kept.{field_kept}
 use Rattle.std.specs.Prelude.{length, map}
 use Rattle.gen_scene.specs.Items.{IsItem}
 use Rattle.gen_scene.proofs.Worths.{IsBase-extends, IsBase-grows}

@@ -1,6 +1,6 @@
 use Rattle.std.proofs.Common.{arith}
 use Rattle.rtl_net.proofs.Places.{item_at}
-use Rattle.block_plan.specs.Kept.{field_kept}
+use Rattle.rb_model.specs.Kept.{field_kept}
 use Rattle.gen_core.proofs.Driving.{all_driven, can_drive, driven_more, driven_none}
 use Rattle.gen_core.proofs.drives.drive_nodes.Goals as goal
 

@@ -2,7 +2,7 @@ use Rattle.std.proofs.Common.{◌<◌, ◌++◌, length, map, ap, ◌∙◌, ari
 use Rattle.std.proofs.lemmas.List.{take_all}
 use Rattle.std.proofs.lemmas.Option.{slice_get_within}
 use Rattle.rtl_net.specs.Net.{registers_of}
-use Rattle.block_plan.specs.Kept.{field_kept, kept_pin}
+use Rattle.rb_model.specs.Kept.{field_kept, kept_pin}
 use Rattle.gen_scene.proofs.Registering.{all_listed, kept_among, kept_at, kept_worths, next_new, none_yet, one_register}
 use Rattle.gen_scene.proofs.Worths.{HasPins-extends}
 use Rattle.gen_scene.proofs.kept.registers.Goals as goal

@@ -1,5 +1,6 @@
 use Rattle.std.proofs.Common.{subst}
-use Rattle.block_plan.specs.Kept.{IsKeptAt, field_kept}
+use Rattle.rb_model.specs.Kept.{field_kept}
+use Rattle.block_plan.specs.Kept.{IsKeptAt}
 use Rattle.gen_scene.proofs.Sources.{kept_worth}
 use Rattle.gen_scene.proofs.base.Base.register.Goals as goal
 

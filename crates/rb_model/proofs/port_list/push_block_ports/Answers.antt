@@ -1,6 +1,6 @@
 use Rattle.std.proofs.Common.{ap, ◌∙◌}
 use Rattle.rb_model.proofs.OwnViews.{views_in_range, one_own}
-use Rattle.rb_model.proofs.port_list.ports.Goals as goal
+use Rattle.rb_model.proofs.port_list.push_block_ports.Goals as goal
 
 pub own_views-requires-clause-in_range : goal.own_views-requires-clause-in_range
 own_views-requires-clause-in_range c =
