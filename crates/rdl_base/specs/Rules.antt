@@ -1,7 +1,7 @@
 -- The rules of this project's profile: the code, the phrase and the phase of each, in the order of the table.
 use Rattle.std.specs.Prelude.{ℕ, List, codes}
 use Rattle.rdl_base.specs.declared.rule.Rule.{Rule}
-use Rattle.rdl_base.specs.declared.rule.Rule.TheVariants.{L1, L2, L3, L4, L5, L6, S1, S2, O1, O2, O3, O4, O5, O6, O7, O8, O9, V1, V2, V3, V4, E1, E2, E3, E4, E5, E6, E7, E8, E9, E10, E11, E12, E13, E14, P1, P2, P3, P4, P5, P6, P7, P8, P9, P10, P11, A1, A2, A3, A4, A5, A6, B1, B2, R1, R2, F1, F2, F3, F4, F5, F6, F7, F8, F9, F10, F11, F12, F13, F14, F15, R3, R4, R5, R6, R7, R8}
+use Rattle.rdl_base.specs.declared.rule.Rule.TheVariants.{L1, L2, L3, L4, L5, L6, S1, S2, O1, O2, O3, O4, O5, O6, O7, O8, O9, V1, V2, V3, V4, E1, E2, E3, E4, E5, E6, E7, E8, E9, E10, E11, E12, E13, E14, P1, P2, P3, P4, P5, P6, P7, P8, P9, P10, P11, A1, A2, A3, A4, A5, A6, B1, B2, R1, R2, F1, F2, F3, F4, F5, F6, F7, F8, F9, F10, F11, F12, F13, F14, F15, R3, R4, R5, R6, R7, R8, X1}
 
 -- a row of the table, with its number in the table, from 0
 pub record Row : Type 0 where
@@ -93,3 +93,4 @@ row R5 = entry 73 (codes "R5") (codes "reference into an alias") 6
 row R6 = entry 74 (codes "R6") (codes "bad reset signal") 6
 row R7 = entry 75 (codes "R7") (codes "references run in a circle") 6
 row R8 = entry 76 (codes "R8") (codes "two reset signals") 6
+row X1 = entry 77 (codes "X1") (codes "access width not 32") 7

@@ -159,10 +159,12 @@ pub enum Rule {
     R7,
     /// Two reset signals.
     R8,
+    /// Access width not 32.
+    X1,
 }
 
 // The code, the phrase and the phase of each rule, in the order of the rules.
-static TABLE: [(&str, &str, u8); 77] = [
+static TABLE: [(&str, &str, u8); 78] = [
     ("L1", "no token here", 1),
     ("L2", "comment not closed", 1),
     ("L3", "string not closed", 1),
@@ -240,6 +242,7 @@ static TABLE: [(&str, &str, u8); 77] = [
     ("R6", "bad reset signal", 6),
     ("R7", "references run in a circle", 6),
     ("R8", "two reset signals", 6),
+    ("X1", "access width not 32", 7),
 ];
 
 impl Rule {

@@ -13,10 +13,15 @@ use Rattle.rdl_failures.specs.declared.error.PhaseError.{PhaseError}
 use Rattle.rdl_failures.specs.declared.error.PhaseError.TheVariants as error
 use Rattle.rdl_rules.specs.Block.{IsBlockOf}
 use Rattle.rdl_rules.specs.Phase6.{fails6}
+use Rattle.rdl_rules.specs.Phase7.{fails7}
 
 -- the failures of the rules on meaning, of a tree of instances
 abbrev pub meaning_fails : Elab → Fails
 meaning_fails e = fails6 (Some (top_name e)) e.source.now
+
+-- the failures of the rule on access widths, of a tree of instances
+abbrev pub access_fails : Elab → Fails
+access_fails e = fails7 (Some (top_name e)) e.source.now
 
 -- What `check` asks of its tree: no phase before it has a failure, and the names of instances are words.
 pub record IsReady (e : Elab) : Type 0 where

@@ -7,6 +7,7 @@ pub mod Fields
 pub mod Numbers
 pub mod Phase5
 pub mod Phase6
+pub mod Phase7
 pub mod ReferenceRules
 pub mod RegisterRules
 pub mod Waits

@@ -21,7 +21,7 @@ use Rattle.rdl_values.specs.Verdict.{IsListOf, placed, with, in_order}
 -- Failures that are neither before nor behind one another are one.
 
 all_rules : List Rule
-all_rules = rules.L1 ∷ rules.L2 ∷ rules.L3 ∷ rules.L4 ∷ rules.L5 ∷ rules.L6 ∷ rules.S1 ∷ rules.S2 ∷ rules.O1 ∷ rules.O2 ∷ rules.O3 ∷ rules.O4 ∷ rules.O5 ∷ rules.O6 ∷ rules.O7 ∷ rules.O8 ∷ rules.O9 ∷ rules.V1 ∷ rules.V2 ∷ rules.V3 ∷ rules.V4 ∷ rules.E1 ∷ rules.E2 ∷ rules.E3 ∷ rules.E4 ∷ rules.E5 ∷ rules.E6 ∷ rules.E7 ∷ rules.E8 ∷ rules.E9 ∷ rules.E10 ∷ rules.E11 ∷ rules.E12 ∷ rules.E13 ∷ rules.E14 ∷ rules.P1 ∷ rules.P2 ∷ rules.P3 ∷ rules.P4 ∷ rules.P5 ∷ rules.P6 ∷ rules.P7 ∷ rules.P8 ∷ rules.P9 ∷ rules.P10 ∷ rules.P11 ∷ rules.A1 ∷ rules.A2 ∷ rules.A3 ∷ rules.A4 ∷ rules.A5 ∷ rules.A6 ∷ rules.B1 ∷ rules.B2 ∷ rules.R1 ∷ rules.R2 ∷ rules.F1 ∷ rules.F2 ∷ rules.F3 ∷ rules.F4 ∷ rules.F5 ∷ rules.F6 ∷ rules.F7 ∷ rules.F8 ∷ rules.F9 ∷ rules.F10 ∷ rules.F11 ∷ rules.F12 ∷ rules.F13 ∷ rules.F14 ∷ rules.F15 ∷ rules.R3 ∷ rules.R4 ∷ rules.R5 ∷ rules.R6 ∷ rules.R7 ∷ rules.R8 ∷ []
+all_rules = rules.L1 ∷ rules.L2 ∷ rules.L3 ∷ rules.L4 ∷ rules.L5 ∷ rules.L6 ∷ rules.S1 ∷ rules.S2 ∷ rules.O1 ∷ rules.O2 ∷ rules.O3 ∷ rules.O4 ∷ rules.O5 ∷ rules.O6 ∷ rules.O7 ∷ rules.O8 ∷ rules.O9 ∷ rules.V1 ∷ rules.V2 ∷ rules.V3 ∷ rules.V4 ∷ rules.E1 ∷ rules.E2 ∷ rules.E3 ∷ rules.E4 ∷ rules.E5 ∷ rules.E6 ∷ rules.E7 ∷ rules.E8 ∷ rules.E9 ∷ rules.E10 ∷ rules.E11 ∷ rules.E12 ∷ rules.E13 ∷ rules.E14 ∷ rules.P1 ∷ rules.P2 ∷ rules.P3 ∷ rules.P4 ∷ rules.P5 ∷ rules.P6 ∷ rules.P7 ∷ rules.P8 ∷ rules.P9 ∷ rules.P10 ∷ rules.P11 ∷ rules.A1 ∷ rules.A2 ∷ rules.A3 ∷ rules.A4 ∷ rules.A5 ∷ rules.A6 ∷ rules.B1 ∷ rules.B2 ∷ rules.R1 ∷ rules.R2 ∷ rules.F1 ∷ rules.F2 ∷ rules.F3 ∷ rules.F4 ∷ rules.F5 ∷ rules.F6 ∷ rules.F7 ∷ rules.F8 ∷ rules.F9 ∷ rules.F10 ∷ rules.F11 ∷ rules.F12 ∷ rules.F13 ∷ rules.F14 ∷ rules.F15 ∷ rules.R3 ∷ rules.R4 ∷ rules.R5 ∷ rules.R6 ∷ rules.R7 ∷ rules.R8 ∷ rules.X1 ∷ []
 
 numbered : (r : Rule) → get_or all_rules (row r).number rules.L1 ≡ r
 unfolding all_rules

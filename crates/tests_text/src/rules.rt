@@ -3,7 +3,7 @@ use rdl_base::{Keyword, Rule};
 use std::test::Fail;
 
 // A line for each rule, in the order of the table: its code, its phrase and its phase.
-const TABLE: [(Rule, &str); 77] = [
+const TABLE: [(Rule, &str); 78] = [
     (Rule::L1, "L1 no token here 1"),
     (Rule::L2, "L2 comment not closed 1"),
     (Rule::L3, "L3 string not closed 1"),
@@ -81,6 +81,7 @@ const TABLE: [(Rule, &str); 77] = [
     (Rule::R6, "R6 bad reset signal 6"),
     (Rule::R7, "R7 references run in a circle 6"),
     (Rule::R8, "R8 two reset signals 6"),
+    (Rule::X1, "X1 access width not 32 7"),
 ];
 
 #[test]
