@@ -1,5 +1,6 @@
 mod Bodies
 mod Levels
+mod Narrow
 mod Put
 mod Rows
 mod Walk

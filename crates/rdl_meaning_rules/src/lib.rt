@@ -1,6 +1,7 @@
 //! All failures of the rules on meaning, container by container and node by node.
 #![tactic(auto)]
 
+mod accesses;
 mod circles;
 mod containers;
 mod counting;
@@ -10,6 +11,7 @@ mod references;
 mod registers;
 mod resets;
 
+pub use accesses::access_failures;
 pub use circles::judge_circles;
 pub use containers::judge_containers;
 pub use counting::judge_count;
