@@ -1,0 +1,5 @@
+use Rattle.c_header.proofs.Differing.{all_differ}
+use Rattle.c_header.proofs.laws.macros_differ.Goals as goal
+
+pub returns : goal.returns
+returns c = all_differ

@@ -1,0 +1,18 @@
+use Rattle.std.proofs.Common.{◌≡◌, ◌∙◌, ◌++◌, ap, codes}
+use Rattle.rb_model.specs.declared.block.Block.{Block}
+use Rattle.word_groups.specs.Arrays.{entries}
+use Rattle.c_header.specs.Header.{entry_texts, first_lines}
+use Rattle.c_header.specs.Names.{prefix}
+use Rattle.c_header.proofs.text.header.Goals as goal
+
+pub returns : goal.returns
+returns c =
+    let b = c.args.block.now in
+    let name : c.deref.result.now ≡ b.name = c.deref.ensures.value ∙ ap (λ (v : Block). v.name) c.block.view_is in
+    let top : c.deref-2.result.now ≡ b.name = c.deref-2.ensures.value ∙ ap (λ (v : Block). v.name) c.block.view_is in
+    let begin : c.in_ok-begin.begin.items ≡ prefix b.name = c.in_ok-begin.ensures ∙ ap prefix name in
+    let begin_first : c.deref-3.result.now ≡ prefix b.name = c.deref-3.ensures.value ∙ begin in
+    let begin_each : c.deref-4.result.now ≡ prefix b.name = c.deref-4.ensures.value ∙ begin in
+    let all : c.deref-5.result.now ≡ entries b = c.deref-5.ensures.value ∙ c.in_ok-entries.ensures in
+    let first : c.push_first_lines.new.text.items ≡ first_lines b.name (prefix b.name) = c.in_ok-push_first_lines.ensures ∙ (λ i. c.new-text.ensures.items i ++ first_lines (top i) (begin_first i)) in
+    c.in_ok-extend_from_slice.ensures.items ∙ ap (λ xs. xs ++ codes "\n#endif\n") (c.in_ok-push_entries.ensures ∙ (λ i. first i ++ entry_texts (begin_each i) (all i)))

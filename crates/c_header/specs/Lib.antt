@@ -1,0 +1,5 @@
+pub mod Header
+pub mod Laws
+pub mod Macros
+pub mod Names
+pub mod Repeats

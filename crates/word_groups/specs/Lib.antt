@@ -1,0 +1,5 @@
+pub mod Arrays
+pub mod Entries
+pub mod Parts
+pub mod Paths
+pub mod Places

@@ -1,0 +1,112 @@
+/* Registers of uart */
+#ifndef UART_REGS_H
+#define UART_REGS_H
+
+#ifdef __ASSEMBLER__
+#define UINT32_C(number) number
+#define UINT64_C(number) number
+#else
+#include <limits.h>
+#include <stdint.h>
+#if CHAR_BIT != 8
+#error "offsets count bytes of 8 bits"
+#endif
+#endif
+
+/* ctrl word 0 */
+#define UART_CTRL_OFFSET UINT32_C(0x00000000)
+#define UART_CTRL_BYTES 4
+#define UART_CTRL_RESVAL UINT32_C(0x00000000)
+/* parity [1:0] rw */
+#define UART_CTRL_PARITY_SHIFT 0
+#define UART_CTRL_PARITY_BITS 2
+#define UART_CTRL_PARITY_MASK UINT32_C(0x00000003)
+#define UART_CTRL_PARITY_RESET UINT32_C(0x00000000)
+/* stop2 [2:2] rw */
+#define UART_CTRL_STOP2_SHIFT 2
+#define UART_CTRL_STOP2_BITS 1
+#define UART_CTRL_STOP2_MASK UINT32_C(0x00000004)
+#define UART_CTRL_STOP2_RESET UINT32_C(0x00000000)
+/* loopback [3:3] rw */
+#define UART_CTRL_LOOPBACK_SHIFT 3
+#define UART_CTRL_LOOPBACK_BITS 1
+#define UART_CTRL_LOOPBACK_MASK UINT32_C(0x00000008)
+#define UART_CTRL_LOOPBACK_RESET UINT32_C(0x00000000)
+/* flush [8:8] rw singlepulse */
+#define UART_CTRL_FLUSH_SHIFT 8
+#define UART_CTRL_FLUSH_BITS 1
+#define UART_CTRL_FLUSH_MASK UINT32_C(0x00000100)
+#define UART_CTRL_FLUSH_RESET UINT32_C(0x00000000)
+
+/* status word 0 */
+#define UART_STATUS_OFFSET UINT32_C(0x00000004)
+#define UART_STATUS_BYTES 4
+/* busy [0:0] r */
+#define UART_STATUS_BUSY_SHIFT 0
+#define UART_STATUS_BUSY_BITS 1
+#define UART_STATUS_BUSY_MASK UINT32_C(0x00000001)
+/* level_ [12:8] r */
+#define UART_STATUS_LEVEL_SHIFT 8
+#define UART_STATUS_LEVEL_BITS 5
+#define UART_STATUS_LEVEL_MASK UINT32_C(0x00001f00)
+
+/* isr word 0 */
+#define UART_ISR_OFFSET UINT32_C(0x00000008)
+#define UART_ISR_BYTES 4
+#define UART_ISR_RESVAL UINT32_C(0x00000000)
+/* ev [3:0] rw woclr */
+#define UART_ISR_EV_SHIFT 0
+#define UART_ISR_EV_BITS 4
+#define UART_ISR_EV_MASK UINT32_C(0x0000000f)
+#define UART_ISR_EV_RESET UINT32_C(0x00000000)
+
+/* ier word 0 */
+#define UART_IER_OFFSET UINT32_C(0x0000000c)
+#define UART_IER_BYTES 4
+#define UART_IER_RESVAL UINT32_C(0x00000000)
+/* en [3:0] rw */
+#define UART_IER_EN_SHIFT 0
+#define UART_IER_EN_BITS 4
+#define UART_IER_EN_MASK UINT32_C(0x0000000f)
+#define UART_IER_EN_RESET UINT32_C(0x00000000)
+
+/* stats word 0 */
+#define UART_STATS_OFFSET UINT32_C(0x00000010)
+#define UART_STATS_BYTES 4
+#define UART_STATS_RESVAL UINT32_C(0x00000000)
+/* errors [7:0] r rclr */
+#define UART_STATS_ERRORS_SHIFT 0
+#define UART_STATS_ERRORS_BITS 8
+#define UART_STATS_ERRORS_MASK UINT32_C(0x000000ff)
+#define UART_STATS_ERRORS_RESET UINT32_C(0x00000000)
+
+/* baud[0..1] word 0 */
+#define UART_BAUD_OFFSET(i0) (UINT32_C(0x00000014) + UINT32_C(0x00000004) * (i0))
+#define UART_BAUD_COUNT 2
+#define UART_BAUD_STRIDE UINT32_C(0x00000004)
+#define UART_BAUD_BYTES 4
+#define UART_BAUD_RESVAL UINT32_C(0x0000001b)
+/* div [15:0] rw */
+#define UART_BAUD_DIV_SHIFT 0
+#define UART_BAUD_DIV_BITS 16
+#define UART_BAUD_DIV_MASK UINT32_C(0x0000ffff)
+#define UART_BAUD_DIV_RESET UINT32_C(0x0000001b)
+
+/* rx word 0 */
+#define UART_RX_OFFSET UINT32_C(0x0000001c)
+#define UART_RX_BYTES 4
+/* data [7:0] r */
+#define UART_RX_DATA_SHIFT 0
+#define UART_RX_DATA_BITS 8
+#define UART_RX_DATA_MASK UINT32_C(0x000000ff)
+
+/* tx word 0 */
+#define UART_TX_OFFSET UINT32_C(0x0000001c)
+#define UART_TX_BYTES 4
+/* data [7:0] w */
+#define UART_TX_DATA_SHIFT 0
+#define UART_TX_DATA_BITS 8
+#define UART_TX_DATA_MASK UINT32_C(0x000000ff)
+#define UART_TX_DATA_RESET UINT32_C(0x00000000)
+
+#endif
