@@ -145,10 +145,10 @@ kept_first cs es t (Some i) values e h = absurd (omega (arith, h.0, ap length e)
 kept_missing : (cs : List (List ℕ)) (es : List Event) (t i : ℕ) (values : List ℕ) → AreKept cs es (Some i) values → AreKept cs (es ++ (Comes t ∷ [])) (Some i) values
 kept_missing cs es t i values h = (omega (arith, one_time es t, h.0), subst (λ r. IsFirstNone r i) (sym (row_settled cs es (Comes t ∷ []) h.0)) h.1)
 
-pub kept_time : (cs : List (List ℕ)) (es : List Event) (t : ℕ) (last missing : Option ℕ) (old closed : Rows) → last ≡ last_or None (times es) → missing ≡ old.missing → AreKept cs es missing old.values.items
-    → ClosesAt last missing old closed (map (last_given es) cs) → AreKept cs (es ++ (Comes t ∷ [])) closed.missing closed.values.items
+pub kept_time : (cs : List (List ℕ)) (es : List Event) (t : ℕ) (last missing : Option ℕ) (old closed : Rows) → last ≡ last_or None (times es) → missing ≡ old.missing → AreKept cs es missing old.values
+    → ClosesAt last missing old closed (map (last_given es) cs) → AreKept cs (es ++ (Comes t ∷ [])) closed.missing closed.values
 kept_time cs es t None missing old closed l m h c =
-    subst (λ r. AreKept cs (es ++ (Comes t ∷ [])) r.missing r.values.items) (sym c) (subst (λ z. AreKept cs (es ++ (Comes t ∷ [])) z old.values.items) m (kept_first cs es t missing old.values.items (none_last (times es) (sym l)) h))
+    subst (λ r. AreKept cs (es ++ (Comes t ∷ [])) r.missing r.values) (sym c) (subst (λ z. AreKept cs (es ++ (Comes t ∷ [])) z old.values) m (kept_first cs es t missing old.values (none_last (times es) (sym l)) h))
 kept_time cs es t (Some s) (Some i) old closed l m h c =
-    subst (λ r. AreKept cs (es ++ (Comes t ∷ [])) r.missing r.values.items) (sym c) (subst (λ z. AreKept cs (es ++ (Comes t ∷ [])) z old.values.items) m (kept_missing cs es t i old.values.items h))
-kept_time cs es t (Some s) None old closed l m h c = kept_next cs es t closed.missing old.values.items closed.values.items (some_last (times es) s (sym l)) h c.2
+    subst (λ r. AreKept cs (es ++ (Comes t ∷ [])) r.missing r.values) (sym c) (subst (λ z. AreKept cs (es ++ (Comes t ∷ [])) z old.values) m (kept_missing cs es t i old.values h))
+kept_time cs es t (Some s) None old closed l m h c = kept_next cs es t closed.missing old.values closed.values (some_last (times es) s (sym l)) h c.2

@@ -1,8 +1,10 @@
 pub mod Behind
+pub mod Cells
 pub mod Ending
 pub mod Existing
 pub mod Keeping
 pub mod Lists
+pub mod Places
 pub mod Runs
 pub mod Sets
 pub mod Stepping

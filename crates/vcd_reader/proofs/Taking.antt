@@ -101,7 +101,7 @@ code_goes v after r w again k h p g none a e =
       record {
         last = p.last;
         times = p.times;
-        kept = subst (λ es. AreKept (k.codes ++ (w ∷ [])) es r.missing r.values.items) (sym none) (kept_code k.codes r.missing r.values.items w (subst (λ es. AreKept k.codes es r.missing r.values.items) none p.kept));
+        kept = subst (λ es. AreKept (k.codes ++ (w ∷ [])) es r.missing r.values) (sym none) (kept_code k.codes r.missing r.values w (subst (λ es. AreKept k.codes es r.missing r.values) none p.kept));
       },
     )
 
@@ -182,7 +182,7 @@ time_goes v r after w n t k h p e f o =
       record {
         last = o.last ∙ (ap Some same ∙ (sym (last_end None (times k.events) d) ∙ ap (last_or None) (sym more_times)));
         times = o.times ∙ (ap (λ z. z + 1) p.times ∙ (sym (length-append (times k.events) (d ∷ [])) ∙ ap length (sym more_times)));
-        kept = subst (λ z. AreKept k.codes (k.events ++ (Comes d ∷ [])) z after.values.items) (sym o.missing) (subst (λ z. AreKept k.codes (k.events ++ (Comes d ∷ [])) o.closed.missing z) (sym o.values) kept);
+        kept = subst (λ z. AreKept k.codes (k.events ++ (Comes d ∷ [])) z after.values) (sym o.missing) (subst (λ z. AreKept k.codes (k.events ++ (Comes d ∷ [])) o.closed.missing z) (sym o.values) kept);
       },
     )
 
@@ -344,7 +344,7 @@ module _ (v : Variables) (k : Known) (h : HoldsVariables v k) (whole : length k.
 pub rows_given : (r : Rows) (k : Known) (c w : List ℕ) (n : ℕ) → HoldsRows r k → HoldsRows r (record { codes = k.codes; names = k.names; widths = k.widths; events = k.events ++ (Gives c n ∷ []); word = w })
 rows_given r k c w n h =
     let t : times (k.events ++ (Gives c n ∷ [])) ≡ times k.events = times-append k.events (Gives c n ∷ []) ∙ append-nil (times k.events) in
-    record { last = h.last ∙ ap (last_or None) (sym t); times = h.times ∙ ap length (sym t); kept = kept_given k.codes k.events r.missing r.values.items c n h.kept }
+    record { last = h.last ∙ ap (last_or None) (sym t); times = h.times ∙ ap length (sym t); kept = kept_given k.codes k.events r.missing r.values c n h.kept }
 
 pub scalar_told : (v : Variables) (k : Known) (w c : List ℕ) (value : Option ℕ) (g : Given) → HoldsVariables v k → length k.widths ≡ length k.codes → c ≡ drop 1 w → value ≡ bit_value w → g ≡ given_by v c value 1 → judge kind.Scalar w k ≡ scalar_verdict g
 scalar_told v k w c value g h whole p q e = scalar_is v k h whole w ∙ ap scalar_verdict (sym (e ∙ (ap (λ z. given_by v z value 1) p ∙ ap (λ z. given_by v (drop 1 w) z 1) q)))

@@ -20,7 +20,7 @@ came_by last times (Some time) variables = if is_above last time then (if nat_lt
 abbrev pub ClosesAt : Option ℕ → Option ℕ → (old new : Rows) → List (Option ℕ) → Type 0
 ClosesAt None missing old new now = new ≡ old
 ClosesAt (Some t) (Some i) old new now = new ≡ old
-ClosesAt (Some t) None old new now = (new.last ≡ old.last) × (new.times ≡ old.times) × IsAdded old.values.items new.values.items now new.missing
+ClosesAt (Some t) None old new now = (new.last ≡ old.last) × (new.times ≡ old.times) × IsAdded old.values new.values now new.missing
 
 abbrev pub Closes : (old new : Rows) → List (Option ℕ) → Type 0
 Closes old new now = ClosesAt old.last old.missing old new now
@@ -31,5 +31,5 @@ pub record Comes (old new : Rows) (now : List (Option ℕ)) (time : ℕ) : Type 
   pub closes : Closes old closed now
   pub last : new.last ≡ Some time
   pub times : new.times ≡ old.times + 1
-  pub values : new.values.items ≡ closed.values.items
+  pub values : new.values ≡ closed.values
   pub missing : new.missing ≡ closed.missing

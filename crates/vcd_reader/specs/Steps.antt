@@ -57,7 +57,7 @@ AreKept cs es (Some i) values = (1 < length (times es)) × IsFirstNone (known_ro
 pub record HoldsRows (r : Rows) (k : Known) : Type 0 where
   pub last : r.last ≡ last_or None (times k.events)
   pub times : r.times ≡ length (times k.events)
-  pub kept : AreKept k.codes k.events r.missing r.values.items
+  pub kept : AreKept k.codes k.events r.missing r.values
 
 -- a change has a code
 abbrev pub takes : Kind → Bool

@@ -1,7 +1,9 @@
 //! A dump read back: its variables, and their values at each time (IEEE 1364-2005, clause 18).
 #![tactic(auto)]
 
+mod code_set;
 mod naming;
+mod numbers;
 mod pins;
 mod reading;
 mod rows;

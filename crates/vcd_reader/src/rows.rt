@@ -3,6 +3,7 @@
 ghost use Rattle.std.specs.Prelude.{◌≡◌, IfOk};
 ghost use Rattle.vcd_reader.specs.Rows.{IsAdded};
 
+use crate::numbers::Numbers;
 use std::alloc::{AllocError, Global};
 
 /// The most times that a dump may have.
@@ -29,17 +30,17 @@ pub(crate) enum Came {
 pub(crate) struct Rows {
     pub last: Option<u64>,
     pub times: u64,
-    pub values: Vec<u128>,
+    pub values: Numbers,
     pub missing: Option<usize>,
 }
 
 /// Adds the values of a row, or answers the number of the first that is none.
-fn push_row(values: &mut Vec<u128>, now: &[Option<u128>]) -> Result<Option<usize>, AllocError>
-    ensures { IfOk result (IsAdded values.old.items values.new.items now.now) }
+fn push_row(values: &mut Numbers, now: &[Option<u128>]) -> Result<Option<usize>, AllocError>
+    ensures { IfOk result (IsAdded values.old values.new now.now) }
 {
     for (at, value) in now.iter().enumerate() {
         match value {
-            Some(value) => values.push(*value)?,
+            Some(value) => values.push(*value, now.len())?,
             None => return Ok(Some(at)),
         }
     }
@@ -55,13 +56,13 @@ impl Rows {
     pub fn new(alloc: Global) -> Self
         ensures last { result.last ≡ None }
         ensures times { result.times ≡ 0 }
-        ensures values { result.values.items ≡ [] }
+        ensures values { result.values ≡ [] }
         ensures missing { result.missing ≡ None }
     {
         Rows {
             last: None,
             times: 0,
-            values: Vec::new(alloc),
+            values: Numbers::new(alloc),
             missing: None,
         }
     }

@@ -3,6 +3,7 @@
 ghost use Rattle.std.specs.Prelude.{◌≡◌};
 ghost use Rattle.vcd_reader.specs.Variables.{fits};
 
+use crate::code_set::CodeSet;
 use crate::word_set::WordSet;
 use std::alloc::{AllocError, Global};
 use stim_csv::is_within;
@@ -21,7 +22,7 @@ pub(crate) enum Given {
 /// The codes, names and widths in bits of variables, and the last value of each.
 #[derive(Drop)]
 pub(crate) struct Variables<'s> {
-    pub codes: WordSet<'s>,
+    pub codes: CodeSet<'s>,
     pub names: WordSet<'s>,
     pub widths: Vec<u8>,
     pub now: Vec<Option<u128>>,
@@ -49,7 +50,7 @@ impl<'s> Variables<'s> {
         ensures now { result.now.items ≡ [] }
     {
         Variables {
-            codes: WordSet::new(alloc),
+            codes: CodeSet::new(alloc),
             names: WordSet::new(alloc),
             widths: Vec::new(alloc),
             now: Vec::new(alloc),

@@ -1,5 +1,6 @@
 //! The table of a dump.
 
+use crate::numbers::Numbers;
 use rb_base::Pin;
 use std::marker::Model;
 
@@ -7,7 +8,7 @@ use std::marker::Model;
 #[derive(Drop)]
 pub struct Waves {
     pub(crate) pins: Vec<Pin>,
-    pub(crate) values: Vec<u128>,
+    pub(crate) values: Numbers,
     pub(crate) rows: u64,
 }
 
@@ -18,13 +19,13 @@ impl Model for Waves {
 
     ghost Value = { Table };
 
-    ghost view = { λ w. record { pins = w.pins.items; rows = cut (length w.pins.items) w.rows w.values.items } };
+    ghost view = { λ w. record { pins = w.pins.items; rows = cut (length w.pins.items) w.rows w.values } };
 
-    ghost invariant = { λ w. length w.values.items ≡ w.rows * length w.pins.items };
+    ghost invariant = { λ w. length w.values ≡ w.rows * length w.pins.items };
 }
 
 impl Waves {
-    ghost use Rattle.std.specs.Prelude.{◌≡◌, ◌<◌, [], length, slice_index_or};
+    ghost use Rattle.std.specs.Prelude.{◌≡◌, ℕ, ◌<◌, [], length, slice_index, slice_index_or};
 
     /// The variables in the order of their declarations, with their widths in bits (1 to 128). It takes no memory.
     pub fn pins(&self) -> &[Pin]
@@ -33,21 +34,20 @@ impl Waves {
         &self.pins
     }
 
-    /// How many rows the table has. It takes no memory.
+    /// How many rows the table has, each with as many values as there are variables. It takes no memory.
     pub fn rows(&self) -> u64
-        ensures { result ≡ length self.now.rows }
+        ensures rows { result ≡ length self.now.rows }
+        ensures wide { (k : ℕ) → k < length self.now.rows → length (slice_index_or self.now.rows k []) ≡ length self.now.pins }
     {
         self.rows
     }
 
-    /// The values of the variables in a row, in the order of the variables. It takes no memory.
-    pub fn row(&self, at: u64) -> &[u128]
-        requires { at < length self.now.rows }
-        ensures { result.now ≡ slice_index_or self.now.rows at [] }
+    /// The value of a variable in a row, both by their numbers from 0. It takes no memory.
+    pub fn value(&self, at: u64, pin: usize) -> u128
+        requires row { at < length self.now.rows }
+        requires pin { pin < length self.now.pins }
+        ensures { result ≡ slice_index (slice_index_or self.now.rows at []) pin }
     {
-        let values = self.values.as_slice();
-        let width = self.pins.len();
-        let start = at as usize * width;
-        &values[start..start + width]
+        self.values.get(at, self.pins.len(), pin)
     }
 }

@@ -19,7 +19,7 @@ impl<'s> Model for WordSet<'s> {
 }
 
 impl<'s> WordSet<'s> {
-    ghost use Rattle.std.specs.Prelude.{◌≡◌, ◌++◌, ◌∷◌, [], IfOk, if◌then◌else◌, slice_get, option_copied};
+    ghost use Rattle.std.specs.Prelude.{◌≡◌, ◌++◌, ◌∷◌, [], length, IfOk, OnErr, if◌then◌else◌, slice_get, option_copied};
     ghost use Rattle.std.specs.List.{position};
     ghost use Rattle.std.specs.Str.{bytes_eq};
     ghost use Rattle.v_design.specs.Lexemes.{among};
@@ -31,6 +31,13 @@ impl<'s> WordSet<'s> {
         WordSet {
             words: IndexSet::new(alloc),
         }
+    }
+
+    /// How many words there are.
+    pub fn len(&self) -> usize
+        ensures { result ≡ length self.now }
+    {
+        self.words.len()
     }
 
     /// The number of a word, from 0.
@@ -51,6 +58,7 @@ impl<'s> WordSet<'s> {
     pub fn add(&mut self, word: &'s [u8]) -> Result<bool, AllocError>
         ensures again { IfOk result (λ again. again ≡ among self.old word.now) }
         ensures words { IfOk result (λ again. self.new ≡ (if again then self.old else self.old ++ word.now ∷ [])) }
+        ensures kept { OnErr result (self.new ≡ self.old) }
     {
         let (_, new) = self.words.insert_full(word)?;
         Ok(!new)

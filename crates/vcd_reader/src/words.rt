@@ -2,7 +2,7 @@
 
 ghost use Rattle.std.specs.Prelude.{◌≡◌, ◌-◌, ◌^◌, ◌<◌, ◌≤◌, not, false, [], drop, length, IfSome, IfNone};
 ghost use Rattle.std.specs.List.{take_while};
-ghost use Rattle.rb_grammar.specs.Separators.{is_blank, Skips};
+ghost use Rattle.rb_grammar.specs.Separators.{begins_separator, is_blank, Skips};
 ghost use Rattle.vcd_reader.specs.Fronts.{StartsBy, IsBehind, word_of};
 
 use rb_base::Place;
@@ -22,10 +22,34 @@ struct Front {
     len: usize,
 }
 
+// A byte other than a blank. All bytes above the space are, and most bytes of a dump.
+fn is_solid(b: u8) -> bool
+    ensures { result ≡ not (is_blank b) }
+{
+    b' ' < b || !is_blank(b)
+}
+
 fn word_len(text: &[u8]) -> usize
     ensures { result ≡ length (take_while (λ b. not (is_blank b)) text.now) }
 {
-    text.iter().take_while(|b| !is_blank(**b)).count()
+    text.iter().take_while(|b| is_solid(**b)).count()
+}
+
+// How many blanks stand at the front. Mostly it is one.
+fn gap_len(text: &[u8]) -> usize
+    ensures within { result ≤ length text.now }
+    ensures skips { Skips false text.now (drop result text.now) }
+    ensures ends { begins_separator false (drop result text.now) ≡ false }
+{
+    match text {
+        [blank, solid, ..] if is_blank(*blank) && is_solid(*solid) => 1,
+        _ => {
+            let Ok(gap) = separators_len(text, false) else {
+                unreachable!();
+            };
+            gap
+        }
+    }
 }
 
 /// The first word of a text, None where it has blanks alone.
@@ -33,9 +57,7 @@ fn first_word(text: &[u8]) -> Option<Front>
     ensures some { IfSome result (λ f. StartsBy text.now f.gap f.len) }
     ensures none { IfNone result (Skips false text.now []) }
 {
-    let Ok(gap) = separators_len(text, false) else {
-        unreachable!();
-    };
+    let gap = gap_len(text);
     let left = &text[gap..];
     if left.is_empty() {
         return None;

@@ -6,7 +6,7 @@ ghost use Rattle.vcd_syntax.specs.Exits.{exit_by};
 
 use crate::kind::Kind;
 use crate::state::State;
-use crate::words::is;
+use crate::words::{is, is_bits, is_code, is_scalar, is_time};
 
 // The state, where the word is of the kind, or else another exit.
 fn by(word: &[u8], kind: Kind, to: State, other: Option<(Kind, State)>) -> Option<(Kind, State)>
@@ -16,6 +16,17 @@ fn by(word: &[u8], kind: Kind, to: State, other: Option<(Kind, State)>) -> Optio
         Some((kind, to))
     } else {
         other
+    }
+}
+
+// The state behind a change that ends here, where the word is the code of a variable.
+fn taken(word: &[u8], to: State) -> Option<(Kind, State)>
+    ensures { result ≡ cond (words.is Kind.Taker word.now) (Some (Kind.Taker, to)) None }
+{
+    if is_code(word) {
+        Some((Kind::Taker, to))
+    } else {
+        None
     }
 }
 
@@ -48,13 +59,13 @@ fn in_scope(word: &[u8]) -> Option<(Kind, State)>
 fn entry(word: &[u8]) -> Option<(Kind, State)>
     ensures { result ≡ exit_by State.Entries word.now }
 {
-    if is(Kind::Scalar, word) {
+    if is_scalar(word) {
         return Some((Kind::Scalar, State::Entries));
     }
-    if is(Kind::Bits, word) {
+    if is_bits(word) {
         return Some((Kind::Bits, State::Taker));
     }
-    if is(Kind::Time, word) {
+    if is_time(word) {
         return Some((Kind::Time, State::Entries));
     }
     either(
@@ -69,16 +80,13 @@ fn entry(word: &[u8]) -> Option<(Kind, State)>
 fn dumped(word: &[u8]) -> Option<(Kind, State)>
     ensures { result ≡ exit_by State.Dump word.now }
 {
-    if is(Kind::Scalar, word) {
+    if is_scalar(word) {
         return Some((Kind::Scalar, State::Dump));
     }
-    either(
-        word,
-        Kind::Bits,
-        State::DumpTaker,
-        Kind::End,
-        State::Entries,
-    )
+    if is_bits(word) {
+        return Some((Kind::Bits, State::DumpTaker));
+    }
+    by(word, Kind::End, State::Entries, None)
 }
 
 /// What a word stands for at a state, and where it leads; None where it does not go on with a dump. It takes no memory.
@@ -128,9 +136,9 @@ pub fn exit_of(state: State, word: &[u8]) -> Option<(Kind, State)>
         State::BackSaid => either(word, Kind::End, State::Back, Kind::Said, State::BackSaid),
         State::DefinitionsEnd => by(word, Kind::End, State::Entries, None),
         State::Entries => entry(word),
-        State::Taker => by(word, Kind::Taker, State::Entries, None),
+        State::Taker => taken(word, State::Entries),
         State::Dump => dumped(word),
-        State::DumpTaker => by(word, Kind::Taker, State::Dump, None),
+        State::DumpTaker => taken(word, State::Dump),
         State::Commented => either(
             word,
             Kind::End,

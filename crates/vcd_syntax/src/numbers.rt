@@ -6,10 +6,16 @@ ghost use Rattle.std.specs.Str.Parse.{digits_value};
 ghost use Rattle.vcd_syntax.specs.Words.{decimal_value};
 ghost use Rattle.vcd_syntax.specs.Numbers.{within};
 
+/// A binary number to which one more digit can be added within 64 bits, if it isn't above this: 2^63 - 36.
+const MOST_BEFORE_A_BIT: u64 = 9_223_372_036_854_775_772;
+
 // The value of a digit, as `digit_value` says.
 fn digit_of(b: u8) -> u8
     ensures { result ≡ digit_value b }
 {
+    if b.is_ascii_digit() {
+        return b - b'0';
+    }
     match char::from(b).to_digit(36) {
         Some(digit) => digit as u8,
         None => 36,
@@ -42,8 +48,8 @@ pub fn decimal(digits: &[u8]) -> Option<u64>
     number
 }
 
-/// The number that binary digits write, where it is below 2^128. It takes no memory.
-pub fn binary(digits: &[u8]) -> Option<u128>
+// The number that binary digits write, however many they are.
+fn long_binary(digits: &[u8]) -> Option<u128>
     ensures { result ≡ within 128 (digits_value 2 digits.now) }
 {
     let mut number = Some(0);
@@ -51,4 +57,18 @@ pub fn binary(digits: &[u8]) -> Option<u128>
         number = with_bit(number, digit_of(*b));
     }
     number
+}
+
+/// The number that binary digits write, where it is below 2^128. It takes no memory.
+pub fn binary(digits: &[u8]) -> Option<u128>
+    ensures { result ≡ within 128 (digits_value 2 digits.now) }
+{
+    let mut number: u64 = 0;
+    for b in digits {
+        if MOST_BEFORE_A_BIT < number {
+            return long_binary(digits);
+        }
+        number = number * 2 + u64::from(digit_of(*b));
+    }
+    Some(u128::from(number))
 }

@@ -49,7 +49,7 @@ fn are_code_bytes(bytes: &[u8]) -> bool
     true
 }
 
-fn is_code(word: &[u8]) -> bool
+pub(crate) fn is_code(word: &[u8]) -> bool
     ensures { result ≡ words.is_code word.now }
 {
     !word.is_empty() && are_code_bytes(word)
@@ -139,10 +139,10 @@ fn is_range(word: &[u8]) -> bool
 fn is_bit(b: u8) -> bool
     ensures { result ≡ words.is_bit b }
 {
-    matches!(b, b'0' | b'1' | b'x' | b'X' | b'z' | b'Z')
+    b == b'0' || b == b'1' || matches!(b, b'x' | b'X' | b'z' | b'Z')
 }
 
-fn is_time(word: &[u8]) -> bool
+pub(crate) fn is_time(word: &[u8]) -> bool
     ensures { result ≡ words.is_time word.now }
 {
     match word {
@@ -151,7 +151,7 @@ fn is_time(word: &[u8]) -> bool
     }
 }
 
-fn is_scalar(word: &[u8]) -> bool
+pub(crate) fn is_scalar(word: &[u8]) -> bool
     ensures { result ≡ words.is_scalar word.now }
 {
     match word {
@@ -177,7 +177,7 @@ fn are_bits(text: &[u8]) -> bool
     !text.is_empty() && all_are_bits(text)
 }
 
-fn is_bits(word: &[u8]) -> bool
+pub(crate) fn is_bits(word: &[u8]) -> bool
     ensures { result ≡ words.is_bits word.now }
 {
     match word {

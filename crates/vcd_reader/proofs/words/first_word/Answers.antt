@@ -10,11 +10,11 @@ some n h e = grind (arith, nat_tests)
 
 pub returns-clause-some : goal.returns-clause-some
 returns-clause-some c =
-    let gap = c.in-Ok.gap in
+    let gap = c.gap_len-gap.result in
     let text = c.args.text.now in
-    let h = c.in-Ok.ensures.ok in
+    let h = c.gap_len-gap.ensures in
     let left = take (length text - gap) (drop gap text) in
     let all : left ≡ drop gap text = take_all (length text - gap) (drop gap text) (omega (arith, length-drop gap text)) in
-    first_run text left gap c.word_len.result c.in-Ok.ensures.within all
+    first_run text left gap c.word_len.result h.within all
     (some (length left) (sym c.is_empty.ensures ∙ c.if-is_empty.false))
-    (subst (λ z. Skips false text z) (sym all) h.0) (subst (λ z. begins_separator false z ≡ false) (sym all) h.1) c.word_len.ensures
+    (subst (λ z. Skips false text z) (sym all) h.skips) (subst (λ z. begins_separator false z ≡ false) (sym all) h.ends) c.word_len.ensures
