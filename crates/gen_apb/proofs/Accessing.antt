@@ -1,23 +1,20 @@
 -- What an access of the bus is.
-use Rattle.std.proofs.Common.{◌≡◌, ℕ, zero, suc, ◌<◌, ◌==◌, Bool, true, false, not, ◌&&◌, if◌then◌else◌, Option, Some, None, List, [], ◌∷◌, map, length, codes, refl, ap, sym, ◌∙◌, subst, arith}
-use Rattle.std.specs.Prelude.{is_some, is_none, nat_lt, position, unwrap_or, ◌||◌, ◌+◌, ◌≤◌}
-use Rattle.std.specs.List.{list_any, position_or_len}
-use Rattle.std.specs.List.Sorted.{IsStrictlyIncreasing}
-use Rattle.std.proofs.lemmas.Bool.Decides.{nat_tests}
-use Rattle.std.proofs.lemmas.List.{length-map}
+use Rattle.std.proofs.Common.{◌≡◌, ℕ, zero, suc, ◌<◌, ◌==◌, Bool, true, false, not, ◌&&◌, if◌then◌else◌, Option, Some, None, codes, refl, ap, sym, ◌∙◌, subst, arith}
+use Rattle.std.specs.Prelude.{is_some, is_none, unwrap_or}
 use Rattle.std.specs.Option.{option_map_or}
 use Rattle.rtl_net.specs.Value.{At, bit_of}
 use Rattle.rtl_net.specs.Net.{Net, Settles, Extends, Grows, IsNode, Stands}
 use Rattle.rtl_net.specs.declared.node.Id.{Id}
 use Rattle.rtl_net.proofs.Nets.{Grows-trans, Stands-grows, fits_at}
 use Rattle.rb_model.specs.declared.block.Block.{Block}
-use Rattle.rb_model.specs.declared.block.Word.{Word}
 use Rattle.rb_model.specs.Items.{NoAccess, Read, Write}
 use Rattle.rb_model.specs.Ports.{pin}
 use Rattle.rb_model.specs.Protocol.{bus_of}
 use Rattle.rb_model.specs.Run.{carries, is_access, is_unmapped, word_at}
 use Rattle.rb_model.specs.Sound.{IsSound}
 use Rattle.gen_decode.specs.declared.words.Decoded.{Decoded}
+use Rattle.gen_words.specs.Found.{FindsWord}
+use Rattle.gen_words.proofs.Finding.{written_as_read}
 use Rattle.gen_apb.specs.declared.access.Request.{Request}
 use Rattle.gen_apb.specs.declared.pins.BusPins.{BusPins}
 use Rattle.gen_apb.specs.Accesses.{HasAddress, IsCarried}
@@ -25,60 +22,15 @@ use Rattle.gen_apb.specs.Bus.{IsOfBus}
 use Rattle.gen_apb.specs.Pins.{HasBusPins}
 use Rattle.gen_apb.proofs.OfBus.{of_both, of_bus-extends, pin_node-extends, of_bus-grows, of_bus_as, of_node, of_opposite}
 
--- Which word has the address
+-- The address
 
-prefix_mapped : (g : Word → ℕ) (a : ℕ) (ws : List Word) → position_or_len (λ x. a == x) (map g ws) ≡ position_or_len (λ w. a == g w) ws
-prefix_mapped g a [] = refl
-prefix_mapped g a (w ∷ ws) = let e : position_or_len (λ x. a == x) (map g ws) ≡ position_or_len (λ w. a == g w) ws = prefix_mapped g a ws in rw e refl
-
-word_mapped : (ws : List Word) (a : ℕ) → position (λ x. a == x) (map (λ w. w.address) ws) ≡ word_at ws a
-word_mapped ws a =
-    let e : position_or_len (λ x. a == x) (map (λ w. w.address) ws) ≡ position_or_len (λ w. a == w.address) ws = prefix_mapped (λ w. w.address) a ws in
-    let l : length (map (λ w. w.address) ws) ≡ length ws = length-map ws (λ w. w.address) in
-    rw (e, l) refl
-
-written_as_read : (b : Block) → IsSound b → (a : ℕ) → word_at b.writes a ≡ word_at b.reads a
-written_as_read b sound a = sym (word_mapped b.writes a) ∙ ap (position (λ x. a == x)) (sym sound.same_addresses) ∙ word_mapped b.reads a
-
-lt_more : (p n : ℕ) → nat_lt (1 + p) (suc n) ≡ nat_lt p n
-lt_more p n = grind (arith, nat_tests)
-
-some_more : (n : ℕ) → nat_lt 0 (suc n) ≡ true
-some_more n = grind (arith, nat_tests)
-
--- some number of the list is the one looked for where it has a place there
-found_within : (a : ℕ) (xs : List ℕ) → nat_lt (position_or_len (λ x. a == x) xs) (length xs) ≡ list_any (λ x. a == x) xs
-found_within a [] = refl
-found_within a (x ∷ xs) = by (a == x) (found_within a xs)
-  where
-    by : (c : Bool) → nat_lt (position_or_len (λ y. a == y) xs) (length xs) ≡ list_any (λ y. a == y) xs → nat_lt (if not c then 1 + position_or_len (λ y. a == y) xs else 0) (suc (length xs)) ≡ (c || list_any (λ y. a == y) xs)
-    by true h = some_more (length xs)
-    by false h = lt_more (position_or_len (λ y. a == y) xs) (length xs) ∙ h
-
-some_if : (c : Bool) (k : ℕ) → is_some (if c then Some k else None) ≡ c
-some_if true k = refl
-some_if false k = refl
-
-hit_is : (ws : List Word) (a : ℕ) → list_any (λ x. a == x) (map (λ w. w.address) ws) ≡ is_some (word_at ws a)
-hit_is ws a = sym (found_within a (map (λ w. w.address) ws)) ∙ sym (some_if (nat_lt (position_or_len (λ x. a == x) (map (λ w. w.address) ws)) (length (map (λ w. w.address) ws))) (position_or_len (λ x. a == x) (map (λ w. w.address) ws)))
-    ∙ ap is_some (word_mapped ws a)
-
-pub has_address : (b : Block) (old new : Net) (pins : BusPins) (words : List ℕ) (d : Decoded) → words ≡ map (λ w. w.address) b.reads → HasBusPins old pins → Grows old new
-    → IsNode new d.hit 1 (λ x. bit_of (list_any (λ w. x.node pins.address.0 == w) words)) → IsNode new d.word 16 (λ x. unwrap_or (position (λ w. x.node pins.address.0 == w) words) 0) → HasAddress b new d
-has_address b old new pins words d e has grows hit word =
+pub has_address : (b : Block) (old new : Net) (pins : BusPins) (d : Decoded) → HasBusPins old pins → Grows old new → FindsWord b new pins.address d → HasAddress b new d
+has_address b old new pins d has grows found =
     let address = λ (v : At) (s : Settles new v). has.address.node.value v (grows.settles v s) in
     record {
-      hit = of_node b new d.hit 1 _ (λ p m. bit_of (is_some (word_at b.reads p.address))) hit (λ v s m t.
-          ap (λ a. bit_of (list_any (λ w. a == w) words)) (address v s) ∙ ap (λ ws. bit_of (list_any (λ w. v.ins (codes "PADDR") == w) ws)) e ∙ ap bit_of (hit_is b.reads (v.ins (codes "PADDR"))));
-      word = of_node b new d.word 16 _ (λ p m. unwrap_or (word_at b.reads p.address) 0) word (λ v s m t.
-          ap (λ a. unwrap_or (position (λ w. a == w) words) 0) (address v s) ∙ ap (λ ws. unwrap_or (position (λ w. v.ins (codes "PADDR") == w) ws) 0) e ∙ ap (λ o. unwrap_or o 0) (word_mapped b.reads (v.ins (codes "PADDR"))));
+      hit = of_node b new d.hit 1 _ (λ p m. bit_of (is_some (word_at b.reads p.address))) found.hit (λ v s m t. ap (λ a. bit_of (is_some (word_at b.reads a))) (address v s));
+      word = of_node b new d.word 16 _ (λ p m. unwrap_or (word_at b.reads p.address) 0) found.word (λ v s m t. ap (λ a. unwrap_or (word_at b.reads a) 0) (address v s));
     }
-
-pub rising_words : (b : Block) → IsSound b → (words : List ℕ) → words ≡ map (λ w. w.address) b.reads → IsStrictlyIncreasing words
-rising_words b sound words e = subst IsStrictlyIncreasing (sym e) sound.by_address
-
-pub few_words : (b : Block) → IsSound b → (words : List ℕ) → words ≡ map (λ w. w.address) b.reads → length words ≤ 65536
-few_words b sound words e = let l : length words ≡ length b.reads = ap length e ∙ length-map b.reads (λ w. w.address) in omega (arith, l, sound.some_word.1)
 
 -- Whether there is an access
 

@@ -28,8 +28,7 @@ use Rattle.gen_scene.specs.Bases.{kept_number}
 use Rattle.gen_scene.specs.Worth.{Finds, access_at}
 use Rattle.gen_apb.specs.Bus.{Meets, cleared}
 use Rattle.gen_apb.specs.Fronts.{IsClosing, ShowsData}
-use Rattle.gen_ports.proofs.Laying.{kept_of_fields}
-use Rattle.gen_apb.proofs.Naming.{contains_at, not_bus}
+use Rattle.gen_apb.proofs.Naming.{contains_at, kept_of_fields, not_bus}
 use Rattle.gen_apb.specs.Built.{IsBuilt}
 
 -- Kept values

@@ -1,6 +1,6 @@
 -- The parts of a netlist fit together.
-use Rattle.std.proofs.Common.{◌≡◌, ℕ, zero, suc, ◌<◌, Bool, true, false, ◌||◌, if◌then◌else◌, Option, Some, None, List, [], ◌∷◌, ◌++◌, codes, length, map, filter, slice_get, refl, sym, ap, ◌∙◌, subst, arith}
-use Rattle.std.specs.Prelude.{Contains, IsSome, get_or}
+use Rattle.std.proofs.Common.{◌≡◌, ℕ, zero, suc, Bool, true, false, ◌||◌, if◌then◌else◌, Option, Some, None, List, [], ◌∷◌, ◌++◌, codes, map, filter, slice_get, refl, sym, ap, ◌∙◌, subst, arith}
+use Rattle.std.specs.Prelude.{Contains, IsSome}
 use Rattle.std.specs.List.{enumerate_from, flat_map}
 use Rattle.std.specs.Str.{bytes_eq}
 use Rattle.std.proofs.lemmas.List.{map-append}
@@ -11,10 +11,9 @@ use Rattle.rtl_net.specs.Names.{Lacks}
 use Rattle.rtl_net.specs.Net.{Net, Extends, MayStand, Stands, registers_of, undriven, width_in}
 use Rattle.rtl_net.specs.Ports.{IsFree, IsNew, has_room, register_names, seat_names}
 use Rattle.rtl_net.specs.declared.node.Id.{Id}
-use Rattle.rtl_net.specs.declared.node.Seat.{Seat}
 use Rattle.rtl_net.specs.Ports.{seated}
 use Rattle.rtl_net.specs.declared.node.Occupant.TheVariants.{Output}
-use Rattle.rtl_net.proofs.Others.{IsFree-seated, Lacks-seated}
+use Rattle.rtl_net.proofs.Others.{IsFree-seated}
 use Rattle.rtl_net.proofs.Distinct.{Differ-sym}
 use Rattle.rtl_net.proofs.Nets.{Extends-trans, Stands-extends}
 use Rattle.rb_model.specs.declared.block.Block.{Block}
@@ -24,18 +23,18 @@ use Rattle.rb_model.specs.References.{Each}
 use Rattle.rb_model.specs.Sound.{IsSound}
 use Rattle.rb_model.proofs.Eachs.{Each-append, Each-map, Each-passing, Each-right, Each-weaker}
 use Rattle.rb_model.proofs.InputPins.{bus_pins, input_pins_are, output_pins_are}
-use Rattle.gen_scene.specs.Bases.{kept_number}
+use Rattle.gen_scene.specs.Bases.{HasPins, kept_number}
 use Rattle.gen_apb.specs.declared.front.Front.{Front}
 use Rattle.gen_apb.specs.Fronts.{IsClosing, IsFront, ShowsData, access_registers, data_registers}
 use Rattle.gen_apb.proofs.OfBus.{of_bus-extends}
 use Rattle.gen_core.specs.Core.{IsCore}
 use Rattle.gen_ports.specs.Laid.{AreInputs, AreSeatsOf}
-use Rattle.gen_ports.proofs.Laying.{kept_of_fields}
 use Rattle.gen_core.specs.Ties.{SeatsTaken, outlet_pin}
 use Rattle.gen_apb.specs.Built.{IsBuilt, ShowsBus, bus_shown}
 use Rattle.gen_apb.proofs.Edging.{bus_kept}
-use Rattle.gen_apb.proofs.Filling.{room_stays, taken-append}
-use Rattle.gen_apb.proofs.Naming.{AllApart, lacks_kept, not_bus, outlets_apart, port_lacks}
+use Rattle.gen_front.proofs.Filling.{room_stays, taken-append}
+use Rattle.gen_front.proofs.Ports.{HasPorts, core-extends, outlet_at}
+use Rattle.gen_apb.proofs.Naming.{AllApart, kept_of_fields, lacks_kept, not_bus, outlets_apart, port_lacks, port_names_lack}
 
 -- The pins of the bus
 
@@ -50,6 +49,14 @@ bus_pin b sound net ids h k p e = ap (λ ps. slice_get ps k) (input_pins_are b s
 
     front4 : (w x y z : List Pin) (k : ℕ) (p : Pin) → slice_get bus_pins k ≡ Some p → slice_get (bus_pins ++ w ++ x ++ y ++ z) k ≡ Some p
     front4 w x y z k p e = front (bus_pins ++ w ++ x ++ y) z k p (front (bus_pins ++ w ++ x) y k p (front (bus_pins ++ w) x k p (front bus_pins w k p e)))
+
+-- What is known once the ports are laid
+
+pub pins_laid : (b : Block) (net : Net) (ids : List Id) → HasPorts net ids (ports b) → HasPins b net ids
+pins_laid b net ids h = record { long = h.inputs.long; each = λ k p e other. h.inputs.each k p e }
+
+pub kept_new : (b : Block) (net : Net) (ids : List Id) → AllApart b → HasPorts net ids (ports b) → (k : Kept) → Contains (kept b) k → IsNew net (register_name b k)
+kept_new b net ids apart h k c = h.others (register_name b k) (port_names_lack b apart k c)
 
 -- The registers so far, as kept values
 
@@ -147,14 +154,6 @@ outputs_lack b apart ks all =
 abbrev lacks_each : Block → List Kept → Pin → Type 0
 lacks_each b ks o = Lacks (map (λ q. register_name b q) ks) o.name
 
-outlet_at : (b : Block) (P : Pin → Type 0) (o : Outlet) → Each P (map outlet_pin (outlets b)) → Contains (outlets b) o → P (outlet_pin o)
-outlet_at b P o all c = by (outlets b) c.0 all c.1 c.2
-  where
-    by : (os : List Outlet) (k : ℕ) → Each P (map outlet_pin os) → k < length os → get_or os k o ≡ o → P (outlet_pin o)
-    by [] k all l e = absurd (omega (arith, l))
-    by (q ∷ os) zero all l e = subst (λ r. P (outlet_pin r)) e all.0
-    by (q ∷ os) (suc k) all l e = by os k all.1 (omega (arith, l)) e
-
 pub outlet_free : (b : Block) → AllApart b → (n1 n2 : Net) (o : Outlet) → n2.seats ≡ n1.seats → KeepsThese b n2 (bus_first b) → Each (λ p. IsFree n1 p.name p.width) (outputs_among (ports b)) → Contains (outlets b) o → IsFree n2 o.name o.width
 outlet_free b apart n1 n2 o seats keeps free c =
     let F : Pin → Type 0 = λ p. IsFree n1 p.name p.width in
@@ -207,13 +206,6 @@ front-extends b old new f x h = record {
   keeps = λ w. record { waited = λ v s. (h.keeps w).waited v (x.settles v s); failed = λ v s. (h.keeps w).failed v (x.settles v s) };
 }
 
-pub core-extends : (b : Block) (f : Front) (old new : Net) (answer : Id) → Extends old new → IsCore b f.inlet old answer → IsCore b f.inlet new answer
-core-extends b f old new answer x h = record {
-  shown = λ v s. h.shown v (x.settles v s);
-  answered = record { stands = Stands-extends old new answer 32 x h.answered.stands; value = λ v s. h.answered.value v (x.settles v s) };
-  moved = λ v s. h.moved v (x.settles v s);
-}
-
 pub data-extends : (old new : Net) (o : Option Id) (answer shown : Id) → Extends old new → ShowsData old o answer shown → ShowsData new o answer shown
 data-extends old new None answer shown x h = h
 data-extends old new (Some id) answer shown x h = (Stands-extends old new shown 32 x h.0, (λ v s. h.1 v (x.settles v s)), (λ v s. h.2 v (x.settles v s)))
@@ -241,10 +233,6 @@ data_apart b apart w = Each-weaker (lacks_each b (Data ∷ [])) (λ p. bytes_eq 
     (λ o l. Differ-sym o.name (codes "apb$data") (or_none (bytes_eq o.name (codes "apb$data")) l)) (map outlet_pin (outlets b))
     (Each-right (lacks_each b (Data ∷ [])) bus_shown (map outlet_pin (outlets b)) (outputs_lack b apart (Data ∷ []) ((bus_kept b w).1, tt)))
 
-pub taken_lacks : (name : List ℕ) (old new : List Seat) (ps : List Pin) → Each (λ p. bytes_eq name p.name ≡ false) ps → SeatsTaken old new ps → Lacks (seat_names old) name → Lacks (seat_names new) name
-taken_lacks name old new [] others h l = subst (λ ss. Lacks (seat_names ss) name) (sym h) l
-taken_lacks name old new (p ∷ ps) others h l = taken_lacks name (seated old p.name p.width (Output h.0)) new ps others.1 h.1 (Lacks-seated p.name p.width (Output h.0) name others.0 old l)
-
 -- An output behind another
 
 pub free_stays : (old new : Net) (name a : List ℕ) (w u : ℕ) (from : Id) → new.nodes ≡ old.nodes → new.seats ≡ seated old.seats a u (Output from) → bytes_eq name a ≡ false → IsFree old name w → IsFree new name w
@@ -267,7 +255,7 @@ built b n1 n2 n3 n4 n5 f answer shown laid r1 u1 s2 r2 u2 is_front x23 s3 r3 u3 
       answer = answer;
       shown = shown;
       is_front = front-extends b n2 n5 f (Extends-trans n2 n3 n5 x23 x35) is_front;
-      is_core = core-extends b f n3 n5 answer x35 is_core;
+      is_core = core-extends b f.inlet n3 n5 answer x35 is_core;
       is_data = data-extends n4 n5 f.closes answer shown x45 is_data;
       is_shown = is_shown;
       registers = r5 ∙ r4 ∙ ap (λ rs. rs ++ data_registers f.closes) (r3 ∙ ap (λ rs. rs ++ map (kept_pin b) (field_kept b)) (r2 ∙ ap (λ rs. rs ++ access_registers b) r1));

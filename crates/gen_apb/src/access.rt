@@ -1,6 +1,6 @@
 //! What an access of the bus is.
 
-ghost use Rattle.std.specs.Prelude.{◌≡◌, IfOk, map};
+ghost use Rattle.std.specs.Prelude.{◌≡◌, IfOk};
 ghost use Rattle.rtl_net.specs.Value.{bit_of};
 ghost use Rattle.rtl_net.specs.Net.{Grows};
 ghost use Rattle.rb_model.specs.Run as run;
@@ -10,11 +10,12 @@ ghost use Rattle.gen_apb.specs.Accesses.{HasAddress, IsCarried};
 ghost use Rattle.gen_apb.specs.Pins.{HasBusPins};
 
 use crate::pins::BusPins;
-use gen_decode::{Decoded, decode};
+use gen_decode::Decoded;
 use gen_scene::Inlet;
+use gen_words::word_node;
 use net_gates::{both, opposite};
 use rb_base::NoMemory;
-use rb_model::{Block, Word};
+use rb_model::Block;
 use rtl_net::{Id, Netlist};
 use std::alloc::Global;
 
@@ -23,17 +24,6 @@ use std::alloc::Global;
 pub(crate) struct Request {
     pub inlet: Inlet,
     pub fails: Id,
-}
-
-/// The addresses of words.
-fn addresses(alloc: Global, words: &[Word]) -> Result<Vec<u32>, NoMemory>
-    ensures { IfOk result (λ all. all.items ≡ map (λ w. w.address) words.now) }
-{
-    let mut all = Vec::new(alloc);
-    for word in words {
-        all.push(word.address)?;
-    }
-    Ok(all)
 }
 
 /// The address of the access, decoded.
@@ -49,8 +39,7 @@ pub(crate) fn address(
     ensures name { net.new.name ≡ net.old.name }
     ensures address { IfOk result (λ d. HasAddress block.now net.new d) }
 {
-    let words = addresses(alloc, &block.reads.items)?;
-    let found = decode(net, pins.address, &words)?;
+    let found = word_node(alloc, net, block, pins.address)?;
     Ok(found)
 }
 

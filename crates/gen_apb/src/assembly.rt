@@ -18,7 +18,7 @@ use crate::pins::BusPins;
 use gen_core::core;
 use gen_ports::port_nodes;
 use rb_base::NoMemory;
-use rb_model::{Block, names_differ};
+use rb_model::{Block, names_differ, ports};
 use rtl_net::{Id, Netlist};
 use std::alloc::Global;
 
@@ -58,7 +58,8 @@ fn build(alloc: Global, net: &mut Netlist, block: &Block) -> Result<(), NoMemory
     ensures built { OnOk result (IsBuilt block.now net.new) }
 {
     names_differ();
-    let pins = port_nodes(alloc, net, block)?;
+    let ports = ports(alloc, block)?;
+    let pins = port_nodes(alloc, net, &ports)?;
     let bus = bus_pins(block, &pins);
     let front = bus_front(alloc, net, block, bus)?;
     let answer = core(alloc, net, block, &pins, front.inlet)?;

@@ -6,7 +6,7 @@ use Rattle.rtl_net.specs.Value.{At}
 use Rattle.rtl_net.specs.Net.{Net, Grows, IsNode, Stands}
 use Rattle.rtl_net.specs.declared.node.Id.{Id}
 use Rattle.rtl_net.proofs.Nets.{Grows-trans}
-use Rattle.rb_base.specs.declared.edge.Edge.TheVariants as edge
+use Rattle.rb_base.specs.declared.trigger.Trigger.TheVariants as trigger
 use Rattle.rb_model.specs.declared.kinds.Count.{Count}
 use Rattle.rb_model.specs.declared.kinds.Latch.{Latch}
 use Rattle.rb_model.specs.declared.kinds.Latch.TheVariants as latch
@@ -69,16 +69,16 @@ uncounted (Some c) g x h = cc
 pub latched_kept : (how : Latch) (w x s l : ℕ) → latched how w x s (if keeps_last how then l else 0) ≡ latched how w x s l
 latched_kept latch.Off w x s l = refl
 latched_kept latch.Plain w x s l = refl
-latched_kept (latch.Bits edge.Level) w x s l = refl
-latched_kept (latch.Bits edge.Posedge) w x s l = refl
-latched_kept (latch.Bits edge.Negedge) w x s l = refl
-latched_kept (latch.Bits edge.Bothedge) w x s l = refl
-latched_kept (latch.Bits edge.Nonsticky) w x s l = refl
-latched_kept (latch.Whole edge.Level) w x s l = refl
-latched_kept (latch.Whole edge.Posedge) w x s l = refl
-latched_kept (latch.Whole edge.Negedge) w x s l = refl
-latched_kept (latch.Whole edge.Bothedge) w x s l = refl
-latched_kept (latch.Whole edge.Nonsticky) w x s l = refl
+latched_kept (latch.Bits trigger.Level) w x s l = refl
+latched_kept (latch.Bits trigger.Posedge) w x s l = refl
+latched_kept (latch.Bits trigger.Negedge) w x s l = refl
+latched_kept (latch.Bits trigger.Bothedge) w x s l = refl
+latched_kept (latch.Bits trigger.Nonsticky) w x s l = refl
+latched_kept (latch.Whole trigger.Level) w x s l = refl
+latched_kept (latch.Whole trigger.Posedge) w x s l = refl
+latched_kept (latch.Whole trigger.Negedge) w x s l = refl
+latched_kept (latch.Whole trigger.Bothedge) w x s l = refl
+latched_kept (latch.Whole trigger.Nonsticky) w x s l = refl
 
 pub unlatched : (how : Latch) (w x s l : ℕ) → is_latching how ≡ false → latched how w x s l ≡ x
 unlatched latch.Off w x s l h = refl

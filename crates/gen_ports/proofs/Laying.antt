@@ -14,7 +14,6 @@ use Rattle.rb_base.specs.declared.ports.Dir.TheVariants.{In, Out}
 use Rattle.rb_base.specs.declared.ports.Pin.{Pin}
 use Rattle.rb_base.specs.declared.ports.Port.{Port}
 use Rattle.v_design.specs.Design.{inputs_among, is_data_input, is_output, outputs_among, port_pin}
-use Rattle.v_design.specs.WellFormed.{distinct}
 use Rattle.rtl_net.specs.Names.{Lacks, clock}
 use Rattle.rtl_net.specs.Net.{Net, Extends, HasClock, IsInput, IsNode, registers_of, undriven}
 use Rattle.rtl_net.specs.Ids.{at}
@@ -24,16 +23,12 @@ use Rattle.rtl_net.specs.declared.node.Seat.{Seat}
 use Rattle.rtl_net.specs.declared.node.Occupant.{Occupant}
 use Rattle.rtl_net.specs.declared.node.Occupant.TheVariants.{Input}
 use Rattle.rtl_net.proofs.Nets.{Extends-refl, Extends-trans, IsNode-extends}
-use Rattle.rb_model.specs.declared.block.Block.{Block}
-use Rattle.rb_model.specs.Kept.{Kept, Waited, Data, Error, has_wait, kept, kept_pins, register_name, field_kept, kept_pin}
-use Rattle.rb_model.specs.Ports.{input, input_pins, pin, ports}
+use Rattle.rb_model.specs.Ports.{input, pin}
 use Rattle.rb_model.specs.References.{Each}
-use Rattle.rb_model.specs.Sound.{IsSound}
 use Rattle.rb_model.proofs.Apart.{Apart, Apart-from, Name, bytes_eq-from, bytes_eq-not}
 use Rattle.rb_model.proofs.Eachs.{Each-at, Each-left, Each-map, Each-passing}
-use Rattle.gen_scene.specs.Bases.{HasPins, IsPinNode}
-use Rattle.gen_ports.specs.Laid.{AreInputs, AreSeatsOf, HasPort, HasPortIf, IsSeatOf, IsTakenAs}
-use Rattle.gen_ports.proofs.Portals.{IsPort, ports_are}
+use Rattle.gen_scene.specs.Bases.{IsPinNode}
+use Rattle.gen_ports.specs.Laid.{AreInputs, AreSeatsOf, CanLay, HasPort, HasPortIf, IsPort, IsSeatOf, IsTakenAs}
 
 -- Lists
 
@@ -54,10 +49,10 @@ pins_more ps p = ap (map port_pin) (filtered is_data_input ps p) ∙ map-append 
 
 -- Seats and names
 
-abbrev port_names : List Port → List Name
+abbrev pub port_names : List Port → List Name
 port_names ps = map (λ p. p.name) ps
 
-names_of : (ss : List Seat) (ps : List Port) → AreSeatsOf ss ps → seat_names ss ≡ port_names ps
+pub names_of : (ss : List Seat) (ps : List Port) → AreSeatsOf ss ps → seat_names ss ≡ port_names ps
 names_of [] [] h = refl
 names_of [] (p ∷ ps) h = absurd h
 names_of (s ∷ ss) [] h = absurd h
@@ -76,21 +71,6 @@ lacks_before (q ∷ ps) zero p a e = refl
 lacks_before (q ∷ ps) (suc k) p a e =
     let ne : p.name ≡ q.name → ⊥ = Each-at (λ m. m ≡ q.name → ⊥) (port_names ps) k p.name a.0 (mapped_at (λ (r : Port). r.name) ps k p e) in
     ap (λ c. c || list_any (bytes_eq p.name) (port_names (take k ps))) (bytes_eq-not p.name q.name ne) ∙ lacks_before ps k p a.1 e
-
--- a name behind others is not among them
-lacks_behind : (xs ys : List Name) (k : ℕ) (n : Name) → Apart (xs ++ ys) → slice_get ys k ≡ Some n → Lacks xs n
-lacks_behind [] ys k n a e = refl
-lacks_behind (x ∷ xs) ys k n a e =
-    let ne : n ≡ x → ⊥ = Each-at (λ m. m ≡ x → ⊥) ys k n (right xs ys a.0) e in
-    ap (λ c. c || list_any (bytes_eq n) xs) (bytes_eq-not n x ne) ∙ lacks_behind xs ys k n a.1 e
-  where
-    right : (us vs : List Name) → Each (λ m. m ≡ x → ⊥) (us ++ vs) → Each (λ m. m ≡ x → ⊥) vs
-    right [] vs h = h
-    right (u ∷ us) vs h = right us vs h.1
-
-apart_left : (xs ys : List Name) → Apart (xs ++ ys) → Apart xs
-apart_left [] ys h = tt
-apart_left (x ∷ xs) ys h = (Each-left (λ m. m ≡ x → ⊥) xs ys h.0, apart_left xs ys h.1)
 
 free_room : (s : Seat) (ss : List Seat) (p : Port) → s.name ≡ p.name → s.width ≡ p.width → s.taken ≡ None → has_room (s ∷ ss) p.name p.width ≡ true
 free_room s ss p n w t =
@@ -203,17 +183,17 @@ pin_out net p ids d = subst (λ c. HasPortIf c net p ids ids) (sym (is_pin_out p
 
 -- The ports up to a place are laid
 
-pub record PortsTo (b : Block) (first net : Net) (ids : List Id) (end : ℕ) : Type 0 where
+pub record PortsTo (laid : List Port) (first net : Net) (ids : List Id) (end : ℕ) : Type 0 where
   pub older : Extends first net
   pub name : net.name ≡ first.name
   pub registers : registers_of net.nodes ≡ registers_of first.nodes
   pub undriven : undriven net.nodes ≡ undriven first.nodes
-  pub seats : AreSeatsOf net.seats (take end (ports b))
+  pub seats : AreSeatsOf net.seats (take end laid)
   pub clocked : 0 < end → HasClock net
-  pub inputs : AreInputs net ids (inputs_among (take end (ports b)))
+  pub inputs : AreInputs net ids (inputs_among (take end laid))
 
-pub none_yet : (b : Block) (net : Net) → net.seats ≡ [] → PortsTo b net net [] 0
-none_yet b net e = record {
+pub none_yet : (laid : List Port) (net : Net) → net.seats ≡ [] → PortsTo laid net net [] 0
+none_yet laid net e = record {
   older = Extends-refl net;
   name = refl;
   registers = refl;
@@ -224,17 +204,17 @@ none_yet b net e = record {
 }
 
 -- the port at a place
-pub port_at : (b : Block) → IsSound b → (k : ℕ) (p : Port) → slice_get (ports b) k ≡ Some p → IsPort p
-port_at b sound k p e = Each-at IsPort (ports b) k p (ports_are b sound) e
+pub port_at : (laid : List Port) → CanLay laid → (k : ℕ) (p : Port) → slice_get laid k ≡ Some p → IsPort p
+port_at laid can k p e = Each-at IsPort laid k p can.each e
 
-all_apart : (b : Block) → distinct (port_names (ports b) ++ map (λ p. p.name) (kept_pins b)) ≡ true → Apart (port_names (ports b))
-all_apart b apart = apart_left (port_names (ports b)) (map (λ p. p.name) (kept_pins b)) (Apart-from (port_names (ports b) ++ map (λ p. p.name) (kept_pins b)) apart)
+all_apart : (laid : List Port) → CanLay laid → Apart (port_names laid)
+all_apart laid can = Apart-from (port_names laid) can.apart
 
 -- its name is new
-pub next_new : (b : Block) (first net : Net) (ids : List Id) (end : ℕ) (p : Port) → distinct (port_names (ports b) ++ map (λ p. p.name) (kept_pins b)) ≡ true → registers_of first.nodes ≡ [] → PortsTo b first net ids end
-    → slice_get (ports b) end ≡ Some p → IsNew net p.name
-next_new b first net ids end p apart plain sofar here = record {
-  seats = subst (λ ns. Lacks ns p.name) (sym (names_of net.seats (take end (ports b)) sofar.seats)) (lacks_before (ports b) end p (all_apart b apart) here);
+pub next_new : (laid : List Port) (first net : Net) (ids : List Id) (end : ℕ) (p : Port) → CanLay laid → registers_of first.nodes ≡ [] → PortsTo laid first net ids end
+    → slice_get laid end ≡ Some p → IsNew net p.name
+next_new laid first net ids end p can plain sofar here = record {
+  seats = subst (λ ns. Lacks ns p.name) (sym (names_of net.seats (take end laid) sofar.seats)) (lacks_before laid end p (all_apart laid can) here);
   registers = subst (λ rs. Lacks (map (λ r. r.name) rs) p.name) (sym (sofar.registers ∙ plain)) refl;
 }
 
@@ -245,11 +225,8 @@ pub free_named : (net : Net) (p : Port) (name : Name) (w : ℕ) → name ≡ p.n
 free_named net p name w n h = free_when_new net name w (subst (IsNew net) (sym n) h)
 
 -- the port that is laid next
-pub listed : (b : Block) (all items : List Port) (i : ℕ) (p : Port) → all ≡ ports b → items ≡ all → i < length items → p ≡ get_or items i p → slice_get (ports b) i ≡ Some p
-listed b all items i p are same low is = ap (λ ps. slice_get ps i) (sym (same ∙ are)) ∙ slice_get_read items (length items) i p refl low is
-
-pub none_left : (b : Block) (all items : List Port) (end : ℕ) → all ≡ ports b → items ≡ all → length items ≤ end → take end (ports b) ≡ ports b
-none_left b all items end are same low = take_all end (ports b) (let e : length items ≡ length (ports b) = ap length (same ∙ are) in omega (arith, e, low))
+pub listed : (laid : List Port) (i : ℕ) (p : Port) → i < length laid → p ≡ get_or laid i p → slice_get laid i ≡ Some p
+listed laid i p low is = slice_get_read laid (length laid) i p refl low is
 
 at_front : (ids : List Id) (id : Id) (j : ℕ) → j < length ids → at (ids ++ id ∷ []) j ≡ at ids j
 at_front [] id j low = absurd (omega (arith, low))
@@ -303,66 +280,51 @@ taken_next [] k x e = cc
 taken_next (y ∷ ys) zero x e = ap (λ z. z ∷ []) (same_Some y x e)
 taken_next (y ∷ ys) (suc k) x e = let z : suc k + 1 ≡ suc (k + 1) = omega arith in ap (λ n. take n (y ∷ ys)) z ∙ ap (λ zs. y ∷ zs) (taken_next ys k x e)
 
-first_is : (b : Block) (p : Port) → slice_get (ports b) 0 ≡ Some p → input (pin (codes "PCLK") 1) ≡ p
-first_is b p e = same_Some (input (pin (codes "PCLK") 1)) p e
+first_is : (laid : List Port) → CanLay laid → (p : Port) → slice_get laid 0 ≡ Some p → input (pin clock 1) ≡ p
+first_is laid can p e = same_Some (input (pin clock 1)) p (sym (ap (λ ps. slice_get ps 0) can.first.1) ∙ e)
 
 -- one port more
-pub port_more : (b : Block) (first net new : Net) (ids ids' : List Id) (end : ℕ) (p : Port) → PortsTo b first net ids end → slice_get (ports b) end ≡ Some p
+pub port_more : (laid : List Port) → CanLay laid → (first net new : Net) (ids ids' : List Id) (end : ℕ) (p : Port) → PortsTo laid first net ids end → slice_get laid end ≡ Some p
     → Extends net new → new.name ≡ net.name → registers_of new.nodes ≡ registers_of net.nodes → undriven new.nodes ≡ undriven net.nodes
     → (p.dir ≡ In → bytes_eq p.name clock ≡ true → HasClock new) → ((s : Seat) × (new.seats ≡ net.seats ++ s ∷ []) × IsSeatOf s p) → HasPort new p ids ids'
-    → PortsTo b first new ids' (end + 1)
-port_more b first net new ids ids' end p sofar here h name registers undriven clocked seat pins = record {
+    → PortsTo laid first new ids' (end + 1)
+port_more laid can first net new ids ids' end p sofar here h name registers undriven clocked seat pins = record {
   older = Extends-trans first net new sofar.older h;
   name = name ∙ sofar.name;
   registers = registers ∙ sofar.registers;
   undriven = undriven ∙ sofar.undriven;
-  seats = subst (AreSeatsOf new.seats) (sym more) (subst (λ ss. AreSeatsOf ss (take end (ports b) ++ p ∷ [])) (sym seat.1) (seats_more net.seats (take end (ports b)) seat.0 p sofar.seats seat.2));
+  seats = subst (AreSeatsOf new.seats) (sym more) (subst (λ ss. AreSeatsOf ss (take end laid ++ p ∷ [])) (sym seat.1) (seats_more net.seats (take end laid) seat.0 p sofar.seats seat.2));
   clocked = λ l. has_clock end refl here;
-  inputs = subst (λ ps. AreInputs new ids' (inputs_among ps)) (sym more) (inputs_more new ids ids' (take end (ports b)) p (AreInputs-extends net new ids (inputs_among (take end (ports b))) h sofar.inputs) pins);
+  inputs = subst (λ ps. AreInputs new ids' (inputs_among ps)) (sym more) (inputs_more new ids ids' (take end laid) p (AreInputs-extends net new ids (inputs_among (take end laid)) h sofar.inputs) pins);
 }
   where
-    more : take (end + 1) (ports b) ≡ take end (ports b) ++ p ∷ []
-    more = taken_next (ports b) end p here
+    more : take (end + 1) laid ≡ take end laid ++ p ∷ []
+    more = taken_next laid end p here
 
-    has_clock : (k : ℕ) → end ≡ k → slice_get (ports b) k ≡ Some p → HasClock new
-    has_clock zero z e = let q = first_is b p e in clocked (ap (λ r. r.dir) (sym q)) (subst (λ (r : Port). bytes_eq r.name clock ≡ true) q refl)
+    has_clock : (k : ℕ) → end ≡ k → slice_get laid k ≡ Some p → HasClock new
+    has_clock zero z e = let q = first_is laid can p e in clocked (ap (λ r. r.dir) (sym q)) (subst (λ (r : Port). bytes_eq r.name clock ≡ true) q refl)
     has_clock (suc k) z e = h.clock (sofar.clocked (omega (arith, z)))
 
 -- All ports are laid
 
-pub pins_laid : (b : Block) (net : Net) (ids : List Id) → AreInputs net ids (input_pins b) → HasPins b net ids
-pins_laid b net ids h = record { long = h.long; each = λ k p e other. h.each k p e }
+pub all_taken : (laid : List Port) (end : ℕ) → length laid ≤ end → take end laid ≡ laid
+all_taken laid end low = take_all end laid low
 
-name_place : (b : Block) (k : Kept) (j : ℕ) → slice_get (kept b) j ≡ Some k → slice_get (map (λ p. p.name) (kept_pins b)) j ≡ Some (register_name b k)
-name_place b k j here = mapped_at (λ (p : Pin). p.name) (kept_pins b) j (kept_pin b k) (mapped_at (kept_pin b) (kept b) j k here)
-
-pub kept_new : (b : Block) (net : Net) (k : Kept) → distinct (port_names (ports b) ++ map (λ p. p.name) (kept_pins b)) ≡ true → AreSeatsOf net.seats (ports b) → registers_of net.nodes ≡ [] → Contains (kept b) k
-    → IsNew net (register_name b k)
-kept_new b net k apart seats none c = record {
-  seats =
-      let (j, low, is) = c in
-      let here : slice_get (kept b) j ≡ Some k = slice_get_read (kept b) (length (kept b)) j k refl low (sym is) in
-      subst (λ ns. Lacks ns (register_name b k)) (sym (names_of net.seats (ports b) seats))
-      (lacks_behind (port_names (ports b)) (map (λ p. p.name) (kept_pins b)) j (register_name b k) (Apart-from (port_names (ports b) ++ map (λ p. p.name) (kept_pins b)) apart) (name_place b k j here));
-  registers = subst (λ rs. Lacks (map (λ r. r.name) rs) (register_name b k)) (sym none) refl;
-}
-
--- what a field keeps is kept
-pub kept_of_fields : (b : Block) (k : Kept) → Contains (field_kept b) k → Contains (kept b) k
-kept_of_fields b k (j, low, is) =
-    let here : slice_get (field_kept b) j ≡ Some k = slice_get_read (field_kept b) (length (field_kept b)) j k refl low (sym is) in
-    let there : slice_get (kept b) j ≡ Some k = front (field_kept b) (if has_wait b then Waited ∷ Data ∷ Error ∷ [] else []) k j here in
-    (j, slice_get_within (kept b) j k there, get_or_from_slice_get (kept b) j k k there)
-
-out_side : (d : Dir) → Rattle.v_design.specs.Design.is_output (record { dir = d; name = []; width = 0 }) ≡ true → d ≡ Out
+out_side : (d : Dir) → is_output (record { dir = d; name = []; width = 0 }) ≡ true → d ≡ Out
 out_side In e = cc
 out_side Out e = refl
 
-pub outputs_free : (b : Block) (net : Net) → distinct (port_names (ports b) ++ map (λ p. p.name) (kept_pins b)) ≡ true → AreSeatsOf net.seats (ports b) → registers_of net.nodes ≡ [] → Each (λ p. IsFree net p.name p.width) (outputs_among (ports b))
-outputs_free b net apart seats none =
-    Each-map (λ p. IsFree net p.name p.width) port_pin (filter is_output (ports b))
-    (Each-passing (λ (p : Port). IsFree net p.name p.width) is_output (ports b)
+pub outputs_free : (laid : List Port) (net : Net) → CanLay laid → AreSeatsOf net.seats laid → registers_of net.nodes ≡ [] → Each (λ p. IsFree net p.name p.width) (outputs_among laid)
+outputs_free laid net can seats none =
+    Each-map (λ p. IsFree net p.name p.width) port_pin (filter is_output laid)
+    (Each-passing (λ (p : Port). IsFree net p.name p.width) is_output laid
     (λ k p e t. record {
-      seats = room net.seats (ports b) k p seats (all_apart b apart) e (out_side p.dir t);
+      seats = room net.seats laid k p seats (all_apart laid can) e (out_side p.dir t);
       registers = subst (λ rs. Lacks (map (λ r. r.name) rs) p.name) (sym none) refl;
     }))
+
+pub others_new : (laid : List Port) (net : Net) (name : Name) → AreSeatsOf net.seats laid → registers_of net.nodes ≡ [] → Lacks (port_names laid) name → IsNew net name
+others_new laid net name seats none lacks = record {
+  seats = subst (λ ns. Lacks ns name) (sym (names_of net.seats laid seats)) lacks;
+  registers = subst (λ rs. Lacks (map (λ r. r.name) rs) name) (sym none) refl;
+}

@@ -1,2 +1,2 @@
 pub mod Laying
-mod Portals
+pub mod Portals

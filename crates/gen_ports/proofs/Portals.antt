@@ -8,7 +8,7 @@ use Rattle.rb_base.specs.declared.ports.Port.{Port}
 use Rattle.v_design.specs.Lexemes as design
 use Rattle.v_design.specs.WellFormed.{distinct}
 use Rattle.rtl_net.specs.Names as names
-use Rattle.rtl_net.specs.Names.{clock}
+use Rattle.rtl_net.specs.Names.{clock, is_net_name}
 use Rattle.rtl_net.specs.Net.{IsWidth}
 use Rattle.rb_model.specs.declared.kinds.Amount.{Amount}
 use Rattle.rb_model.specs.declared.kinds.Amount.TheVariants as amount
@@ -25,12 +25,13 @@ use Rattle.rb_model.specs.declared.block.Reg.{Reg}
 use Rattle.rb_model.specs.declared.block.Signal.{Signal}
 use Rattle.rb_model.specs.declared.block.View.{View}
 use Rattle.rb_model.specs.Kept.{when}
-use Rattle.rb_model.specs.Ports.{Outlet, amount_pins, bus_outputs, count_pins, field_outlets, field_pins, field_ports, gate_pins, input, is_pin, outlet, output, part_pins, pin, ports, reg_outlets, shown_item, shown_word, signal_name, signal_pins, view_pins}
+use Rattle.rb_model.specs.Ports.{Outlet, amount_pins, block_ports, count_pins, field_outlets, field_pins, field_ports, gate_pins, input, is_pin, outlet, output, part_pins, pin, reg_outlets, shown_item, shown_word, signal_name, signal_pins, view_pins}
 use Rattle.rb_model.specs.References.{Each, WithSome}
 use Rattle.rb_model.specs.Sound.{IsSound, is_path}
 use Rattle.rb_model.specs.SoundField.{AmountFits, CountFits, FieldIsSound, FieldIsSoundIn, PartFits}
-use Rattle.rb_model.proofs.Eachs.{Each-always, Each-append, Each-at, Each-flat_map, Each-from_zero, Each-map, Each-numbered_all, Each-passing}
+use Rattle.rb_model.proofs.Eachs.{Each-always, Each-append, Each-at, Each-flat_map, Each-from_zero, Each-map, Each-numbered_all, Each-passing, Each-weaker}
 use Rattle.gen_scene.proofs.ResetPins.{bytes_wider}
+use Rattle.gen_ports.specs.Laid.{IsPort}
 use Rattle.plain_lemmas.proofs.Lists.{all-get as list_at}
 
 -- a name and a width that a port may have, other than the clock's
@@ -213,46 +214,7 @@ reg_outlet_portals k r p =
     (when_outlet r.intr (outlet (codes "intr$" ++ r.path) 1 (item.Intr k)) (portal (codes "intr$") r.path 1 intr_begins p one_bit))
     (when_outlet r.halt (outlet (codes "halt$" ++ r.path) 1 (item.Halt k)) (portal (codes "halt$") r.path 1 halt_begins p one_bit))
 
--- All ports behind the clock
-
-abbrev first_clock : Port
-first_clock = input (pin (codes "PCLK") 1)
-
-abbrev bus_rest : List Pin
-bus_rest = pin (codes "PRESETn") 1 ∷ pin (codes "PADDR") 32 ∷ pin (codes "PSEL") 1 ∷ pin (codes "PENABLE") 1 ∷ pin (codes "PWRITE") 1 ∷ pin (codes "PWDATA") 32 ∷ []
-
-plain : (name : List ℕ) (w : ℕ) → names.is_net_name name ≡ true → 0 < w → w ≤ 32 → bytes_eq name clock ≡ false → IsPortal name w
-plain name w n s l o = record { named = n; wide = (s, omega (arith, l)); other = o }
-
-bus_portals : Each IsPortalPort (map input bus_rest ++ bus_outputs)
-bus_portals = (
-  plain (codes "PRESETn") 1 refl (omega arith) (omega arith) refl,
-  (
-    plain (codes "PADDR") 32 refl (omega arith) (omega arith) refl,
-    (
-      plain (codes "PSEL") 1 refl (omega arith) (omega arith) refl,
-      (
-        plain (codes "PENABLE") 1 refl (omega arith) (omega arith) refl,
-        (
-          plain (codes "PWRITE") 1 refl (omega arith) (omega arith) refl,
-          (
-            plain (codes "PWDATA") 32 refl (omega arith) (omega arith) refl,
-            (
-              plain (codes "PREADY") 1 refl (omega arith) (omega arith) refl,
-              (
-                plain (codes "PRDATA") 32 refl (omega arith) (omega arith) refl,
-                (plain (codes "PSLVERR") 1 refl (omega arith) (omega arith) refl, tt),
-              ),
-            ),
-          ),
-        ),
-      ),
-    ),
-  ),
-)
-
-abbrev rest_of : Block → List Port
-rest_of b = map input bus_rest ++ bus_outputs ++ map input (signal_pins true b.signals) ++ map input (signal_pins false b.signals) ++ flat_map (field_ports b.views) (enumerate_from 0 b.fields) ++ map input (flat_map view_pins (filter (λ v. v.alias) b.views)) ++ map output (flat_map reg_outlets (enumerate_from 0 b.regs))
+-- All ports of a block
 
 inputs_are : (ps : List Pin) → Each IsPortalPin ps → Each IsPortalPort (map input ps)
 inputs_are ps h = Each-map IsPortalPort input ps h
@@ -283,37 +245,29 @@ module _ (b : Block) (sound : IsSound b) where
   regs_are = outputs_are (flat_map reg_outlets (enumerate_from 0 b.regs))
       (Each-flat_map IsPortalOutlet reg_outlets (enumerate_from 0 b.regs) (Each-numbered_all (λ e. Each IsPortalOutlet (reg_outlets e)) b.regs (λ k r e. reg_outlet_portals k r (reg_path k r e))))
 
-  -- the ports behind the clock
-  rest_are : Each IsPortalPort (rest_of b)
-  rest_are =
-      let bus : List Port = map input bus_rest ++ bus_outputs in
+  block_portals : Each IsPortalPort (block_ports b)
+  block_portals =
       let root = map input (signal_pins true b.signals) in
       let tree = map input (signal_pins false b.signals) in
       let fields = flat_map (field_ports b.views) (enumerate_from 0 b.fields) in
       let aliases = map input (flat_map view_pins (filter (λ v. v.alias) b.views)) in
       let regs = map output (flat_map reg_outlets (enumerate_from 0 b.regs)) in
-      Each-append IsPortalPort (bus ++ root ++ tree ++ fields ++ aliases) regs
-      (Each-append IsPortalPort (bus ++ root ++ tree ++ fields) aliases
-      (Each-append IsPortalPort (bus ++ root ++ tree) fields
-      (Each-append IsPortalPort (bus ++ root) tree
-      (Each-append IsPortalPort bus root bus_portals (inputs_are (signal_pins true b.signals) (signal_portals true b.signals sound.signals)))
-      (inputs_are (signal_pins false b.signals) (signal_portals false b.signals sound.signals)))
+      Each-append IsPortalPort (root ++ tree ++ fields ++ aliases) regs
+      (Each-append IsPortalPort (root ++ tree ++ fields) aliases
+      (Each-append IsPortalPort (root ++ tree) fields
+      (Each-append IsPortalPort root tree
+      (inputs_are (signal_pins true b.signals) (signal_portals true b.signals sound.signals)) (inputs_are (signal_pins false b.signals) (signal_portals false b.signals sound.signals)))
       fields_are)
       (inputs_are (flat_map view_pins (filter (λ v. v.alias) b.views)) (passing_views b.views (λ v. v.alias) views_named)))
       regs_are
 
--- a port's name may be one, its width too, and the clock has one bit
-pub record IsPort (p : Port) : Type 0 where
-  pub named : names.is_net_name p.name ≡ true
-  pub wide : IsWidth p.width
-  pub clocked : bytes_eq p.name clock ≡ true → p.width ≡ 1
-
 from_portal : (p : Port) → IsPortalPort p → IsPort p
 from_portal p h = record { named = h.named; wide = h.wide; clocked = λ t. absurd (let q : true ≡ false = sym t ∙ h.other in cc) }
 
-each_from : (ps : List Port) → Each IsPortalPort ps → Each IsPort ps
-each_from [] h = tt
-each_from (p ∷ ps) h = (from_portal p h.0, each_from ps h.1)
+-- the ports of a block may be laid behind those of any bus
+pub block_ports_are : (b : Block) → IsSound b → Each IsPort (block_ports b)
+block_ports_are b sound = Each-weaker IsPortalPort IsPort from_portal (block_ports b) (block_portals b sound)
 
-pub ports_are : (b : Block) → IsSound b → Each IsPort (ports b)
-ports_are b sound = (record { named = refl; wide = one_bit; clocked = λ t. refl }, each_from (rest_of b) (rest_are b sound))
+-- a port of a bus
+pub bus_port : (p : Port) → is_net_name p.name ≡ true → 0 < p.width → p.width ≤ 32 → (bytes_eq p.name clock ≡ true → p.width ≡ 1) → IsPort p
+bus_port p named some low clocked = record { named = named; wide = (some, omega (arith, low)); clocked = clocked }

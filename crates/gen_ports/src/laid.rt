@@ -1,23 +1,18 @@
 //! Ports laid one after the other.
 
-ghost use Rattle.std.specs.Prelude.{◌≡◌, ◌++◌, ◌∷◌, [], IsTrue, IfOk, OnOk, Contains};
+ghost use Rattle.std.specs.Prelude.{◌≡◌, ◌++◌, ◌∷◌, [], ℕ, List, IsTrue, IfOk, OnOk, map};
 ghost use Rattle.std.specs.Bool.{OnTrue};
 ghost use Rattle.std.specs.Str.{bytes_eq};
-ghost use Rattle.v_design.specs.Design.{outputs_among};
-ghost use Rattle.rtl_net.specs.Names.{clock, is_net_name};
+ghost use Rattle.v_design.specs.Design.{inputs_among, outputs_among};
+ghost use Rattle.rtl_net.specs.Names.{Lacks, clock, is_net_name};
 ghost use Rattle.rtl_net.specs.Net.{Extends, HasClock, IsWidth, registers_of, undriven};
 ghost use Rattle.rtl_net.specs.Ports.{IsFree, IsNew};
 ghost use Rattle.rtl_net.specs.declared.node.Seat.{Seat};
 ghost use Rattle.rb_base.specs.declared.ports.Dir.TheVariants.{In};
-ghost use Rattle.rb_model.specs.Kept.{Kept, kept, register_name, field_kept};
-ghost use Rattle.rb_model.specs.Ports as spec;
 ghost use Rattle.rb_model.specs.References.{Each};
-ghost use Rattle.rb_model.specs.Sound.{IsSound};
-ghost use Rattle.gen_scene.specs.Bases.{HasPins};
-ghost use Rattle.gen_ports.specs.Laid.{AreInputs, AreSeatsOf, HasPort, IsSeatOf};
+ghost use Rattle.gen_ports.specs.Laid.{AreInputs, AreSeatsOf, CanLay, HasPort, IsSeatOf};
 
 use rb_base::{Dir, NoMemory, Port};
-use rb_model::{Block, names_differ, ports};
 use rtl_net::{Id, Netlist};
 use std::alloc::Global;
 
@@ -48,11 +43,11 @@ fn add(net: &mut Netlist, ids: &mut Vec<Id>, port: &Port) -> Result<(), NoMemory
     Ok(())
 }
 
-/// Lays the ports of a block's module into a netlist without ports and registers, in port order: an input for each input, and a
-/// free seat for each output. The answer has the nodes of the input pins, without the clock, in order. The only error is want of
-/// memory, after which the netlist has some of the ports.
-pub fn port_nodes(alloc: Global, net: &mut Netlist, block: &Block) -> Result<Vec<Id>, NoMemory>
-    requires sound { IsSound block.now }
+/// Lays ports into a netlist without ports and registers, in order: an input for each input, and a free seat for each output. The answer
+/// has the nodes of the inputs, without the clock, in order. The only error is want of memory, after which the netlist has some of the
+/// ports.
+pub fn port_nodes(alloc: Global, net: &mut Netlist, ports: &[Port]) -> Result<Vec<Id>, NoMemory>
+    requires ports { CanLay ports.now }
     requires first { net.old.seats ≡ [] }
     requires plain { registers_of net.old.nodes ≡ [] }
     ensures older { Extends net.old net.new }
@@ -60,17 +55,13 @@ pub fn port_nodes(alloc: Global, net: &mut Netlist, block: &Block) -> Result<Vec
     ensures registers { registers_of net.new.nodes ≡ [] }
     ensures undriven { undriven net.new.nodes ≡ undriven net.old.nodes }
     ensures clock { OnOk result (HasClock net.new) }
-    ensures seats { OnOk result (AreSeatsOf net.new.seats (spec.ports block.now)) }
-    ensures inputs { IfOk result (λ ids. AreInputs net.new ids.items (spec.input_pins block.now)) }
-    ensures pins { IfOk result (λ ids. HasPins block.now net.new ids.items) }
-    ensures kept { OnOk result ((k : Kept) → Contains (kept block.now) k → IsNew net.new (register_name block.now k)) }
-    ensures of_fields { OnOk result ((k : Kept) → Contains (field_kept block.now) k → IsNew net.new (register_name block.now k)) }
-    ensures outputs { OnOk result (Each (λ p. IsFree net.new p.name p.width) (outputs_among (spec.ports block.now))) }
+    ensures seats { OnOk result (AreSeatsOf net.new.seats ports.now) }
+    ensures inputs { IfOk result (λ ids. AreInputs net.new ids.items (inputs_among ports.now)) }
+    ensures outputs { OnOk result (Each (λ p. IsFree net.new p.name p.width) (outputs_among ports.now)) }
+    ensures others { OnOk result ((name : List ℕ) → Lacks (map (λ p. p.name) ports.now) name → IsNew net.new name) }
 {
-    names_differ();
-    let all = ports(alloc, block)?;
     let mut ids = Vec::new(alloc);
-    for port in &all {
+    for port in ports {
         add(net, &mut ids, port)?;
     }
     Ok(ids)

@@ -1,4 +1,4 @@
-//! The ports of a block's module in a netlist, in order.
+//! The ports of a module in a netlist, in order, and that those of a block may be laid.
 #![tactic(auto)]
 
 mod laid;

@@ -1,0 +1,5 @@
+mod Edges
+pub mod Names
+mod Pending
+pub mod Running
+mod Transferring

@@ -1,0 +1,4 @@
+pub mod Axi
+pub mod Channels
+pub mod Ports
+pub mod Transfers

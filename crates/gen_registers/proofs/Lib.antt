@@ -1,0 +1,3 @@
+mod Driving
+mod Rowing
+mod Showing
