@@ -4,7 +4,7 @@ use Rattle.command_line.specs.Words as words
 use Rattle.command_line.specs.Words.{texts}
 use Rattle.command_line.specs.Found as found
 use Rattle.command_line.specs.declared.words.Command.{Command}
-use Rattle.command_line.specs.declared.words.Command.TheVariants.{Check, Compile, Drive, Gen, Map, Pins, Run, Sim, Vcd}
+use Rattle.command_line.specs.declared.words.Command.TheVariants.{Check, Compile, Drive, Gen, Header, Map, Pins, Run, Sim, Vcd}
 use Rattle.command_line.specs.declared.flags.Topped.{Topped}
 use Rattle.command_line.specs.declared.flags.Waited.{Waited}
 
@@ -12,6 +12,7 @@ abbrev pub view : Command → words.Command
 view (Compile waits top source) = words.compile waits (option_copied top) source.now
 view (Check top sources) = words.check (option_copied top) (texts sources.now)
 view (Map top source) = words.map_of (option_copied top) source.now
+view (Header top source) = words.header_of (option_copied top) source.now
 view (Sim verilog stimulus) = words.sim verilog.now stimulus.now
 view (Vcd verilog stimulus) = words.vcd verilog.now stimulus.now
 view (Pins waves) = words.pins_of waves.now

@@ -28,6 +28,11 @@ pub enum Command<'w> {
         top: Option<&'w str>,
         source: &'w str,
     },
+    /// The C header of a source.
+    Header {
+        top: Option<&'w str>,
+        source: &'w str,
+    },
     /// The run of a module.
     Sim {
         verilog: &'w str,
@@ -90,6 +95,22 @@ fn map_of(words: &[String]) -> Option<Command<'_>>
     };
     match topped.rest {
         [source] if is_file(source.as_str()) => Some(Command::Map {
+            top: topped.top,
+            source: source.as_str(),
+        }),
+        _ => None,
+    }
+}
+
+// The file of `header`, likewise.
+fn header_of(words: &[String]) -> Option<Command<'_>>
+    ensures { view_all result ≡ found.one_file commands.header_of (found.topped (texts words.now)) }
+{
+    let Some(topped) = top_of(words) else {
+        return None;
+    };
+    match topped.rest {
+        [source] if is_file(source.as_str()) => Some(Command::Header {
             top: topped.top,
             source: source.as_str(),
         }),
@@ -237,6 +258,9 @@ fn named_by(words: &[String]) -> Option<Command<'_>>
     if name.as_str() == "map" {
         return map_of(rest);
     }
+    if name.as_str() == "header" {
+        return header_of(rest);
+    }
     if name.as_str() == "check" {
         return check_of(rest);
     }
@@ -262,7 +286,7 @@ fn named_by(words: &[String]) -> Option<Command<'_>>
 }
 
 /// The command of the words behind the program's name, if there is one: `compile` and `run` take `--waits` with 0 or 1 and then `--top` with
-/// a name, `check`, `map` and `drive` take `--top`, and `gen` takes a number from 1 to 8,192 in decimal without leading zeros. All other words are none.
+/// a name, `check`, `map`, `header` and `drive` take `--top`, and `gen` takes a number from 1 to 8,192 in decimal without leading zeros. All other words are none.
 pub fn command_of(words: &[String]) -> Option<Command<'_>>
     ensures { MatchOption result (AsksNothing (texts words.now)) (λ command. Asks (texts words.now) (view command)) }
 {

@@ -159,7 +159,7 @@ trigger-plain form.Intr place e None = refl
 trigger-plain form.Intr place e (Some g) = refl
 trigger-plain _ place e v = refl
 
-as_of : (f : Form) (n : Name) (trigger : Option Trigger) (v : Option Assigned) (place : Place) (s : Scope) → meaning_as f (plain_assignment (record { set_ = record { prop = n; trigger = edge; value = v; place = place }; scope = s })) ≡ plain_outcome (meaning_as f (record { set_ = record { prop = n; trigger = edge; value = v; place = place }; scope = s }))
+as_of : (f : Form) (n : Name) (trigger : Option Trigger) (v : Option Assigned) (place : Place) (s : Scope) → meaning_as f (plain_assignment (record { set_ = record { prop = n; trigger = trigger; value = v; place = place }; scope = s })) ≡ plain_outcome (meaning_as f (record { set_ = record { prop = n; trigger = trigger; value = v; place = place }; scope = s }))
 as_of f n None v place s = given-plain f s place v
 as_of f n (Some e) v place s = trigger-plain f place e v
 

@@ -1,14 +1,14 @@
--- What the answers to `compile`, `map` and `check` promise.
+-- What the answers to `compile`, `map`, `header` and `check` promise.
 use Rattle.std.proofs.Common.{◌≡◌, ◌⊎◌, ⊎_elim, ℕ, List, [], ◌∷◌, map, Option, subst}
 use Rattle.rb_edge.specs.Shelf.{Files, Holds}
 use Rattle.replies.specs.Verdict.{tree}
 use Rattle.replies.specs.declared.status.Status.{Status}
 use Rattle.replies.specs.declared.status.Status.TheVariants.{Done, Refused}
-use Rattle.command_line.specs.Words.{check, compile, map_of, waits_of, Asks}
+use Rattle.command_line.specs.Words.{check, compile, header_of, map_of, waits_of, Asks}
 use Rattle.replies.specs.Outcome.{AreRead, IsChecked, IsRefused, Texts, Judges, Outcome, files_of, source_limit}
 use Rattle.replies.specs.Ends.{Passage, TookAll, Ends}
 use Rattle.regblock.proofs.Asked.{asked}
-use Rattle.regblock.specs.Headline.{AreHeld, AreToldVerdicts, IsRight, IsTable, IsToldFailure}
+use Rattle.regblock.specs.Headline.{AreHeld, AreToldVerdicts, IsHeader, IsRight, IsTable, IsToldFailure}
 
 -- the line of a source's first failure
 module _ (contents : Option Files) (err out : Passage) (top : Option (List ℕ)) (file : List ℕ) (texts : Texts) where
@@ -32,6 +32,21 @@ module _ (contents : Option Files) (err out : Passage) (top : Option (List ℕ))
   unlisted [] read judged e o = absurd judged
   unlisted (source ∷ a ∷ more) read judged e o = absurd judged
   unlisted (source ∷ []) read judged e o = told source read.0.held judged e o
+
+  headed : (sources : List (List ℕ)) → AreRead contents (files_of (header_of top file)) sources → Judges (header_of top file) sources Done texts
+      → TookAll err texts.err → TookAll out texts.out → IsHeader contents top file err out
+  headed [] read judged e o = absurd judged
+  headed (source ∷ a ∷ more) read judged e o = absurd judged
+  headed (source ∷ []) read judged e o =
+      let P : List ℕ → Type 0 = λ t. TookAll err t in
+      let Q : List ℕ → Type 0 = λ t. TookAll out t in
+      record { source = source; tree = judged.tree; block = judged.block; held = read.0.held; described = judged.described; written = subst Q judged.text o; quiet = subst P judged.quiet e }
+
+  unheaded : (sources : List (List ℕ)) → AreRead contents (files_of (header_of top file)) sources → Judges (header_of top file) sources Refused texts
+      → TookAll err texts.err → TookAll out texts.out → IsToldFailure contents top file err out
+  unheaded [] read judged e o = absurd judged
+  unheaded (source ∷ a ∷ more) read judged e o = absurd judged
+  unheaded (source ∷ []) read judged e o = told source read.0.held judged e o
 
 module _ (contents : Option Files) (err out : Passage) (waits : Option ℕ) (top : Option (List ℕ)) (file : List ℕ) (texts : Texts) where
   compiled : (sources : List (List ℕ)) → AreRead contents (files_of (compile waits top file)) sources → Judges (compile waits top file) sources Done texts
@@ -99,6 +114,18 @@ module _ (words : List (List ℕ)) (contents : Option Files) (failed : List ℕ 
       let at = subst At is ends in
       let a = asked words contents failed (map_of top file) Refused at.0 asks at.1 in
       unlisted contents err out top file at.0 a.0 a.1 a.2 at.2 at.3
+
+  pub headered : (top : Option (List ℕ)) (file : List ℕ) → Asks words (header_of top file) → result ≡ Done → IsHeader contents top file err out
+  headered top file asks is =
+      let at = subst At is ends in
+      let a = asked words contents failed (header_of top file) Done at.0 asks at.1 in
+      headed contents err out top file at.0 a.0 a.1 a.2 at.2 at.3
+
+  pub not_headered : (top : Option (List ℕ)) (file : List ℕ) → Asks words (header_of top file) → result ≡ Refused → IsToldFailure contents top file err out
+  not_headered top file asks is =
+      let at = subst At is ends in
+      let a = asked words contents failed (header_of top file) Refused at.0 asks at.1 in
+      unheaded contents err out top file at.0 a.0 a.1 a.2 at.2 at.3
 
   checked_at : (top : Option (List ℕ)) (files : List (List ℕ)) (status : Status) → (status ≡ Done) ⊎ (status ≡ Refused) → Asks words (check top files) → At status → AreToldVerdicts contents top files err out
   checked_at top files Done h asks at =

@@ -14,7 +14,7 @@ use Rattle.command_line.specs.Source.{source_of}
 use Rattle.replies.specs.Verdict.{BreaksNone, IsDescribedWith}
 use Rattle.replies.specs.declared.status.Status.{Status}
 use Rattle.replies.specs.declared.status.Status.TheVariants.{Done, NoMemory, Unmet}
-use Rattle.command_line.specs.Words.{Command, check, compile, map_of, sim, vcd, pins_of, run_of, drive_of, gen_of, waits_of, Asks}
+use Rattle.command_line.specs.Words.{Command, check, compile, map_of, header_of, sim, vcd, pins_of, run_of, drive_of, gen_of, waits_of, Asks}
 use Rattle.replies.specs.Outcome.{files_of}
 use Rattle.replies.specs.Ends.{Passage}
 
@@ -45,6 +45,7 @@ abbrev pub AreFit : Command → Files → Type 0
 AreFit (compile waits top file) files = IsFit top files file
 AreFit (check top names) files = All (IsFit top files) names
 AreFit (map_of top file) files = IsFit top files file
+AreFit (header_of top file) files = IsFit top files file
 AreFit (sim file table) files = (verilog stimulus : List ℕ) → files file ≡ Some verilog → files table ≡ Some stimulus → IsFitTable verilog stimulus
 AreFit (vcd file table) files = (verilog stimulus : List ℕ) → files file ≡ Some verilog → files table ≡ Some stimulus → IsFitTable verilog stimulus
 AreFit (pins_of file) files = (text : List ℕ) → files file ≡ Some text → (pins : List Pin) × (rows : List (List ℕ)) × IsTable text pins rows

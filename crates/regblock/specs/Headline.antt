@@ -1,7 +1,8 @@
--- What the answers to `compile`, `map` and `check` promise.
+-- What the answers to `compile`, `map`, `header` and `check` promise.
 use Rattle.std.specs.Prelude.{ℕ, List, [], ◌∷◌, Option, ⊤}
 use Rattle.rb_base.specs.declared.place.Place.{Place}
 use Rattle.rdl_base.specs.declared.rule.Rule.{Rule}
+use Rattle.c_header.specs.Header.{header}
 use Rattle.rb_edge.specs.Shelf.{Files, Holds}
 use Rattle.rb_model.specs.declared.block.Block.{Block}
 use Rattle.rb_model.specs.Agreement.{Agrees}
@@ -47,6 +48,16 @@ pub record IsTable (contents : Option Files) (top : Option (List ℕ)) (file : L
   pub held : Holds contents file source
   pub described : IsDescribedWith top source tree 0 block
   pub written : TookAll out (address_lines block)
+  pub quiet : TookAll err []
+
+-- Done by `header`: the source breaks no rule, and what was written is the C header of the block that it describes.
+pub record IsHeader (contents : Option Files) (top : Option (List ℕ)) (file : List ℕ) (err out : Passage) : Type 0 where
+  pub source : List ℕ
+  pub tree : Source
+  pub block : Block
+  pub held : Holds contents file source
+  pub described : IsDescribedWith top source tree 0 block
+  pub written : TookAll out (header block)
   pub quiet : TookAll err []
 
 -- each file holds its source

@@ -1,11 +1,6 @@
 -- What is told of a dump.
 use Rattle.std.specs.Option.{option_copied}
-use Rattle.std.proofs.Common.{◌≡◌, ℕ, zero, suc, ◌+◌, ◌<◌, List, [], ◌∷◌, ◌++◌, codes, length, take, map, get_or, slice_get, slice_index_or, Option, None, Some, Bor, refl, ap, sym, ◌∙◌, subst, arith, append_assoc, append-nil}
-use Rattle.std.specs.List.{flat_map}
-use Rattle.std.proofs.lemmas.Grind.{flat_map-append}
-use Rattle.std.proofs.lemmas.List.{take_more}
-use Rattle.rb_base.specs.declared.ports.Pin.{Pin}
-use Rattle.report_text.specs.Printed.{line, cell, printed_run}
+use Rattle.std.proofs.Common.{◌≡◌, ℕ, zero, suc, List, [], ◌∷◌, ◌++◌, codes, slice_get, slice_index_or, Option, None, Some, Bor, refl, ap, sym, ◌∙◌, subst}
 use Rattle.verdict_text.specs.Lines.{at_place, file_line}
 use Rattle.vcd_syntax.specs.Tokens.{Token}
 use Rattle.vcd_syntax.specs.Meaning.{names}
@@ -50,13 +45,3 @@ placed file text (Time p) told other e = e
 placed file text (Many p) told other e = e
 placed file text (NoValue i) told other e = absurd (other i refl)
 placed file text NoMemory told other e = e
-
--- a row more
-pub printed_more : (ps : List Pin) (rows : List (List ℕ)) (at : ℕ) → at < length rows → printed_run ps (take at rows) ++ line (map cell (get_or rows at [])) ≡ printed_run ps (take (at + 1) rows)
-printed_more ps rows at l =
-    let head = line (map (λ p. p.name) ps) in
-    let row = get_or rows at [] in
-    let all : flat_map (λ r. line (map cell r)) (take at rows ++ row ∷ []) ≡ flat_map (λ r. line (map cell r)) (take at rows) ++ line (map cell row) =
-    flat_map-append (λ r. line (map cell r)) (take at rows) (row ∷ []) ∙ ap (λ z. flat_map (λ r. line (map cell r)) (take at rows) ++ z) (append-nil (line (map cell row))) in
-    append_assoc head (flat_map (λ r. line (map cell r)) (take at rows)) (line (map cell row))
-    ∙ (ap (λ z. head ++ z) (sym all) ∙ ap (λ z. head ++ flat_map (λ r. line (map cell r)) z) (sym (take_more rows at [] l)))

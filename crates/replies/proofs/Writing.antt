@@ -6,11 +6,13 @@ use Rattle.rb_edge.proofs.Taken.{Takes-nil}
 use Rattle.v_printer.specs.Layout.{text_of}
 use Rattle.v_printer.specs.TextOf.{IsTextOf}
 use Rattle.rtl_net.specs.Net.{Net}
+use Rattle.report_text.specs.Printed.{printed_run}
+use Rattle.vcd_reader.specs.Tables.{Table as Waves}
 use Rattle.wave_run.specs.Ready.{IsDumpOf}
 use Rattle.wave_run.specs.declared.wave_run.WaveRun.{WaveRun}
 use Rattle.replies.specs.declared.answer.Answer.{Answer}
 use Rattle.replies.specs.declared.answer.Reply.{Reply}
-use Rattle.replies.specs.declared.answer.Reply.TheVariants.{Text, Module, Dump}
+use Rattle.replies.specs.declared.answer.Reply.TheVariants.{Text, Module, Dump, Table}
 use Rattle.replies.specs.declared.status.Status.{Status}
 use Rattle.replies.specs.declared.status.Status.TheVariants.{Done, WriteFault}
 use Rattle.replies.specs.Outcome.{Texts}
@@ -39,3 +41,9 @@ module-whole err out reply net e is q t = subst (λ r. IsWritten err out r Done)
 
 pub module-cut : (err out : Passage) (reply : Reply) (net : Net) → reply ≡ Module net → IsTextOf net (text_of net) → TookAll err [] → TakesPart out.old out.new (text_of net) → Rose out.before out.after → IsWritten err out reply WriteFault
 module-cut err out reply net e is q t rose = subst (λ r. IsWritten err out r WriteFault) (sym e) ([], is, inr (refl, inr (q, (t, rose))))
+
+pub table-whole : (err out : Passage) (reply : Reply) (waves : Waves) → reply ≡ Table waves → TookAll err [] → TookAll out (printed_run waves.pins waves.rows) → IsWritten err out reply Done
+table-whole err out reply waves e q t = subst (λ r. IsWritten err out r Done) (sym e) ([], tt, inl (refl, q, t))
+
+pub table-cut : (err out : Passage) (reply : Reply) (waves : Waves) → reply ≡ Table waves → TookAll err [] → TakesPart out.old out.new (printed_run waves.pins waves.rows) → Rose out.before out.after → IsWritten err out reply WriteFault
+table-cut err out reply waves e q t rose = subst (λ r. IsWritten err out r WriteFault) (sym e) ([], tt, inr (refl, inr (q, (t, rose))))

@@ -10,8 +10,9 @@ use Rattle.rdl_base.specs.declared.fault.Fault.{Fault}
 use Rattle.rdl_tree.specs.declared.item.Source.{Source}
 use Rattle.rdl_verdict.specs.Verdict.{IsVerdict}
 use Rattle.report_text.specs.Lines.{address_lines}
+use Rattle.c_header.specs.Header.{header}
 use Rattle.verdict_text.specs.Lines.{ok_line, rule_line, verdict_lines}
-use Rattle.command_line.specs.Words.{Command, check, compile, map_of, sim, vcd, pins_of, run_of, drive_of, gen_of, waits_of, Asks, AsksNothing}
+use Rattle.command_line.specs.Words.{Command, check, compile, map_of, header_of, sim, vcd, pins_of, run_of, drive_of, gen_of, waits_of, Asks, AsksNothing}
 use Rattle.replies.specs.declared.status.Status.{Status}
 use Rattle.replies.specs.declared.status.Status.TheVariants.{Done, Refused, Usage, ReadFault, TooLong, BadVerilog, BadStimulus, Protocol, BadVcd, BadScript, Unmet}
 use Rattle.replies.specs.Text.{cannot_read, too_long, verilog_line, stimulus_line, protocol_line, script_line, IsVcdLine, usage}
@@ -63,6 +64,7 @@ abbrev pub files_of : Command → List (List ℕ × ℕ)
 files_of (compile waits top source) = (source, source_limit) ∷ []
 files_of (check top sources) = map (λ source. (source, source_limit)) sources
 files_of (map_of top source) = (source, source_limit) ∷ []
+files_of (header_of top source) = (source, source_limit) ∷ []
 files_of (sim verilog stimulus) = (verilog, verilog_limit) ∷ (stimulus, source_limit) ∷ []
 files_of (vcd verilog stimulus) = (verilog, verilog_limit) ∷ (stimulus, source_limit) ∷ []
 files_of (pins_of waves) = (waves, waves_limit) ∷ []
@@ -100,6 +102,14 @@ pub record IsMapped (top : Option (List ℕ)) (source : List ℕ) (texts : Texts
   pub block : Block
   pub described : IsDescribedWith top source tree 0 block
   pub table : texts.out ≡ address_lines block
+  pub quiet : texts.err ≡ []
+
+-- the source breaks no rule, and on out is the C header of the block that it describes
+pub record IsHeaded (top : Option (List ℕ)) (source : List ℕ) (texts : Texts) : Type 0 where
+  pub tree : Source
+  pub block : Block
+  pub described : IsDescribedWith top source tree 0 block
+  pub text : texts.out ≡ header block
   pub quiet : texts.err ≡ []
 
 -- on err is the line of the first rule that the source breaks
@@ -250,6 +260,8 @@ Judges (compile waits top file) (source ∷ []) Done texts = IsCompiled (waits_o
 Judges (compile waits top file) (source ∷ []) Refused texts = IsRefused top file source texts
 Judges (map_of top file) (source ∷ []) Done texts = IsMapped top source texts
 Judges (map_of top file) (source ∷ []) Refused texts = IsRefused top file source texts
+Judges (header_of top file) (source ∷ []) Done texts = IsHeaded top source texts
+Judges (header_of top file) (source ∷ []) Refused texts = IsRefused top file source texts
 Judges (check top files) sources status texts = IsChecked top files sources status texts
 Judges (sim file table) (verilog ∷ stimulus ∷ []) Done texts = IsSimulation verilog stimulus texts
 Judges (sim file table) (verilog ∷ stimulus ∷ []) BadVerilog texts = IsBadVerilog file verilog texts

@@ -1,4 +1,4 @@
-//! What a command line is answered: a status, a text for err, and a text, a netlist or a run for out.
+//! What a command line is answered: a status, a text for err, and a text, a netlist, a run or a table for out.
 
 ghost use Rattle.std.specs.Prelude.{◌≡◌, ◌⊎◌, ℕ, List, [], IfOk};
 ghost use Rattle.verdict_text.specs.Lines.{file_line};
@@ -11,7 +11,9 @@ use rb_edge::{Failed, Sink, write_all};
 use rtl_net::Netlist;
 use std::alloc::Global;
 use v_printer::print;
+use vcd_reader::Waves;
 use wave_run::WaveRun;
+use wave_table::write_table;
 
 /// What a run is to write, and how it is to end.
 #[derive(Drop)]
@@ -21,12 +23,13 @@ pub struct Answer {
     pub(crate) out: Vec<u8>,
 }
 
-/// An answer, or the netlist whose module or the run whose dump is to stand on out, written as it is printed.
+/// An answer, or the netlist whose module, the run whose dump or the waves whose table is to stand on out, written as it is printed.
 #[derive(Drop)]
 pub enum Reply {
     Text(Answer),
     Module(Netlist),
     Dump(WaveRun),
+    Table(Waves),
 }
 
 ghost use Rattle.replies.specs.Answer.{texts_of};
@@ -110,6 +113,10 @@ impl Reply {
                 Err(Failed) => Status::WriteFault,
             },
             Reply::Dump(mut run) => match run.write(out) {
+                Ok(()) => Status::Done,
+                Err(Failed) => Status::WriteFault,
+            },
+            Reply::Table(waves) => match write_table(out, &waves) {
                 Ok(()) => Status::Done,
                 Err(Failed) => Status::WriteFault,
             },

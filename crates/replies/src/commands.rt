@@ -10,6 +10,7 @@ use crate::checking::check_files;
 use crate::compiling::{compile_file, map_file};
 use crate::driving::drive_files;
 use crate::generating::generate;
+use crate::heading::header_file;
 use crate::reading::read_file;
 use crate::running::run_files;
 use crate::simulating::simulate_files;
@@ -39,13 +40,16 @@ pub fn answer_words<S: Shelf>(
             Ok(Reply::Text(check_files(alloc, shelf, top, sources)?))
         }
         Some(Command::Map { top, source }) => Ok(Reply::Text(map_file(alloc, shelf, top, source)?)),
+        Some(Command::Header { top, source }) => {
+            Ok(Reply::Text(header_file(alloc, shelf, top, source)?))
+        }
         Some(Command::Sim { verilog, stimulus }) => {
             Ok(Reply::Text(simulate_files(alloc, shelf, verilog, stimulus)?))
         }
         Some(Command::Vcd { verilog, stimulus }) => {
             Ok(dump_files(alloc, shelf, verilog, stimulus)?)
         }
-        Some(Command::Pins { waves }) => Ok(Reply::Text(read_file(alloc, shelf, waves)?)),
+        Some(Command::Pins { waves }) => Ok(read_file(alloc, shelf, waves)?),
         Some(
             Command::Run {
                 waits,

@@ -1,4 +1,4 @@
-//! What a command line is answered: a status, and texts, a module or a run for the sinks. Files are read, and nothing is written yet.
+//! What a command line is answered: a status, and texts, a module, a run or waves for the sinks. Files are read, and nothing is written yet.
 #![tactic(auto)]
 
 mod answer;
@@ -8,6 +8,7 @@ mod compiling;
 mod describing;
 mod driving;
 mod generating;
+mod heading;
 mod loading;
 mod modules;
 mod places;

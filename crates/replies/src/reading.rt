@@ -2,7 +2,6 @@
 
 ghost use Rattle.std.specs.Prelude.{◌≡◌, ◌≤◌, ◌++◌, ◌∷◌, [], ℕ, List, codes, length, slice_index_or, IfOk};
 ghost use Rattle.verdict_text.specs.Lines.{at_place, file_line};
-ghost use Rattle.report_text.specs.Printed.{printed_run};
 ghost use Rattle.vcd_syntax.specs.Tokens.{Token};
 ghost use Rattle.vcd_syntax.specs.Meaning.{names};
 ghost use Rattle.vcd_syntax.specs.Reading.{Fails, IsSound};
@@ -11,16 +10,16 @@ ghost use Rattle.command_line.specs.Words.{pins_of};
 ghost use Rattle.replies.specs.Text.{vcd_kind as kind};
 ghost use Rattle.replies.specs.Outcome.{FailedRead, Judges, Answers, waves_limit};
 ghost use Rattle.replies.specs.Answer.{texts_of};
+ghost use Rattle.replies.specs.Reply.{HasText, IsPrintable, status_of, told_by};
 
-use crate::answer::{Answer, done, notice};
+use crate::answer::{Answer, Reply, notice};
 use crate::loading::{Loaded, WAVES_LIMIT, load_file};
 use crate::places::push_place;
 use crate::status::Status;
 use rb_base::{NoMemory, Place};
 use rb_edge::Shelf;
-use report_text::{push_names, push_numbers};
 use std::alloc::Global;
-use vcd_reader::{Waves, read, variable_name};
+use vcd_reader::{read, variable_name};
 use vcd_syntax::VcdError;
 
 // What an error is called.
@@ -110,32 +109,18 @@ fn bad_vcd(alloc: Global, file: &str, text: &[u8], error: VcdError) -> Result<An
     }
 }
 
-// A table as text: the names of its variables as a line, and a line of numbers for each time.
-fn table_text(alloc: Global, waves: &Waves) -> Result<Vec<u8>, NoMemory>
-    ensures { IfOk result (λ text. text.items ≡ printed_run waves.now.pins waves.now.rows) }
-{
-    let mut text = Vec::new(alloc);
-    push_names(&mut text, waves.pins())?;
-    for at in 0..waves.rows() {
-        push_numbers(&mut text, waves.row(at))?;
-    }
-    Ok(text)
-}
-
 // What the bytes of a dump give.
-fn read_bytes(alloc: Global, file: &str, text: &[u8]) -> Result<Answer, NoMemory>
+fn read_bytes(alloc: Global, file: &str, text: &[u8]) -> Result<Reply, NoMemory>
     requires { length text.now ≤ waves_limit }
-    ensures { IfOk result (λ answer. Judges (pins_of file.now) (text.now ∷ []) answer.status (texts_of answer)) }
+    ensures judged { IfOk result (λ reply. (dump : List ℕ) → HasText reply dump → Judges (pins_of file.now) (text.now ∷ []) (status_of reply) (told_by reply dump)) }
+    ensures printable { IfOk result IsPrintable }
 {
     match read(alloc, text) {
-        Ok(waves) => {
-            let table = table_text(alloc, &waves)?;
-            Ok(done(alloc, table))
-        }
+        Ok(waves) => Ok(Reply::Table(waves)),
         Err(VcdError::NoMemory) => Err(NoMemory),
         Err(error) => {
             let answer = bad_vcd(alloc, file, text, error)?;
-            Ok(answer)
+            Ok(Reply::Text(answer))
         }
     }
 }
@@ -145,16 +130,17 @@ pub(crate) fn read_file<S: Shelf>(
     alloc: Global,
     shelf: &mut S,
     file: &str,
-) -> Result<Answer, NoMemory>
-    ensures answers { IfOk result (λ answer. Answers (S.contents shelf.old) (FailedRead S.faults shelf.old shelf.new) (pins_of file.now) answer.status (texts_of answer)) }
+) -> Result<Reply, NoMemory>
+    ensures answers { IfOk result (λ reply. (dump : List ℕ) → HasText reply dump → Answers (S.contents shelf.old) (FailedRead S.faults shelf.old shelf.new) (pins_of file.now) (status_of reply) (told_by reply dump)) }
+    ensures printable { IfOk result IsPrintable }
     ensures unchanged { S.contents shelf.new ≡ S.contents shelf.old }
     ensures later { (any : List ℕ) → S.faults shelf.old any ≤ S.faults shelf.new any }
 {
     match load_file(alloc, shelf, file, WAVES_LIMIT)? {
         Loaded::Bytes(text) => {
-            let answer = read_bytes(alloc, file, &text)?;
-            Ok(answer)
+            let reply = read_bytes(alloc, file, &text)?;
+            Ok(reply)
         }
-        Loaded::Stopped(answer) => Ok(answer),
+        Loaded::Stopped(answer) => Ok(Reply::Text(answer)),
     }
 }

@@ -1,7 +1,7 @@
 use Rattle.replies.proofs.Rows.{Ends-written}
 use Rattle.regblock.proofs.CompleteRuns.{complete}
 use Rattle.regblock.proofs.Causes.{usage_cause, read_fault_cause, too_long_cause, write_fault_cause}
-use Rattle.regblock.proofs.Headlines.{checked, done, mapped, refused, unmapped}
+use Rattle.regblock.proofs.Headlines.{checked, done, headered, mapped, not_headered, refused, unmapped}
 use Rattle.v_reader.proofs.Verdicts.{no_module}
 use Rattle.regblock.proofs.Simulations.{simulated, bad_verilog, bad_stimulus}
 use Rattle.regblock.proofs.Waves.{bad_vcd, read_back, waved, waves_bad_stimulus, waves_bad_verilog}
@@ -62,6 +62,12 @@ returns-in-Ok-clause-mapped g c = mapped _ _ _ _ _ _ (returns-in-Ok-clause-ends 
 
 pub returns-in-Ok-clause-unmapped : goal.returns-in-Ok-clause-unmapped
 returns-in-Ok-clause-unmapped g c = unmapped _ _ _ _ _ _ (returns-in-Ok-clause-ends g c)
+
+pub returns-in-Ok-clause-headered : goal.returns-in-Ok-clause-headered
+returns-in-Ok-clause-headered g c = headered _ _ _ _ _ _ (returns-in-Ok-clause-ends g c)
+
+pub returns-in-Ok-clause-not_headered : goal.returns-in-Ok-clause-not_headered
+returns-in-Ok-clause-not_headered g c = not_headered _ _ _ _ _ _ (returns-in-Ok-clause-ends g c)
 
 pub returns-in-Ok-clause-checked : goal.returns-in-Ok-clause-checked
 returns-in-Ok-clause-checked g c = checked _ _ _ _ _ _ (returns-in-Ok-clause-ends g c)

@@ -2,16 +2,16 @@ use Rattle.std.proofs.Common.{ℕ, List, [], ◌∷◌, subst}
 use Rattle.command_line.specs.Words.{Command, pins_of}
 use Rattle.replies.specs.Loaded.{IsLoaded}
 use Rattle.replies.specs.Outcome.{Judges, FailedRead, waves_limit}
-use Rattle.replies.specs.Answer.{texts_of}
+use Rattle.replies.specs.Reply.{status_of, told_by}
 use Rattle.replies.proofs.Rows.{Answers-judged}
 use Rattle.replies.proofs.reading.read_file.Goals as goal
 
-pub returns-in_ok-answer-in-Bytes-clause-answers : goal.returns-in_ok-answer-in-Bytes-clause-answers
-returns-in_ok-answer-in-Bytes-clause-answers g c =
-    let answer = c.in_ok-answer-in-Bytes.answer in
+pub returns-in_ok-reply-in-Bytes-clause-answers : goal.returns-in_ok-reply-in-Bytes-clause-answers
+returns-in_ok-reply-in-Bytes-clause-answers g c = λ dump has.
+    let reply = c.in_ok-reply-in-Bytes.reply in
     let contents = g.S.Shelf.contents c.args.shelf.now in
     let failed = FailedRead g.S.Shelf.faults c.args.shelf.now c.load_file.new.shelf in
     let read = subst (λ l. IsLoaded contents failed c.args.file.now waves_limit l) c.in-Bytes.is c.in_ok-text.ensures.loaded in
     let command : Command = pins_of c.args.file.now in
-    let P : List ℕ → Type 0 = λ text. Judges command (text ∷ []) answer.status (texts_of answer) in
-    Answers-judged contents failed command (c.in-Bytes.text.items ∷ []) answer.status (texts_of answer) (read, tt) (subst P c.deref.ensures.value c.in_ok-answer-in-Bytes.ensures)
+    let P : List ℕ → Type 0 = λ text. Judges command (text ∷ []) (status_of reply) (told_by reply dump) in
+    Answers-judged contents failed command (c.in-Bytes.text.items ∷ []) (status_of reply) (told_by reply dump) (read, tt) (subst P c.deref.ensures.value (c.in_ok-reply-in-Bytes.ensures.judged dump has))
