@@ -17,11 +17,11 @@ use Rattle.drive_lang.specs.Lines.{words_of}
 use Rattle.drive_names.specs.declared.table.Meaning.{Meaning}
 use Rattle.drive_names.specs.Named.{meaning_of, named_pins, named_words}
 use Rattle.drive_names.proofs.Narrow.{IsNarrow, narrow}
-use Rattle.drive_orders.specs.declared.order.Order.{Order}
-use Rattle.drive_orders.specs.declared.order.Order.TheVariants.{Poke, Peek, Expect, Set, See, Wait, Reset}
-use Rattle.drive_orders.specs.declared.order.Line.{Line}
-use Rattle.drive_orders.specs.Steps.{Nothing, Step, access, held_after, in_reset, numbers_of, played, setup, step, steps_of, vectors_of}
-use Rattle.drive_orders.proofs.Passing.{length-steps_of}
+use Rattle.drive_lang.specs.declared.order.Order.{Order}
+use Rattle.drive_lang.specs.declared.order.Order.TheVariants.{Poke, Peek, Expect, Set, See, Wait, Reset}
+use Rattle.drive_lang.specs.declared.order.Line.{Line}
+use Rattle.drive_lang.specs.Steps.{Nothing, Step, access, held_after, in_reset, numbers_of, played, setup, step, steps_of, vectors_of}
+use Rattle.drive_lang.proofs.Passing.{length-steps_of}
 use Rattle.drive_lang.specs.declared.error.DriveError.TheVariants.{Many}
 use Rattle.drive_lang.specs.Orders.{Judged, order_of, spelled, within}
 use Rattle.drive_lang.proofs.Holding.{of_order}

@@ -6,8 +6,8 @@ use Rattle.std.proofs.lemmas.Bool.{cases_lt}
 use Rattle.std.proofs.lemmas.Bool.Decides.{nat_tests}
 use Rattle.std.proofs.lemmas.Cmp.{ranked}
 use Rattle.std.proofs.lemmas.Option.{slice_get-get_or}
-use Rattle.drive_orders.specs.declared.order.Order.TheVariants.{Wait}
-use Rattle.drive_orders.specs.declared.order.Line.{Line}
+use Rattle.drive_lang.specs.declared.order.Order.TheVariants.{Wait}
+use Rattle.drive_lang.specs.declared.order.Line.{Line}
 use Rattle.drive_lang.specs.Rising.{Rises, number_at, number_in}
 
 some_line : Line

@@ -4,9 +4,9 @@ use Rattle.rb_model.specs.declared.block.Block.{Block}
 use Rattle.stim_csv.specs.Numeral.{cell_value, fits, numeral_value}
 use Rattle.drive_names.specs.declared.table.Meaning.{Meaning}
 use Rattle.drive_names.specs.Named.{meaning_of, named_inputs, named_outputs, named_words}
-use Rattle.drive_orders.specs.declared.order.Order.{Order}
-use Rattle.drive_orders.specs.declared.order.Order.TheVariants.{Poke, Peek, Expect, Set, See, Wait, Reset}
-use Rattle.drive_orders.specs.Steps.{vectors_of}
+use Rattle.drive_lang.specs.declared.order.Order.{Order}
+use Rattle.drive_lang.specs.declared.order.Order.TheVariants.{Poke, Peek, Expect, Set, See, Wait, Reset}
+use Rattle.drive_lang.specs.Steps.{vectors_of}
 use Rattle.drive_lang.specs.declared.error.DriveError.TheVariants.{TooWide, Many}
 use Rattle.drive_lang.specs.declared.verb.Verb.{Verb}
 use Rattle.drive_lang.specs.declared.verb.Verb.TheVariants as verb

@@ -2,8 +2,10 @@ mod Counts
 mod Fitting
 mod Found
 pub mod Holding
+pub mod Keeping
 mod LineByLine
-mod Shape
 mod OneByOne
+pub mod Passing
+mod Shape
 mod Spelled
 mod Splitting

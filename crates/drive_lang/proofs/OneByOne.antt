@@ -4,9 +4,9 @@ use Rattle.std.proofs.lemmas.Bool.{cases_lt}
 use Rattle.std.proofs.lemmas.Bool.Decides.{nat_tests}
 use Rattle.std.proofs.lemmas.Option.{slice_get_within}
 use Rattle.rb_model.specs.declared.block.Block.{Block}
-use Rattle.drive_orders.specs.declared.order.Order.{Order}
-use Rattle.drive_orders.specs.declared.order.Line.{Line}
-use Rattle.drive_orders.specs.Steps.{Step, played, vectors_of}
+use Rattle.drive_lang.specs.declared.order.Order.{Order}
+use Rattle.drive_lang.specs.declared.order.Line.{Line}
+use Rattle.drive_lang.specs.Steps.{Step, played, vectors_of}
 use Rattle.drive_lang.specs.declared.error.DriveError.{DriveError}
 use Rattle.drive_lang.specs.declared.error.DriveError.TheVariants.{Many}
 use Rattle.drive_lang.specs.Lines.{lines_of, words_of}

@@ -7,10 +7,10 @@ use Rattle.rb_model.specs.Ports.{input_pins}
 use Rattle.drive_lang.specs.Lines.{words_of}
 use Rattle.drive_names.specs.declared.table.Meaning.{Meaning}
 use Rattle.drive_names.specs.Named.{meaning_of, named_pins}
-use Rattle.drive_orders.specs.declared.order.Order.{Order}
-use Rattle.drive_orders.specs.declared.order.Line.{Line}
-use Rattle.drive_orders.specs.Steps.{vectors_of}
-use Rattle.drive_orders.specs.Left.{are_held, is_held}
+use Rattle.drive_lang.specs.declared.order.Order.{Order}
+use Rattle.drive_lang.specs.declared.order.Line.{Line}
+use Rattle.drive_lang.specs.Steps.{vectors_of}
+use Rattle.drive_lang.specs.Left.{are_held, is_held}
 use Rattle.drive_lang.specs.Orders.{Judged, order_of}
 use Rattle.drive_lang.proofs.Holding.{of_order}
 use Rattle.drive_lang.specs.Rising.{Rises, number_at}

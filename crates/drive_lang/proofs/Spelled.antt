@@ -3,10 +3,10 @@ use Rattle.std.specs.List.{AllByRecursion}
 use Rattle.std.proofs.Common.{◌≡◌, ⊎_elim, ℕ, zero, suc, Some, List, [], ◌∷◌, Contains, replicate, slice_get, refl, ap, sym, ◌∙◌, arith}
 use Rattle.std.proofs.lemmas.List.Elements.{All-contains, All-from_recursion, Contains-append_cases}
 use Rattle.rb_model.specs.Protocol.{Bus, idle}
-use Rattle.drive_orders.specs.declared.order.Order.{Order}
-use Rattle.drive_orders.specs.declared.order.Order.TheVariants.{Poke, Peek, Expect, Set, See, Wait, Reset}
-use Rattle.drive_orders.specs.declared.order.Line.{Line}
-use Rattle.drive_orders.specs.Steps.{Nothing, Step, access, held_after, in_reset, played, setup, step, steps_of}
+use Rattle.drive_lang.specs.declared.order.Order.{Order}
+use Rattle.drive_lang.specs.declared.order.Order.TheVariants.{Poke, Peek, Expect, Set, See, Wait, Reset}
+use Rattle.drive_lang.specs.declared.order.Line.{Line}
+use Rattle.drive_lang.specs.Steps.{Nothing, Step, access, held_after, in_reset, played, setup, step, steps_of}
 use Rattle.drive_lang.specs.Playing.{AsksAs, IsSpelled, name_in}
 
 -- what a step asks for, this line asks for

@@ -1,9 +1,11 @@
 pub mod Answers
+pub mod Left
 pub mod Lines
 pub mod Meanings
 pub mod Orders
 pub mod Playing
 pub mod Rising
 pub mod Scripts
+pub mod Steps
 pub mod Verbs
 pub mod Words

@@ -2,8 +2,8 @@
 use Rattle.std.specs.Prelude.{◌≡◌, ◌+◌, ◌<◌, ℕ, zero, suc, Option, None, Some, Ok, Err, List, [], ◌∷◌, length, slice_get}
 use Rattle.std.specs.List.{enumerate_from, flat_map}
 use Rattle.rb_model.specs.declared.block.Block.{Block}
-use Rattle.drive_orders.specs.declared.order.Line.{Line}
-use Rattle.drive_orders.specs.Steps.{Step, played, vectors_of}
+use Rattle.drive_lang.specs.declared.order.Line.{Line}
+use Rattle.drive_lang.specs.Steps.{Step, played, vectors_of}
 use Rattle.drive_lang.specs.declared.error.DriveError.{DriveError}
 use Rattle.drive_lang.specs.declared.error.DriveError.TheVariants.{Many}
 use Rattle.drive_lang.specs.Lines.{lines_of, words_of}

@@ -1,12 +1,12 @@
 -- A script that is played.
 use Rattle.std.specs.Prelude.{◌≡◌, ℕ, ◌+◌, Option, None, Some, List, Contains, length, replicate}
-use Rattle.drive_orders.specs.declared.order.Order.{Order}
-use Rattle.drive_orders.specs.declared.order.Order.TheVariants.{Peek, Expect, See}
-use Rattle.drive_orders.specs.declared.order.Line.{Line}
-use Rattle.drive_orders.specs.declared.order.Turn.{Turn}
-use Rattle.drive_orders.specs.Steps.{Ask, Checks, Nothing, Shows, Step, played}
-use Rattle.drive_orders.specs.declared.position.Position.{Position}
-use Rattle.drive_orders.specs.Left.{Takes, left_of}
+use Rattle.drive_lang.specs.declared.order.Order.{Order}
+use Rattle.drive_lang.specs.declared.order.Order.TheVariants.{Peek, Expect, See}
+use Rattle.drive_lang.specs.declared.order.Line.{Line}
+use Rattle.drive_lang.specs.declared.order.Turn.{Turn}
+use Rattle.drive_lang.specs.Steps.{Ask, Checks, Nothing, Shows, Step, played}
+use Rattle.drive_lang.specs.declared.position.Position.{Position}
+use Rattle.drive_lang.specs.Left.{Takes, left_of}
 
 -- how many pins its vectors have, all its steps, and those that are left
 pub record Playing : Type 0 where

@@ -3,9 +3,9 @@ use Rattle.std.specs.Prelude.{ℕ, ◌+◌, ◌-◌, Result, Ok, Err, List, [], 
 use Rattle.rb_model.specs.declared.block.Block.{Block}
 use Rattle.rb_model.specs.Ports.{input_pins}
 use Rattle.drive_lang.specs.Lines.{lines_of, words_of}
-use Rattle.drive_orders.specs.declared.order.Order.{Order}
-use Rattle.drive_orders.specs.declared.order.Line.{Line}
-use Rattle.drive_orders.specs.Steps.{Step, played, vectors_of}
+use Rattle.drive_lang.specs.declared.order.Order.{Order}
+use Rattle.drive_lang.specs.declared.order.Line.{Line}
+use Rattle.drive_lang.specs.Steps.{Step, played, vectors_of}
 use Rattle.drive_lang.specs.Orders.{Judged, order_of}
 use Rattle.drive_lang.specs.declared.error.DriveError.{DriveError}
 

@@ -6,15 +6,16 @@ ghost use Rattle.drive_lang.specs.Words.{AreWords};
 ghost use Rattle.stim_csv.specs.Numeral.{cell_of, cell_value, numeral_value};
 ghost use Rattle.drive_names.specs.Names.{AreNamesOf};
 ghost use Rattle.drive_names.specs.Table.{meaning_in};
-ghost use Rattle.drive_orders.specs.Steps.{vectors_of};
+ghost use Rattle.drive_lang.specs.Steps.{vectors_of};
 ghost use Rattle.drive_lang.specs.Orders as orders;
 ghost use Rattle.drive_lang.specs.Answers.{Answers, counted_within, fitted};
 
 use crate::error::DriveError;
+use crate::order::Order;
+use crate::position::vectors_of as count_vectors;
 use crate::verb::{Verb, verb_of};
 use crate::words::Words;
 use drive_names::{Meaning, Names, Table};
-use drive_orders::{Order, vectors_of as count_vectors};
 use rb_base::{NoMemory, Text};
 use std::alloc::Global;
 use stim_csv::{Cell, cell, is_within};

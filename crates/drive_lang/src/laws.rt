@@ -2,7 +2,7 @@
 
 ghost use Rattle.std.specs.Prelude.{◌≡◌, ◌↔◌, ℕ, List, Ok, Err};
 ghost use Rattle.rb_model.specs.declared.block.Block.{Block};
-ghost use Rattle.drive_orders.specs.Steps.{Step};
+ghost use Rattle.drive_lang.specs.Steps.{Step};
 ghost use Rattle.drive_lang.specs.declared.error.DriveError as error;
 ghost use Rattle.drive_lang.specs.Meanings.{IsFirstError, IsScript};
 ghost use Rattle.drive_lang.specs.Scripts.{script_of};

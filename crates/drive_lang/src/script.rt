@@ -1,9 +1,11 @@
 //! A script of a block.
 
+use crate::advancing::advance;
 use crate::error::DriveError;
 use crate::names::name_at;
+use crate::order::{Line, Turn};
+use crate::position::Position;
 use crate::reading::lines_for;
-use drive_orders::{Line, Position, Turn, advance};
 use machine_run::pins_of;
 use rb_model::Block;
 use std::alloc::Global;
@@ -19,7 +21,7 @@ pub struct Script {
 
 impl Model for Script {
     ghost use Rattle.std.specs.Prelude.{◌≡◌, ◌≤◌, true, length};
-    ghost use Rattle.drive_orders.specs.Left.{are_held, vectors_at};
+    ghost use Rattle.drive_lang.specs.Left.{are_held, vectors_at};
     ghost use Rattle.drive_lang.specs.Playing.{Playing, playing};
     ghost use Rattle.drive_lang.specs.Rising.{Rises};
 

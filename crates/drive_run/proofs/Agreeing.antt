@@ -11,8 +11,8 @@ use Rattle.rb_model.specs.Sound.{IsSound}
 use Rattle.rb_model.proofs.ApbFront.{contain, within}
 use Rattle.rb_model.proofs.Runs.{one_run}
 use Rattle.sim_run.specs.Simulated as simulated
-use Rattle.drive_orders.specs.Steps.{Step, played}
-use Rattle.drive_orders.proofs.Keeping.{keeps}
+use Rattle.drive_lang.specs.Steps.{Step, played}
+use Rattle.drive_lang.proofs.Keeping.{keeps}
 use Rattle.drive_lang.specs.Scripts.{Lines, at_first, lines_from, most_vectors, script_of, steps_in}
 use Rattle.drive_lang.specs.Lines.{lines_of}
 use Rattle.machine_run.specs.Runs.{zeros}

@@ -10,10 +10,10 @@ use Rattle.rb_model.specs.Kept.{Kept, Map}
 use Rattle.rb_model.specs.Run.{ClockEdge, MachineRun}
 use Rattle.rb_machine.specs.Machines.{IsReady, held_map}
 use Rattle.rb_machine.specs.declared.machine.Machine.{Machine}
-use Rattle.drive_orders.specs.declared.order.Turn.{Turn}
-use Rattle.drive_orders.specs.declared.order.Turn.TheVariants.{End}
-use Rattle.drive_orders.specs.Steps.{Ask, Checks, Nothing, Shows, Step, turn_of}
-use Rattle.drive_orders.specs.Left.{Takes}
+use Rattle.drive_lang.specs.declared.order.Turn.{Turn}
+use Rattle.drive_lang.specs.declared.order.Turn.TheVariants.{End}
+use Rattle.drive_lang.specs.Steps.{Ask, Checks, Nothing, Shows, Step, turn_of}
+use Rattle.drive_lang.specs.Left.{Takes}
 use Rattle.drive_lang.specs.Playing.{GoesOn, Playing}
 use Rattle.drive_run.specs.Transcript.{Seen, checks_in, failed_in, is_check, is_failed, told}
 use Rattle.machine_run.specs.Runs.{zeros}

@@ -1,8 +1,8 @@
 -- What a turn asks, and what is told of it.
 use Rattle.std.proofs.Common.{◌≡◌, ℕ, false, ◌==◌, List, ◌++◌, Contains, codes, slice_index, refl, subst}
 use Rattle.report_text.specs.Printed.{cell}
-use Rattle.drive_orders.specs.declared.order.Turn.TheVariants.{Show, Check}
-use Rattle.drive_orders.specs.Steps.{Ask, Checks, Nothing, Shows, Step, turn_of}
+use Rattle.drive_lang.specs.declared.order.Turn.TheVariants.{Show, Check}
+use Rattle.drive_lang.specs.Steps.{Ask, Checks, Nothing, Shows, Step, turn_of}
 use Rattle.drive_lang.specs.Playing.{AsksAs, IsSpelled}
 use Rattle.drive_run.specs.Transcript.{of_line, told}
 

@@ -4,7 +4,7 @@ use Rattle.v_design.specs.Design.{Module}
 use Rattle.v_design.specs.Run.{Run}
 use Rattle.rb_model.specs.declared.block.Block.{Block}
 use Rattle.sim_run.specs.Simulated.{IsModule, zeros}
-use Rattle.drive_orders.specs.Steps.{Step}
+use Rattle.drive_lang.specs.Steps.{Step}
 use Rattle.drive_lang.specs.Scripts.{script_of}
 use Rattle.drive_run.specs.Transcript.{failed_in, transcript}
 

@@ -6,7 +6,7 @@ use Rattle.rb_model.specs.Ports.{input_pins}
 use Rattle.machine_run.specs.Runs.{output_pins, zeros}
 use Rattle.drive_lang.specs.Scripts.{script_of}
 use Rattle.rb_model.specs.Run.{MachineRun}
-use Rattle.drive_orders.specs.Steps.{Ask, Step}
+use Rattle.drive_lang.specs.Steps.{Ask, Step}
 use Rattle.drive_run.specs.Transcript.{failed_in, is_check, is_failed, transcript}
 use Rattle.drive_run.specs.declared.playing.Tally.{Tally}
 

@@ -2,7 +2,7 @@
 use Rattle.std.specs.Prelude.{ℕ, ◌==◌, Bool, true, false, not, if◌then◌else◌, List, [], ◌++◌, codes, count_by, decimal, slice_index, zip}
 use Rattle.std.specs.List.{flat_map}
 use Rattle.report_text.specs.Printed.{cell}
-use Rattle.drive_orders.specs.Steps.{Ask, Checks, Nothing, Shows, Step}
+use Rattle.drive_lang.specs.Steps.{Ask, Checks, Nothing, Shows, Step}
 
 -- a step, and the block's outputs at its vector
 abbrev pub Seen : Type 0

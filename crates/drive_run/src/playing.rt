@@ -4,7 +4,7 @@ ghost use Rattle.std.specs.Prelude.{◌≡◌, ◌≤◌, ◌<◌, ◌+◌, ◌+
 ghost use Rattle.v_design.specs.Fits.{AllFit};
 ghost use Rattle.rb_model.specs.Ports.{input_pins};
 ghost use Rattle.rb_model.specs.Sound.{IsSound};
-ghost use Rattle.drive_orders.specs.Steps.{Step, turn_of};
+ghost use Rattle.drive_lang.specs.Steps.{Step, turn_of};
 ghost use Rattle.drive_run.specs.Transcript.{told};
 ghost use Rattle.drive_run.specs.Playing.{IsTranscript, output_count, tallied};
 

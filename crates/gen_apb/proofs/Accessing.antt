@@ -13,8 +13,8 @@ use Rattle.rb_model.specs.Protocol.{bus_of}
 use Rattle.rb_model.specs.Run.{carries, is_access, is_unmapped, word_at}
 use Rattle.rb_model.specs.Sound.{IsSound}
 use Rattle.gen_decode.specs.declared.words.Decoded.{Decoded}
-use Rattle.gen_words.specs.Found.{FindsWord}
-use Rattle.gen_words.proofs.Finding.{written_as_read}
+use Rattle.gen_ports.specs.Found.{FindsWord}
+use Rattle.gen_ports.proofs.Finding.{written_as_read}
 use Rattle.gen_apb.specs.declared.access.Request.{Request}
 use Rattle.gen_apb.specs.declared.pins.BusPins.{BusPins}
 use Rattle.gen_apb.specs.Accesses.{HasAddress, IsCarried}

@@ -19,7 +19,7 @@ use Rattle.rb_model.specs.Run.{apb}
 use Rattle.rb_model.specs.Sound.{IsSound}
 use Rattle.rb_model.proofs.ApbFront.{apb_pins, contain, contained}
 use Rattle.rb_model.proofs.InputPins.{output_pins_are}
-use Rattle.gen_text.specs.Netlist.{IsNetlistOf}
+use Rattle.gen_front.specs.Netlist.{IsNetlistOf}
 use Rattle.gen_core.specs.Ties.{outlet_pin}
 use Rattle.gen_front.specs.Edges.{EdgesAre}
 use Rattle.gen_front.proofs.Elements.{in_either, in_left, in_right}

@@ -17,8 +17,8 @@ use Rattle.rb_model.specs.Run.{word_at}
 use Rattle.rb_model.specs.Sound.{IsSound}
 use Rattle.axi_model.specs.Channels.{access, can_read, reads, word_of, writes}
 use Rattle.gen_decode.specs.declared.words.Decoded.{Decoded}
-use Rattle.gen_words.specs.Found.{FindsWord}
-use Rattle.gen_words.proofs.Finding.{written_as_read}
+use Rattle.gen_ports.specs.Found.{FindsWord}
+use Rattle.gen_ports.proofs.Finding.{written_as_read}
 use Rattle.gen_scene.specs.declared.base.Inlet.{Inlet}
 use Rattle.gen_channels.specs.declared.access.Request.{Request}
 use Rattle.gen_channels.specs.declared.acts.Acts.{Acts}

@@ -9,7 +9,7 @@ use Rattle.rb_model.specs.declared.block.Block.{Block}
 use Rattle.rb_model.specs.Run.{word_at}
 use Rattle.rb_model.specs.Sound.{IsSound}
 use Rattle.axi_model.specs.Channels.{read_response, reads, word_of, write_response, writes}
-use Rattle.gen_words.proofs.Finding.{written_as_read}
+use Rattle.gen_ports.proofs.Finding.{written_as_read}
 use Rattle.gen_channels.specs.Nodes.{kept_seen, pins_seen}
 use Rattle.gen_channels.specs.Slaves.{address_seen}
 use Rattle.gen_channels.proofs.Says.{one_is}

@@ -13,7 +13,7 @@ use crate::acts::Acts;
 use crate::kept::ChannelNodes;
 use crate::pins::ChannelPins;
 use gen_scene::Inlet;
-use gen_words::word_node;
+use gen_ports::word_node;
 use net_gates::{both, choose, either, placed, slice};
 use rb_base::NoMemory;
 use rb_model::Block;

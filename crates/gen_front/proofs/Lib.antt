@@ -1,3 +1,4 @@
+pub mod Agreeing
 pub mod Elements
 pub mod Filling
 pub mod Names

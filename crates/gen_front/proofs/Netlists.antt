@@ -12,7 +12,7 @@ use Rattle.rtl_net.specs.declared.node.Seat.{Seat}
 use Rattle.rb_model.specs.Front.{Front, front_inputs, front_outputs, pins_at, register_pins}
 use Rattle.rb_model.proofs.Apart.{Apart}
 use Rattle.rb_model.proofs.InputPins.{inputs_apart}
-use Rattle.gen_text.specs.Netlist.{IsNetlistOf}
+use Rattle.gen_front.specs.Netlist.{IsNetlistOf}
 use Rattle.gen_ports.specs.Laid.{AreSeatsOf}
 use Rattle.gen_ports.proofs.Laying.{names_of, port_names}
 use Rattle.gen_core.specs.Ties.{SeatsTaken}

@@ -1,2 +1,6 @@
-//! That a netlist laid out with the ports of a block behind a bus, each edge of which is one of its machine's, is a netlist of that.
+//! What every front of a block shares: its module's text, its netlist behind a bus, and the laws that its runs and its text agree with its machine.
 #![tactic(auto)]
+
+mod laws;
+
+pub use laws::text_agrees;

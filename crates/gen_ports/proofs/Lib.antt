@@ -1,2 +1,6 @@
+mod Driving
+pub mod Finding
 pub mod Laying
 pub mod Portals
+mod Rowing
+mod Showing

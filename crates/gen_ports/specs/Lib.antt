@@ -1,1 +1,4 @@
+pub mod Found
 pub mod Laid
+pub mod Registers
+pub mod Shows

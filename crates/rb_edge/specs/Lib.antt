@@ -1,5 +1,6 @@
 pub mod Count
 pub mod CountSink
+pub mod Flows
 pub mod Lookup
 pub mod MemShelf
 pub mod MemSink

@@ -24,7 +24,7 @@ use Rattle.rdl_refs.specs.Leads.{led_to}
 use Rattle.rdl_rules.specs.Phase5.{failures5, fails5}
 use Rattle.rdl_rules.specs.Phase6.{failures6, fails6}
 use Rattle.rdl_verdict.specs.Verdict.{tree_phases}
-use Rattle.rdl_worked.proofs.BlockSources.{one_register}
+use Rattle.rdl_verdict_laws.proofs.BlockSources.{one_register}
 
 none_in : (xs : List Fault) (f : Fault) → xs ≡ [] → Contains xs f → ⊥
 none_in xs f e c = let d = subst (λ ys. Contains ys f) e c in omega (arith, d.1)

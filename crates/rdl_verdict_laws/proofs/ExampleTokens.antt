@@ -9,7 +9,7 @@ use Rattle.rdl_tree.specs.declared.token.Token.{Token}
 use Rattle.rdl_tree.specs.declared.token.TokenKind.{TokenKind}
 use Rattle.rdl_tree.specs.declared.token.TokenKind.TheVariants as kinds
 use Rattle.rdl_tree.specs.Tokens.{spelling}
-use Rattle.rdl_worked.proofs.Trees.{lend, at}
+use Rattle.rdl_verdict_laws.proofs.WorkedTrees.{lend, at}
 
 -- addrmap one { reg { field { sw=rw; hw=r; } f[32] = 32'h5; } a @0x0; };
 abbrev token : TokenKind → List ℕ → ℕ → Token

@@ -19,7 +19,7 @@ use Rattle.rdl_tree.specs.declared.token.Terminal.TheVariants as terminals
 use Rattle.rdl_tree.specs.Grammar.{grammar}
 use Rattle.rdl_tree.specs.Tokens.{is}
 use Rattle.rdl_tree.specs.Tree as tree
-use Rattle.rdl_worked.proofs.Trees.{lend, at, name, word, assign, inst, insts_of, component}
+use Rattle.rdl_verdict_laws.proofs.WorkedTrees.{lend, at, name, word, assign, inst, insts_of, component}
 use Rattle.rdl_verdict_laws.proofs.ExampleTokens.{mark, word_token, tokens, at_reg, at_field, at_sw, at_hw, behind_hw, at_f, behind_field, at_a, behind_reg, behind_map}
 
 took : (a : Terminal) (t : Token) (us : List Token) → IsTrue (is a t) → Takes grammar a (t ∷ us) t us

@@ -3,7 +3,7 @@ use Rattle.std.proofs.Common.{ℕ, None, List, [], ◌∷◌, refl}
 use Rattle.rdl_parser.specs.Verdicts.{Reads}
 use Rattle.rdl_verdict.specs.Verdict.{IsVerdict, tree}
 use Rattle.rdl_verdict_laws.specs.Example.{first_example}
-use Rattle.rdl_worked.proofs.BlockSources.{one_register}
+use Rattle.rdl_verdict_laws.proofs.BlockSources.{one_register}
 use Rattle.rdl_verdict_laws.proofs.ExampleTokens.{tokens}
 use Rattle.rdl_verdict_laws.proofs.ExampleTree.{items_read}
 use Rattle.rdl_verdict_laws.proofs.ExampleDepth.{tokens_within}

@@ -5,7 +5,7 @@ use Rattle.std.proofs.lemmas.List.Elements.{recursion_from_All}
 use Rattle.std.proofs.Common.{◌≡◌, ◌⊎◌, ⊎_elim, inl, inr, ℕ, true, ◌&&◌, cond, List, [], ◌∷◌, Contains, length, map, Option, None, Some, Ok, Err, refl, sym, ◌∙◌, ap, subst, arith}
 use Rattle.rb_base.specs.declared.ports.Pin.{Pin}
 use Rattle.vcd_syntax.specs.Reading.{IsTable}
-use Rattle.vcd_laws.proofs.Answered.{no_error}
+use Rattle.vcd_syntax.proofs.Answered.{no_error}
 use Rattle.rb_edge.specs.Count.{Rose}
 use Rattle.rb_edge.specs.Shelf.{Files, IsLonger}
 use Rattle.replies.specs.declared.status.Status.{Status}

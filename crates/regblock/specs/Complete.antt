@@ -8,7 +8,7 @@ use Rattle.vcd_syntax.specs.Reading.{IsTable}
 use Rattle.rb_model.specs.declared.block.Block.{Block}
 use Rattle.rdl_tree.specs.declared.item.Source.{Source}
 use Rattle.machine_run.specs.Runs.{IsFitFor}
-use Rattle.drive_orders.specs.Steps.{Step}
+use Rattle.drive_lang.specs.Steps.{Step}
 use Rattle.drive_lang.specs.Scripts.{script_of}
 use Rattle.command_line.specs.Source.{source_of}
 use Rattle.replies.specs.Verdict.{BreaksNone, IsDescribedWith}

@@ -8,7 +8,7 @@ ghost use Rattle.v_printer.specs.Layout.{text_of};
 ghost use Rattle.v_printer.specs.TextOf.{IsTextOf, IsWhole};
 
 use gen_apb::apb;
-use gen_text::text_agrees;
+use gen_front::text_agrees;
 use rb_base::NoMemory;
 use rb_model::Block;
 use rtl_net::Netlist;

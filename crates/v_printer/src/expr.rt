@@ -4,11 +4,10 @@ ghost use Rattle.std.specs.Prelude.{◌≡◌, ◌<◌, ◌≤◌, ◌++◌, len
 ghost use Rattle.rtl_net.specs.Net.{Has, CanWire, width_in};
 ghost use Rattle.v_printer.specs.Module.{node_name, wire_name, selected, term_of};
 ghost use Rattle.v_printer.specs.Layout.{term_text, constant_text};
-ghost use Rattle.rb_page.specs.Flows.{Flows};
+ghost use Rattle.rb_edge.specs.Flows.{Flows};
 
 use crate::write::{put, put_decimal, put_hex};
-use rb_edge::{Failed, Sink};
-use rb_page::Page;
+use rb_edge::{Failed, Page, Sink};
 use rtl_net::{Id, NetExpr, NetNode, Netlist};
 
 /// Writes the name of the wire of a number.

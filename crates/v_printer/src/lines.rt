@@ -9,13 +9,12 @@ ghost use Rattle.v_printer.specs.Module.{numbered, wire_name, node_name, block, 
 ghost use Rattle.v_printer.specs.Layout.{term_text, stmt_text, line_text, section_text, negation_text, event_text, test_text, reset_value_text, next_text};
 ghost use Rattle.v_design.specs.Tree.{edge_word};
 ghost use Rattle.v_printer.specs.declared.section.Section.TheVariants as sections;
-ghost use Rattle.rb_page.specs.Flows.{Flows};
+ghost use Rattle.rb_edge.specs.Flows.{Flows};
 
 use crate::expr::{put_constant, put_expr, put_name, put_wire_name};
 use crate::section::Section;
 use crate::write::{put, put_decimal};
-use rb_edge::{Failed, Sink};
-use rb_page::Page;
+use rb_edge::{Failed, Page, Sink};
 use rtl_net::{Id, NetExpr, NetNode, NetReset, Netlist};
 
 /// Writes the range of a net of a width in bits, and nothing where it is 1.

@@ -10,14 +10,13 @@ ghost use Rattle.v_design.specs.Header.{port_text, ports_text, header};
 ghost use Rattle.v_printer.specs.Module.{numbered, node_name, ports, port_of, side_of};
 ghost use Rattle.v_printer.specs.Layout.{port_line, shown_text, text_of};
 ghost use Rattle.v_printer.specs.TextOf.{IsWhole, IsTextOf};
-ghost use Rattle.rb_page.specs.Flows.{Flows};
+ghost use Rattle.rb_edge.specs.Flows.{Flows};
 
 use crate::expr::put_name;
 use crate::lines::{put_range, put_section};
 use crate::section::Section;
 use crate::write::put;
-use rb_edge::{Failed, Sink};
-use rb_page::Page;
+use rb_edge::{Failed, Page, Sink};
 use rtl_net::{Id, Netlist, Occupant, Seat};
 
 /// The word of a port's side.

@@ -2,12 +2,11 @@
 
 ghost use Rattle.std.specs.Prelude.{false};
 ghost use Rattle.std.specs.Fmt.{digits};
-ghost use Rattle.rb_page.specs.Flows.{Flows};
+ghost use Rattle.rb_edge.specs.Flows.{Flows};
 
 use itoa::{Buffer, Integer};
 use rb_base::hex_digits;
-use rb_edge::{Failed, Sink};
-use rb_page::Page;
+use rb_edge::{Failed, Page, Sink};
 
 /// Writes the bytes.
 pub(crate) fn put<K: Sink>(page: &mut Page, out: &mut K, bytes: &[u8]) -> Result<(), Failed>

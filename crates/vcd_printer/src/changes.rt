@@ -4,7 +4,7 @@ ghost use Rattle.std.specs.Option.{option_copied};
 ghost use Rattle.std.specs.Prelude.{◌≡◌, ◌*◌, ◌^◌, ◌<◌, ◌≢◌, ◌≤◌, ◌==◌, ◌++◌, ◌∷◌, ◌↔◌, [], if◌then◌else◌, codes, length, Some, IfSome, IsNone, OnOk, OnErr};
 ghost use Rattle.rb_edge.specs.Count.{Rose};
 ghost use Rattle.rb_edge.specs.Sink.{Takes, TakesPart};
-ghost use Rattle.rb_page.specs.Flows.{Flows};
+ghost use Rattle.rb_edge.specs.Flows.{Flows};
 ghost use Rattle.v_design.specs.Fits.{FitsPins};
 ghost use Rattle.vcd_syntax.specs.Dump.{all_lines, change_line, changed_lines, end, line_text, lines_text, time_line, vector_text};
 
@@ -12,8 +12,7 @@ use crate::digits::{binary_digits, code_digits};
 use crate::write::put_all;
 use itoa::Buffer;
 use rb_base::Pin;
-use rb_edge::{Failed, Sink};
-use rb_page::Page;
+use rb_edge::{Failed, Page, Sink};
 
 /// Writes the value of one bit of the pin of a number.
 fn put_bit<K: Sink>(page: &mut Page, out: &mut K, number: u64, value: u128) -> Result<(), Failed>

@@ -5,15 +5,14 @@ ghost use Rattle.std.specs.Prelude.{◌≡◌, ◌^◌, ◌<◌, ◌≤◌, ◌+
 ghost use Rattle.std.specs.List.{enumerate_from};
 ghost use Rattle.rb_edge.specs.Count.{Rose};
 ghost use Rattle.rb_edge.specs.Sink.{Takes, TakesPart};
-ghost use Rattle.rb_page.specs.Flows.{Flows};
+ghost use Rattle.rb_edge.specs.Flows.{Flows};
 ghost use Rattle.vcd_syntax.specs.Dump.{end, head_text, line_text, lines_text, range_words, var_line};
 
 use crate::digits::code_digits;
 use crate::write::put_all;
 use itoa::Buffer;
 use rb_base::Pin;
-use rb_edge::{Failed, Sink};
-use rb_page::Page;
+use rb_edge::{Failed, Page, Sink};
 
 /// Writes what stands behind the name in the declaration of a pin of this width in bits.
 fn put_range<K: Sink>(page: &mut Page, out: &mut K, width: u8) -> Result<(), Failed>

@@ -1,10 +1,9 @@
 //! Pieces of lines, put behind those that wait on a page.
 
 ghost use Rattle.std.specs.Prelude.{flat_map};
-ghost use Rattle.rb_page.specs.Flows.{Flows};
+ghost use Rattle.rb_edge.specs.Flows.{Flows};
 
-use rb_edge::{Failed, Sink};
-use rb_page::Page;
+use rb_edge::{Failed, Page, Sink};
 
 /// Writes pieces, one behind the other.
 pub(crate) fn put_all<K: Sink>(page: &mut Page, out: &mut K, pieces: &[&[u8]]) -> Result<(), Failed>

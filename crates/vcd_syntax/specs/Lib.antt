@@ -1,11 +1,12 @@
 pub mod Dump
+pub mod Dumped
 pub mod Exits
 pub mod Faulty
 pub mod Grammar
 pub mod Known
-pub mod Tokens
 pub mod Meaning
 pub mod Numbers
 pub mod Reading
 pub mod Reads
+pub mod Tokens
 pub mod Words

@@ -6,8 +6,8 @@ use Rattle.std.proofs.lemmas.Bool.Decides.{nat_tests}
 use Rattle.std.proofs.lemmas.Nat.{pow_pos}
 use Rattle.rb_base.specs.declared.ports.Pin.{Pin}
 use Rattle.rb_edge.specs.Sink.{Told, Takes, TakesPart}
-use Rattle.rb_page.specs.Flows.{Flows}
-use Rattle.rb_page.proofs.Flowing.{whole_of, part_of}
+use Rattle.rb_edge.specs.Flows.{Flows}
+use Rattle.rb_edge.proofs.Flowing.{whole_of, part_of}
 use Rattle.v_design.specs.Expr.{Values}
 use Rattle.v_design.specs.Design.{Module, module_of, inputs, outputs, registers}
 use Rattle.v_design.specs.Run.{Edge, Run, values_at}

@@ -1,7 +1,7 @@
 //! A run, written an edge at a time.
 
 ghost use Rattle.std.specs.Prelude.{◌≡◌, ◌≤◌, ◌++◌, ℕ, List, length};
-ghost use Rattle.rb_page.specs.Flows.{Flows};
+ghost use Rattle.rb_edge.specs.Flows.{Flows};
 ghost use Rattle.v_design.specs.Design.{inputs, registers};
 ghost use Rattle.v_design.specs.Seen.{module_seen};
 ghost use Rattle.v_design.specs.Run.{values_at};
@@ -14,8 +14,7 @@ ghost use Rattle.wave_run.specs.Dumped.{run_pins, IsDump};
 use crate::edges::{step_onto, values_before};
 use cyc_sim::Sim;
 use rb_base::Pin;
-use rb_edge::{Failed, Sink};
-use rb_page::Page;
+use rb_edge::{Failed, Page, Sink};
 use stim_csv::Stimulus;
 use v_design::Design;
 use vcd_printer::{put_head, put_vector};

@@ -1,13 +1,12 @@
 //! Lines of cells, put on a page.
 
 ghost use Rattle.std.specs.Prelude.{◌≡◌, ◌<◌, ◌++◌, [], codes, length, map, slice_index_or};
-ghost use Rattle.rb_page.specs.Flows.{Flows};
+ghost use Rattle.rb_edge.specs.Flows.{Flows};
 ghost use Rattle.report_text.specs.Printed.{cell, joined, line};
 ghost use Rattle.wave_table.specs.Pieces.{comma};
 
 use rb_base::{Pin, hex_digits};
-use rb_edge::{Failed, Sink};
-use rb_page::Page;
+use rb_edge::{Failed, Page, Sink};
 use vcd_reader::Waves;
 
 // What stands before a cell of a number, counted from 0.

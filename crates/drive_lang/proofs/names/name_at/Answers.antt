@@ -1,6 +1,6 @@
 use Rattle.std.proofs.Common.{◌≡◌, [], Some, slice_get, unwrap_or, ap, sym, subst, ◌∙◌}
 use Rattle.std.proofs.lemmas.Option.{slice_get_within}
-use Rattle.drive_orders.specs.declared.order.Line.{Line}
+use Rattle.drive_lang.specs.declared.order.Line.{Line}
 use Rattle.drive_lang.specs.Playing.{name_in}
 use Rattle.drive_lang.specs.Rising.{number_in}
 use Rattle.drive_lang.proofs.Found.{got, one_place}

@@ -1,6 +1,6 @@
 use Rattle.std.proofs.Common.{codes, ◌++◌}
 use Rattle.std.specs.Fmt.{decimal}
-use Rattle.rb_page.proofs.Flowing.{and_then, stopped}
+use Rattle.rb_edge.proofs.Flowing.{and_then, stopped}
 use Rattle.v_printer.proofs.expr.put_bits.Goals as goal
 
 pub returns-in_err-put : goal.returns-in_err-put

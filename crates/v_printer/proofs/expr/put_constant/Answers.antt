@@ -1,6 +1,6 @@
 use Rattle.std.proofs.Common.{codes, ◌++◌, false}
 use Rattle.std.specs.Fmt.{digits}
-use Rattle.rb_page.proofs.Flowing.{and_then, stopped}
+use Rattle.rb_edge.proofs.Flowing.{and_then, stopped}
 use Rattle.v_printer.proofs.expr.put_constant.Goals as goal
 
 pub returns-in_err-put_decimal : goal.returns-in_err-put_decimal

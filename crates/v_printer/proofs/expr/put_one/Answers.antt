@@ -1,5 +1,5 @@
 use Rattle.v_printer.specs.Module.{node_name}
-use Rattle.rb_page.proofs.Flowing.{and_then, stopped}
+use Rattle.rb_edge.proofs.Flowing.{and_then, stopped}
 use Rattle.v_printer.proofs.expr.put_one.Goals as goal
 
 pub returns-in_err-put : goal.returns-in_err-put

@@ -1,6 +1,6 @@
 use Rattle.std.proofs.Common.{codes, ◌++◌}
 use Rattle.v_printer.specs.Layout.{constant_text}
-use Rattle.rb_page.proofs.Flowing.{and_then, stopped}
+use Rattle.rb_edge.proofs.Flowing.{and_then, stopped}
 use Rattle.v_printer.proofs.expr.put_only_bit.Goals as goal
 
 pub returns-in_err-put_name : goal.returns-in_err-put_name

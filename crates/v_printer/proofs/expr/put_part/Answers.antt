@@ -2,7 +2,7 @@ use Rattle.std.proofs.Common.{◌≡◌, ◌∙◌, sym}
 use Rattle.rtl_net.specs.Net.{width_in}
 use Rattle.v_printer.specs.Module.{node_name}
 use Rattle.v_printer.proofs.Choices.{only_bit_is, bit_is, bits_are, part_is, bits_text}
-use Rattle.rb_page.proofs.Flowing.{and_then, stopped, of_bytes}
+use Rattle.rb_edge.proofs.Flowing.{and_then, stopped, of_bytes}
 use Rattle.v_printer.proofs.expr.put_part.Goals as goal
 
 pub returns-then-width-eq1 : goal.returns-then-width-eq1

@@ -1,6 +1,6 @@
 use Rattle.std.proofs.Common.{codes, ◌++◌}
 use Rattle.v_printer.specs.Module.{node_name}
-use Rattle.rb_page.proofs.Flowing.{and_then, stopped}
+use Rattle.rb_edge.proofs.Flowing.{and_then, stopped}
 use Rattle.v_printer.proofs.expr.put_pick.Goals as goal
 
 pub returns-in_err-put_name : goal.returns-in_err-put_name

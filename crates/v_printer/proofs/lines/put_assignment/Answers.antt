@@ -1,7 +1,7 @@
 use Rattle.std.proofs.Common.{codes, ◌++◌}
 use Rattle.v_printer.specs.Layout.{term_text}
 use Rattle.v_printer.specs.Module.{term_of, wire_name}
-use Rattle.rb_page.proofs.Flowing.{and_then, stopped}
+use Rattle.rb_edge.proofs.Flowing.{and_then, stopped}
 use Rattle.v_printer.proofs.lines.put_assignment.Goals as goal
 
 pub returns-in_err-put : goal.returns-in_err-put

@@ -2,7 +2,7 @@ use Rattle.std.proofs.Common.{◌++◌}
 use Rattle.v_printer.specs.Module.{node_name}
 use Rattle.v_printer.specs.Layout.{reset_value_text, next_text}
 use Rattle.v_printer.proofs.Choices.{block_is}
-use Rattle.rb_page.proofs.Flowing.{and_then, stopped, of_bytes}
+use Rattle.rb_edge.proofs.Flowing.{and_then, stopped, of_bytes}
 use Rattle.v_printer.proofs.lines.put_block.Goals as goal
 
 pub returns-in_err-put_reset-in-Async : goal.returns-in_err-put_reset-in-Async

@@ -1,7 +1,7 @@
 use Rattle.std.proofs.Common.{codes, ◌++◌}
 use Rattle.v_design.specs.Tree.{edge_word}
 use Rattle.v_printer.specs.Module.{node_name}
-use Rattle.rb_page.proofs.Flowing.{and_then, stopped, of_bytes}
+use Rattle.rb_edge.proofs.Flowing.{and_then, stopped, of_bytes}
 use Rattle.v_printer.proofs.lines.put_event.Goals as goal
 
 pub returns-in_err-put : goal.returns-in_err-put

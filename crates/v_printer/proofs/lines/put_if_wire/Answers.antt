@@ -1,5 +1,5 @@
 use Rattle.v_printer.proofs.Choices.{wire_line}
-use Rattle.rb_page.proofs.Flowing.{of_bytes}
+use Rattle.rb_edge.proofs.Flowing.{of_bytes}
 use Rattle.v_printer.proofs.lines.put_if_wire.Goals as goal
 
 pub returns-in-Wire : goal.returns-in-Wire

@@ -1,6 +1,6 @@
 use Rattle.v_printer.specs.Module.{node_name}
 use Rattle.v_printer.specs.Layout.{next_text}
-use Rattle.rb_page.proofs.Flowing.{and_then, stopped}
+use Rattle.rb_edge.proofs.Flowing.{and_then, stopped}
 use Rattle.v_printer.proofs.lines.put_plain_block.Goals as goal
 
 pub returns-in_err-put : goal.returns-in_err-put

@@ -1,7 +1,7 @@
 use Rattle.std.specs.Fmt.{decimal}
 use Rattle.std.proofs.Common.{◌-◌, ◌++◌, codes}
 use Rattle.v_printer.proofs.Choices.{range_is}
-use Rattle.rb_page.proofs.Flowing.{and_then, stopped, of_bytes}
+use Rattle.rb_edge.proofs.Flowing.{and_then, stopped, of_bytes}
 use Rattle.v_printer.proofs.lines.put_range.Goals as goal
 
 pub returns-in_err-put : goal.returns-in_err-put

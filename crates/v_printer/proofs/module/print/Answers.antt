@@ -1,5 +1,5 @@
 use Rattle.std.proofs.Common.{◌<◌, ◌^◌, length, subst}
-use Rattle.rb_page.proofs.Flowing.{sent, cut_short, whole_of, part_of, rose_of}
+use Rattle.rb_edge.proofs.Flowing.{sent, cut_short, whole_of, part_of, rose_of}
 use Rattle.v_printer.proofs.Whole.{text_of_net}
 use Rattle.v_printer.proofs.module.print.Goals as goal
 

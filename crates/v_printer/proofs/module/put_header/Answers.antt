@@ -1,7 +1,7 @@
 use Rattle.std.proofs.Common.{codes, ◌++◌}
 use Rattle.v_design.specs.Header.{ports_text}
 use Rattle.v_printer.specs.Module.{ports}
-use Rattle.rb_page.proofs.Flowing.{and_then, stopped, of_bytes}
+use Rattle.rb_edge.proofs.Flowing.{and_then, stopped, of_bytes}
 use Rattle.v_printer.proofs.module.put_header.Goals as goal
 
 pub returns-in_err-put : goal.returns-in_err-put

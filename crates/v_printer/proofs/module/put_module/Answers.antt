@@ -2,7 +2,7 @@ use Rattle.std.proofs.Common.{codes, ◌++◌}
 use Rattle.v_printer.specs.Layout.{text_of, section_text, shown_text}
 use Rattle.v_printer.specs.Module.{numbered}
 use Rattle.v_printer.specs.declared.section.Section.TheVariants.{Assignments, Blocks, Registers, Wires}
-use Rattle.rb_page.proofs.Flowing.{and_then, stopped}
+use Rattle.rb_edge.proofs.Flowing.{and_then, stopped}
 use Rattle.v_printer.proofs.module.put_module.Goals as goal
 
 pub returns-in_err-put_header : goal.returns-in_err-put_header

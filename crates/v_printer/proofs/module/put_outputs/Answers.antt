@@ -1,7 +1,7 @@
 use Rattle.std.proofs.Common.{◌≡◌, slice_get, Some, length, ap, arith}
 use Rattle.rtl_net.proofs.Places.{read_at}
 use Rattle.v_printer.specs.Layout.{shown_text}
-use Rattle.rb_page.proofs.Flowing.{and_then, stopped, nothing, of_bytes}
+use Rattle.rb_edge.proofs.Flowing.{and_then, stopped, nothing, of_bytes}
 use Rattle.v_printer.proofs.Sections.{more_lines, lines_left, all_lines, last_lines}
 use Rattle.v_printer.proofs.module.put_outputs.Goals as goal
 

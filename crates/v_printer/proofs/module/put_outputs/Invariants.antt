@@ -2,7 +2,7 @@ use Rattle.std.proofs.Common.{take, Ok}
 use Rattle.rb_edge.specs.declared.sink.Failed.{Failed}
 use Rattle.v_printer.specs.Module.{numbered}
 use Rattle.v_printer.specs.Layout.{shown_text}
-use Rattle.rb_page.specs.Flows.{Flows}
+use Rattle.rb_edge.specs.Flows.{Flows}
 use Rattle.v_printer.proofs.module.put_outputs.Given as goal
 
 abbrev pub invariant-loop-at : goal.invariant-loop-at

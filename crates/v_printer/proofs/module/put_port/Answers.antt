@@ -2,7 +2,7 @@ use Rattle.std.proofs.Common.{codes, ◌++◌}
 use Rattle.v_design.specs.Tree.{dir_word}
 use Rattle.v_design.specs.Header.{range_text}
 use Rattle.v_printer.specs.Module.{side_of}
-use Rattle.rb_page.proofs.Flowing.{and_then, stopped, of_bytes}
+use Rattle.rb_edge.proofs.Flowing.{and_then, stopped, of_bytes}
 use Rattle.v_printer.proofs.module.put_port.Goals as goal
 
 pub returns-in_err-put : goal.returns-in_err-put

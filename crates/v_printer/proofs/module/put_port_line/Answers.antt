@@ -1,5 +1,5 @@
 use Rattle.std.proofs.Common.{codes, if◌then◌else◌}
-use Rattle.rb_page.proofs.Flowing.{and_then, stopped, of_bytes}
+use Rattle.rb_edge.proofs.Flowing.{and_then, stopped, of_bytes}
 use Rattle.v_printer.proofs.module.put_port_line.Goals as goal
 
 pub returns-in_err-put_seat : goal.returns-in_err-put_seat

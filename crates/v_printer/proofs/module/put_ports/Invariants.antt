@@ -2,7 +2,7 @@ use Rattle.std.proofs.Common.{take, Ok, length}
 use Rattle.rb_edge.specs.declared.sink.Failed.{Failed}
 use Rattle.v_printer.specs.Module.{numbered}
 use Rattle.v_printer.specs.Layout.{port_line}
-use Rattle.rb_page.specs.Flows.{Flows}
+use Rattle.rb_edge.specs.Flows.{Flows}
 use Rattle.v_printer.proofs.module.put_ports.Given as goal
 
 abbrev pub invariant-loop-at : goal.invariant-loop-at

@@ -1,6 +1,6 @@
 use Rattle.std.specs.List.{enumerate_from, zip}
 use Rattle.std.proofs.Common.{ℕ, ◌<◌, ◌≤◌, get_or, length, ◌∙◌, arith}
-use Rattle.rb_page.proofs.Flowing.{and_then, stopped, nothing, of_bytes}
+use Rattle.rb_edge.proofs.Flowing.{and_then, stopped, nothing, of_bytes}
 use Rattle.plain_lemmas.proofs.Lists.{get-at}
 use Rattle.vcd_printer.proofs.Each.{read, more, left, all, last, numbered, numbered_length, paired}
 use Rattle.vcd_printer.proofs.Lines.{changed_text, changed_from}

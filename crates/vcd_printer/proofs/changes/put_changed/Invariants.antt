@@ -1,7 +1,7 @@
 use Rattle.std.specs.List.{enumerate_from, flat_map, zip}
 use Rattle.std.proofs.Common.{take, Ok}
 use Rattle.rb_edge.specs.declared.sink.Failed.{Failed}
-use Rattle.rb_page.specs.Flows.{Flows}
+use Rattle.rb_edge.specs.Flows.{Flows}
 use Rattle.vcd_printer.proofs.Lines.{changed_text}
 use Rattle.vcd_printer.proofs.changes.put_changed.Given as goal
 

@@ -1,5 +1,5 @@
 use Rattle.std.proofs.Common.{codes, ◌++◌}
-use Rattle.rb_page.proofs.Flowing.{and_then, stopped, of_bytes}
+use Rattle.rb_edge.proofs.Flowing.{and_then, stopped, of_bytes}
 use Rattle.vcd_syntax.specs.Dump.{all_lines, lines_text}
 use Rattle.vcd_printer.proofs.Lines.{first_is}
 use Rattle.vcd_printer.proofs.changes.put_first.Goals as goal

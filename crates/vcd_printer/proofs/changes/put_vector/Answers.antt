@@ -1,6 +1,6 @@
 use Rattle.std.specs.Option.{option_copied}
 use Rattle.std.proofs.Common.{sym, ap}
-use Rattle.rb_page.proofs.Flowing.{and_then, stopped, of_bytes}
+use Rattle.rb_edge.proofs.Flowing.{and_then, stopped, of_bytes}
 use Rattle.vcd_syntax.specs.Dump.{vector_text}
 use Rattle.vcd_printer.proofs.Lines.{values_text, vector_is}
 use Rattle.vcd_printer.proofs.changes.put_vector.Goals as goal

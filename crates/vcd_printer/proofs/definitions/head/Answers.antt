@@ -1,4 +1,4 @@
-use Rattle.rb_page.proofs.Flowing.{sent, cut_short, whole_of, part_of, rose_of}
+use Rattle.rb_edge.proofs.Flowing.{sent, cut_short, whole_of, part_of, rose_of}
 use Rattle.vcd_printer.proofs.definitions.head.Goals as goal
 
 pub returns-in_err-put_head-clause-whole : goal.returns-in_err-put_head-clause-whole

@@ -1,6 +1,6 @@
 use Rattle.std.specs.List.{enumerate_from}
 use Rattle.std.proofs.Common.{◌++◌, map}
-use Rattle.rb_page.proofs.Flowing.{and_then, stopped, of_bytes}
+use Rattle.rb_edge.proofs.Flowing.{and_then, stopped, of_bytes}
 use Rattle.vcd_syntax.specs.Dump.{lines_text, var_line}
 use Rattle.vcd_printer.proofs.Lines.{head_is, opened, closing}
 use Rattle.vcd_printer.proofs.definitions.put_head.Goals as goal

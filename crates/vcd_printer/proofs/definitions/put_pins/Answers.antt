@@ -1,6 +1,6 @@
 use Rattle.std.specs.List.{enumerate_from}
 use Rattle.std.proofs.Common.{◌≡◌, slice_get, Some, ◌∙◌, arith}
-use Rattle.rb_page.proofs.Flowing.{and_then, stopped, nothing, of_bytes}
+use Rattle.rb_edge.proofs.Flowing.{and_then, stopped, nothing, of_bytes}
 use Rattle.vcd_printer.proofs.Each.{read, more, left, all, last, numbered, numbered_length}
 use Rattle.vcd_printer.proofs.Lines.{var_lines, var_text_of}
 use Rattle.vcd_printer.proofs.definitions.put_pins.Goals as goal

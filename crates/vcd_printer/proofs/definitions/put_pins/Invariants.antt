@@ -1,7 +1,7 @@
 use Rattle.std.specs.List.{enumerate_from, flat_map}
 use Rattle.std.proofs.Common.{take, Ok}
 use Rattle.rb_edge.specs.declared.sink.Failed.{Failed}
-use Rattle.rb_page.specs.Flows.{Flows}
+use Rattle.rb_edge.specs.Flows.{Flows}
 use Rattle.vcd_syntax.specs.Dump.{line_text, var_line}
 use Rattle.vcd_printer.proofs.definitions.put_pins.Given as goal
 

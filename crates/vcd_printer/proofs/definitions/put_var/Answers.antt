@@ -1,6 +1,6 @@
 use Rattle.std.specs.Fmt.{decimal}
 use Rattle.std.proofs.Common.{◌≡◌, [], ◌∷◌, ◌++◌, take, ap, ◌∙◌}
-use Rattle.rb_page.proofs.Flowing.{and_then, stopped, of_bytes}
+use Rattle.rb_edge.proofs.Flowing.{and_then, stopped, of_bytes}
 use Rattle.vcd_syntax.specs.Dump.{end, code, range_words}
 use Rattle.vcd_printer.proofs.Lines.{behind, var_text, front}
 use Rattle.vcd_printer.proofs.definitions.put_var.Goals as goal

@@ -1,5 +1,5 @@
 use Rattle.std.proofs.Common.{ℕ, List, [], get_or, Bor}
-use Rattle.rb_page.proofs.Flowing.{and_then, stopped, nothing, of_bytes}
+use Rattle.rb_edge.proofs.Flowing.{and_then, stopped, nothing, of_bytes}
 use Rattle.plain_lemmas.proofs.Lists.{get-at}
 use Rattle.vcd_printer.proofs.Each.{more, left, all, last}
 use Rattle.vcd_printer.proofs.write.put_all.Goals as goal

@@ -1,6 +1,6 @@
 use Rattle.std.proofs.Common.{flat_map, take, Ok}
 use Rattle.rb_edge.specs.declared.sink.Failed.{Failed}
-use Rattle.rb_page.specs.Flows.{Flows}
+use Rattle.rb_edge.specs.Flows.{Flows}
 use Rattle.vcd_printer.proofs.write.put_all.Given as goal
 
 abbrev pub invariant-loop-piece : goal.invariant-loop-piece

@@ -1,6 +1,6 @@
 use Rattle.std.specs.Option.{option_copied}
 use Rattle.std.proofs.Common.{◌≡◌, ℕ, ◌+◌, ◌<◌, ◌≤◌, List, [], ◌++◌, Option, IfSome, length, get_or, ap, sym, ◌∙◌, subst, arith, length-append}
-use Rattle.rb_page.proofs.Flowing.{and_then, stopped, of_bytes}
+use Rattle.rb_edge.proofs.Flowing.{and_then, stopped, of_bytes}
 use Rattle.v_design.specs.Design.{inputs, outputs}
 use Rattle.v_design.specs.Seen.{module_seen}
 use Rattle.v_design.specs.Fits.{FitsPins}

@@ -1,6 +1,6 @@
 use Rattle.std.proofs.Common.{ℕ, List, Ok}
 use Rattle.rb_edge.specs.declared.sink.Failed.{Failed}
-use Rattle.rb_page.specs.Flows.{Flows}
+use Rattle.rb_edge.specs.Flows.{Flows}
 use Rattle.v_design.specs.Seen.{module_seen}
 use Rattle.wave_run.proofs.Waves.{Writes}
 use Rattle.wave_run.proofs.writing.put_run.Given as goal

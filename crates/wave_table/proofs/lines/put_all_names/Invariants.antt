@@ -1,6 +1,6 @@
 use Rattle.std.proofs.Common.{ℕ, List, Ok, map}
 use Rattle.rb_edge.specs.declared.sink.Failed.{Failed}
-use Rattle.rb_page.specs.Flows.{Flows}
+use Rattle.rb_edge.specs.Flows.{Flows}
 use Rattle.wave_table.proofs.Commas.{IsFront}
 use Rattle.wave_table.proofs.lines.put_all_names.Given as goal
 

@@ -1,6 +1,6 @@
 use Rattle.std.proofs.Common.{◌<◌, ◌≤◌, [], length, map, get_or, ap, arith}
 use Rattle.std.proofs.lemmas.List.{length-map}
-use Rattle.rb_page.proofs.Flowing.{and_then, stopped, nothing, of_bytes}
+use Rattle.rb_edge.proofs.Flowing.{and_then, stopped, nothing, of_bytes}
 use Rattle.report_text.specs.Printed.{cell}
 use Rattle.wave_table.proofs.Commas.{at_front, one_more, with_rest, rest, whole, item}
 use Rattle.wave_table.proofs.lines.put_all_values.Goals as goal

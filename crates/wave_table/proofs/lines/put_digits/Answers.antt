@@ -1,5 +1,5 @@
 use Rattle.std.proofs.Common.{codes, append_assoc}
-use Rattle.rb_page.proofs.Flowing.{and_then, stopped, of_bytes}
+use Rattle.rb_edge.proofs.Flowing.{and_then, stopped, of_bytes}
 use Rattle.wave_table.specs.Pieces.{comma}
 use Rattle.wave_table.proofs.lines.put_digits.Goals as goal
 

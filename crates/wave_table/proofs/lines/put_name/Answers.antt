@@ -1,4 +1,4 @@
-use Rattle.rb_page.proofs.Flowing.{and_then, stopped, of_bytes}
+use Rattle.rb_edge.proofs.Flowing.{and_then, stopped, of_bytes}
 use Rattle.wave_table.proofs.lines.put_name.Goals as goal
 
 pub returns-in_err-put : goal.returns-in_err-put

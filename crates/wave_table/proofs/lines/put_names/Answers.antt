@@ -1,5 +1,5 @@
 use Rattle.std.proofs.Common.{codes}
-use Rattle.rb_page.proofs.Flowing.{and_then, stopped}
+use Rattle.rb_edge.proofs.Flowing.{and_then, stopped}
 use Rattle.wave_table.proofs.lines.put_names.Goals as goal
 
 pub returns-in_err-put_all_names : goal.returns-in_err-put_all_names

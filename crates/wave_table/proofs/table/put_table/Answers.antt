@@ -1,7 +1,7 @@
 use Rattle.std.specs.List.{flat_map}
 use Rattle.std.proofs.Common.{◌<◌, ◌≤◌, ◌++◌, length, map, ap, sym, ◌∙◌, arith, append-nil}
 use Rattle.std.proofs.lemmas.List.{take_all}
-use Rattle.rb_page.proofs.Flowing.{and_then, stopped, of_bytes}
+use Rattle.rb_edge.proofs.Flowing.{and_then, stopped, of_bytes}
 use Rattle.report_text.specs.Printed.{line, printed_run}
 use Rattle.wave_table.proofs.Commas.{row_more, row_with_rest, rows_left, row_text}
 use Rattle.wave_table.proofs.table.put_table.Goals as goal

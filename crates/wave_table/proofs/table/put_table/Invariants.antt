@@ -1,6 +1,6 @@
 use Rattle.std.proofs.Common.{Ok, take}
 use Rattle.rb_edge.specs.declared.sink.Failed.{Failed}
-use Rattle.rb_page.specs.Flows.{Flows}
+use Rattle.rb_edge.specs.Flows.{Flows}
 use Rattle.report_text.specs.Printed.{printed_run}
 use Rattle.wave_table.proofs.table.put_table.Given as goal
 

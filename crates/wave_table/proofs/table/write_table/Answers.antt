@@ -1,4 +1,4 @@
-use Rattle.rb_page.proofs.Flowing.{sent, cut_short, whole_of, part_of, rose_of}
+use Rattle.rb_edge.proofs.Flowing.{sent, cut_short, whole_of, part_of, rose_of}
 use Rattle.wave_table.proofs.table.write_table.Goals as goal
 
 pub returns-in_err-put_table-clause-whole : goal.returns-in_err-put_table-clause-whole

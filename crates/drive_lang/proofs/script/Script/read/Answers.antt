@@ -2,8 +2,8 @@ use Rattle.std.proofs.Common.{◌≡◌, Ok, drop, length, replicate, ap, sym, s
 use Rattle.std.proofs.lemmas.List.{length-drop}
 use Rattle.rb_model.specs.Ports.{input_pins}
 use Rattle.drive_lang.specs.Lines.{lines_of}
-use Rattle.drive_orders.specs.Steps.{played}
-use Rattle.drive_orders.specs.Left.{are_held}
+use Rattle.drive_lang.specs.Steps.{played}
+use Rattle.drive_lang.specs.Left.{are_held}
 use Rattle.drive_lang.specs.Scripts.{most_vectors, steps_in}
 use Rattle.v_design.specs.Fits.{FitsPins}
 use Rattle.drive_lang.proofs.Fitting.{few, fit, zeros_fit}

@@ -1,4 +1,4 @@
-use Rattle.rb_page.proofs.Flowing.{sent, cut_short, whole_of, part_of, rose_of}
+use Rattle.rb_edge.proofs.Flowing.{sent, cut_short, whole_of, part_of, rose_of}
 use Rattle.wave_run.proofs.Waves.{told_of}
 use Rattle.wave_run.proofs.wave_run.WaveRun.write.Goals as goal
 

@@ -1,3 +1,0 @@
-mod Driving
-mod Rowing
-mod Showing

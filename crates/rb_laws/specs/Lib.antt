@@ -1,4 +1,0 @@
-pub mod Counting
-pub mod Quiet
-pub mod Ready
-pub mod Words

@@ -1,5 +1,0 @@
-use Rattle.vcd_laws.proofs.OfModules.{module_read_back}
-use Rattle.vcd_laws.proofs.laws.modules_are_read_back.Goals as goal
-
-pub returns : goal.returns
-returns c verilog t ps rows tree formed = module_read_back verilog t tree formed ps rows

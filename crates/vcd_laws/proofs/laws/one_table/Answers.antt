@@ -1,5 +1,0 @@
-use Rattle.vcd_syntax.proofs.OneAnswer.{one_table}
-use Rattle.vcd_laws.proofs.laws.one_table.Goals as goal
-
-pub returns : goal.returns
-returns c = one_table

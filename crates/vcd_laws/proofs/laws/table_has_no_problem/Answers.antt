@@ -1,5 +1,0 @@
-use Rattle.vcd_laws.proofs.Answered.{no_error}
-use Rattle.vcd_laws.proofs.laws.table_has_no_problem.Goals as goal
-
-pub returns : goal.returns
-returns c = no_error
