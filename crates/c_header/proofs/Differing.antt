@@ -20,11 +20,11 @@ use Rattle.c_header.specs.Laws.{Has, IsApart}
 use Rattle.c_header.specs.Macros.{Count, Macro, Number, Offset, Value, along, entry_macros, entry_name, from_macros, given, index_mark, macro, macros, part_macros, part_name, word_macros}
 use Rattle.c_header.specs.Names.{prefix}
 use Rattle.c_header.proofs.Capitals.{high, prefix-high}
-use Rattle.c_header.proofs.Keys.{IsMade, apart-by, each-by, entries-apart, entries-made, entry_key, get-mapped, map-flat}
+use Rattle.c_header.proofs.Keys.{IsMade, apart-by, each-by, entries-apart, entries-made, entry_key}
 use Rattle.c_header.proofs.LastWords.{decimal-lacks, lacks, last-split}
 use Rattle.c_header.proofs.Named.{last_name-lacks, same-part, same-word}
 use Rattle.plain_lemmas.proofs.Bools.{and-both_true, and-left, and-right}
-use Rattle.plain_lemmas.proofs.Lists.{cons-head, get-map_at, map-append}
+use Rattle.plain_lemmas.proofs.Lists.{cons-head, get-map_at, get-mapped, map-append, map-flat_map as map-flat}
 use Rattle.plain_lemmas.proofs.Numbers.{below-nat_lt}
 
 -- Last words.

@@ -19,7 +19,7 @@ use Rattle.v_design.specs.WellFormed.{distinct}
 use Rattle.c_header.specs.Laws.{Has, IsApart}
 use Rattle.c_header.specs.Macros.{array_mark, entry_path}
 use Rattle.plain_lemmas.proofs.Bools.{and-left}
-use Rattle.plain_lemmas.proofs.Lists.{bytes_eq-itself, bytes_eq-same, cons-head, cons-tail, get-map_at, length-map, map-append, nil-cons, some-at}
+use Rattle.plain_lemmas.proofs.Lists.{bytes_eq-itself, bytes_eq-same, cons-head, cons-tail, get-map_at, get-mapped, length-map, map-append, map-flat_map as map-flat, nil-cons, some-at}
 
 -- Lists
 
@@ -27,18 +27,9 @@ pub each-by : {X : Type 0} (P : X → Type 0) (xs : List X) → ((k : ℕ) (x : 
 each-by P [] h = tt
 each-by P (x ∷ xs) h = (h 0 x refl, each-by P xs (λ k y e. h (suc k) y e))
 
-pub get-mapped : {X Y : Type 0} (f : X → Y) (xs : List X) (k : ℕ) (y : Y) → slice_get (map f xs) k ≡ Some y → (x : X) × (slice_get xs k ≡ Some x) × (f x ≡ y)
-get-mapped f [] k y e = cc e
-get-mapped f (x ∷ xs) zero y e = let same : f x ≡ y = cc e in (x, refl, same)
-get-mapped f (x ∷ xs) (suc k) y e = get-mapped f xs k y e
-
 pub each-mapped : {X : Type 0} (f : X → List ℕ) (P : List ℕ → Type 0) (xs : List X) → Each P (map f xs) → Each (λ x. P (f x)) xs
 each-mapped f P [] h = tt
 each-mapped f P (x ∷ xs) h = (h.0, each-mapped f P xs h.1)
-
-pub map-flat : {X Y Z : Type 0} (g : Y → Z) (f : X → List Y) (xs : List X) → map g (flat_map f xs) ≡ flat_map (λ x. map g (f x)) xs
-map-flat g f [] = refl
-map-flat g f (x ∷ xs) = map-append g (f x) (flat_map f xs) ∙ ap (λ ys. map g (f x) ++ ys) (map-flat g f xs)
 
 pub apart-by : (ns : List (List ℕ)) → ((j k : ℕ) (n : List ℕ) → slice_get ns j ≡ Some n → slice_get ns k ≡ Some n → j ≡ k) → Apart ns
 apart-by [] h = tt

@@ -8,7 +8,7 @@ use Rattle.std.proofs.lemmas.Bool.Decides.{nat_tests}
 use Rattle.std.proofs.Math.Nat.{mod-lt}
 use Rattle.plain_lemmas.proofs.Bools.{and-false, and-left, and-right}
 use Rattle.plain_lemmas.proofs.Lists.{cons-head, cons-tail}
-use Rattle.plain_lemmas.proofs.Numbers.{eq-itself}
+use Rattle.plain_lemmas.proofs.Numbers.{digit_glyph-plain as plain-glyph, eq-itself}
 
 -- no byte is this one
 abbrev pub lacks : ℕ → List ℕ → Bool
@@ -49,9 +49,6 @@ first-split c (x ∷ xs) (y ∷ ys) u v a b e =
     ((λ i. first i ∷ same i), rest.1)
 
 -- decimals have digits alone
-
-plain-glyph : (d : ℕ) → d < 10 → digit_glyph false d ≡ 48 + d
-plain-glyph d l = grind (arith, nat_tests)
 
 no-gap : (d : ℕ) → d < 10 → not (48 + d == 95) ≡ true
 no-gap d l = grind (arith, nat_tests)

@@ -16,9 +16,9 @@ use Rattle.rb_model.specs.Items.{ItemValues, Read}
 use Rattle.rb_model.specs.Machine.{read_data, slot_value}
 use Rattle.rb_model.specs.Sound.{SlotIsSound, StandTogether, WordIsSound, share_bit, view_passes}
 use Rattle.c_header.proofs.MaskedWrites.{taken}
-use Rattle.word_groups.proofs.Shifts.{shifted_fits}
 use Rattle.word_groups.proofs.Slots.{each-at}
 use Rattle.plain_lemmas.proofs.Lists.{get-at, get-within}
+use Rattle.plain_lemmas.proofs.Numbers.{times_power-below as shifted_fits}
 
 -- the bits from low on, so many
 abbrev pub window : (low bits n : ℕ) → ℕ

@@ -12,24 +12,8 @@ use Rattle.word_groups.specs.Entries.{path_of}
 use Rattle.word_groups.specs.Paths.{indices}
 use Rattle.c_header.specs.Laws.{IsEntryOf}
 use Rattle.c_header.specs.Macros.{Offset, value_at}
-use Rattle.plain_lemmas.proofs.Lists.{get-at, get-within, length-map, mapped-at}
+use Rattle.plain_lemmas.proofs.Lists.{get-at, get-within, get_or-below as below, length-map, mapped-at}
 use Rattle.plain_lemmas.proofs.Numbers.{below-nat_lt, differ, eq-itself}
-
-not_below : (xs : List ℕ) → IsStrictlyIncreasing xs → (i n : ℕ) → i + n < length xs → get_or xs i 0 ≤ get_or xs (i + n) 0
-not_below xs up i zero l = let e : i + 0 ≡ i = omega arith in rw e (omega arith)
-not_below xs up i (suc n) l =
-    let before : get_or xs i 0 ≤ get_or xs (i + n) 0 = not_below xs up i n (omega (arith, l)) in
-    let e : i + suc n ≡ i + n + 1 = omega arith in
-    let next : get_or xs (i + n) 0 < get_or xs (i + n + 1) 0 = up (i + n) (omega (arith, l)) in
-    rw e (omega (arith, before, next))
-
-below : (xs : List ℕ) → IsStrictlyIncreasing xs → (i j : ℕ) → i < j → j < length xs → get_or xs i 0 < get_or xs j 0
-below xs up i j l within =
-    let first : get_or xs i 0 < get_or xs (i + 1) 0 = up i (omega (arith, l, within)) in
-    let at : i + 1 + (j - (i + 1)) ≡ j = omega (arith, l) in
-    let rest : get_or xs (i + 1) 0 ≤ get_or xs (i + 1 + (j - (i + 1))) 0 = not_below xs up (i + 1) (j - (i + 1)) (omega (arith, l, within)) in
-    let same : get_or xs (i + 1 + (j - (i + 1))) 0 ≡ get_or xs j 0 = ap (λ k. get_or xs k 0) at in
-    omega (arith, first, rest, same)
 
 reached : (ws : List Word) (i : ℕ) (w : Word) → IsStrictlyIncreasing (map (λ v. v.address) ws) → slice_get ws i ≡ Some w → word_at ws w.address ≡ Some i
 reached ws i w up at =

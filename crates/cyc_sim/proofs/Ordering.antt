@@ -13,7 +13,7 @@ use Rattle.v_design.specs.WellFormed.{AllBelow}
 use Rattle.v_design.specs.declared.design.Stmt.{Stmt}
 use Rattle.v_design.proofs.Tests.{same-refl}
 use Rattle.cyc_sim.specs.Order.{Drivers, Assigns, AreDrivers, IsAcyclic, IsSettlingOrder, all_needs, driver_at, numbers_of, step_needs, with_number}
-use Rattle.plain_lemmas.proofs.Lists.{bytes_eq-same as same_bytes, each-get as each_got, get-within as got_within, mapped-at, some-at}
+use Rattle.plain_lemmas.proofs.Lists.{bytes_eq-same as same_bytes, each-get as each_got, each-unit as all-any, get-within as got_within, mapped-at, some-at}
 use Rattle.plain_lemmas.proofs.Options.{some_is as some-of}
 
 -- the numbers of names
@@ -46,10 +46,6 @@ in-numbers number P (m ∷ ms) k i all h = go (number m) refl k h (λ k h. in-nu
     go None e k h rest = rest k h
     go (Some j) e zero h rest = (m, all.0, e ∙ h)
     go (Some j) e (suc k) h rest = rest k h
-
-all-any : (ns : List (List ℕ)) → AllByRecursion (λ n. Unit {0}) ns
-all-any [] = tt
-all-any (n ∷ ns) = (tt, all-any ns)
 
 past-none : {X Y : Type 0} (f : X → List Y) (xs : List X) (i k : ℕ) (y : Y) → slice_get (get_or (map f xs) i []) k ≡ Some y → (x : X) × (slice_get xs i ≡ Some x) × (slice_get (f x) k ≡ Some y)
 past-none f [] i k y h = cc h

@@ -4,7 +4,7 @@ use Rattle.std.specs.List.{list_any}
 use Rattle.std.specs.Str.{bytes_eq}
 use Rattle.std.proofs.lemmas.List.{length-append, map-append, take_more, take_all}
 use Rattle.std.proofs.lemmas.Option.{same_Some, slice_get_within, get_or_from_slice_get}
-use Rattle.plain_lemmas.proofs.Lists.{append-none, differ_by, list_any-append}
+use Rattle.plain_lemmas.proofs.Lists.{append-none, differ_by, get-taken as taken_at, list_any-append}
 use Rattle.plain_lemmas.proofs.Numbers.{below_next-same_or as same_or_below}
 use Rattle.rb_base.specs.declared.ports.Pin.{Pin}
 use Rattle.rtl_net.specs.Names.{Lacks}
@@ -18,12 +18,6 @@ use Rattle.rtl_net.proofs.Nets.{Extends-refl, Extends-trans, Keeps-refl, Keeps-t
 use Rattle.gen_ports.specs.Registers.{AreCleared, CanAdd, IsResetn, by_resetn}
 
 -- Lists
-
-taken_at : {X : Type 0} (xs : List X) (n k : ℕ) (x : X) → slice_get (take n xs) k ≡ Some x → (k < n) × (slice_get xs k ≡ Some x)
-taken_at xs zero k x e = cc
-taken_at [] (suc n) k x e = cc
-taken_at (y ∷ ys) (suc n) zero x e = (omega arith, e)
-taken_at (y ∷ ys) (suc n) (suc k) x e = let r = taken_at ys n k x e in (omega (arith, r.0), r.1)
 
 none_both : (xs ys : List (List ℕ)) (n : List ℕ) → Lacks xs n → Lacks ys n → Lacks (xs ++ ys) n
 none_both xs ys n a b = list_any-append (bytes_eq n) xs ys ∙ ap (λ c. c || list_any (bytes_eq n) ys) a ∙ b

@@ -5,7 +5,7 @@ use Rattle.std.specs.List.{list_any}
 use Rattle.std.specs.Str.{bytes_eq}
 use Rattle.std.proofs.lemmas.List.{length-append, length-map, map-append, take_more}
 use Rattle.std.proofs.lemmas.Option.{same_Some, slice_get_within, slice_get-get_or, get_or_from_slice_get}
-use Rattle.plain_lemmas.proofs.Lists.{get-behind as behind, get-front_of as front, get-map_at as mapped_at, map-map as mapped}
+use Rattle.plain_lemmas.proofs.Lists.{get-behind as behind, get-front_of as front, get-map_at as mapped_at, get-taken as taken_at, map-map as mapped}
 use Rattle.plain_lemmas.proofs.Numbers.{below_next-same_or as same_or_below}
 use Rattle.rb_base.specs.declared.ports.Pin.{Pin}
 use Rattle.v_design.specs.WellFormed.{distinct}
@@ -31,12 +31,6 @@ use Rattle.gen_scene.specs.Bases.{HasKept, HasPins, reset_of}
 use Rattle.gen_scene.proofs.ResetPins.{under_held}
 
 -- Lists
-
-taken_at : {X : Type 0} (xs : List X) (n k : ℕ) (x : X) → slice_get (take n xs) k ≡ Some x → (k < n) × (slice_get xs k ≡ Some x)
-taken_at xs zero k x e = cc
-taken_at [] (suc n) k x e = cc
-taken_at (y ∷ ys) (suc n) zero x e = (omega arith, e)
-taken_at (y ∷ ys) (suc n) (suc k) x e = let r = taken_at ys n k x e in (omega (arith, r.0), r.1)
 
 none_in : {X : Type 0} (test : X → Bool) (xs : List X) → ((k : ℕ) (x : X) → slice_get xs k ≡ Some x → test x ≡ false) → list_any test xs ≡ false
 none_in test [] h = refl

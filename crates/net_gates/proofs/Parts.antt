@@ -4,6 +4,7 @@ use Rattle.std.proofs.lemmas.Nat.{pow-add, pow_pos}
 use Rattle.std.proofs.Math.Nat.{mod-eq_of_lt, div-one, pow-le-pow_right, mul-lt-mul_of_pos_right}
 use Rattle.rb_base.specs.Bits.{part}
 use Rattle.rtl_net.proofs.Nets.{Grows-refl, Grows-trans, fits_at}
+use Rattle.plain_lemmas.proofs.Numbers.{times_power-below as raised_below}
 
 pub part_whole : (x hi : ℕ) → x < 2 ^ (hi + 1) → x ≡ part x hi 0
 part_whole x hi l =
@@ -12,12 +13,5 @@ part_whole x hi l =
 
 pub below_wider : (x w u : ℕ) → x < 2 ^ w → w ≤ u → x < 2 ^ u
 below_wider x w u l h = let p : 2 ^ w ≤ 2 ^ u = pow-le-pow_right (omega arith) h in omega arith
-
-pub raised_below : (x w k u : ℕ) → x < 2 ^ w → w + k ≤ u → x * 2 ^ k < 2 ^ u
-raised_below x w k u l h =
-    let p : 2 ^ (w + k) ≤ 2 ^ u = pow-le-pow_right (omega arith) h in
-    let e : 2 ^ (w + k) ≡ 2 ^ w * 2 ^ k = pow-add 2 w k in
-    let q : x * 2 ^ k < 2 ^ w * 2 ^ k = mul-lt-mul_of_pos_right l (pow_pos k) in
-    omega arith
 
 pub ruleset parts = (Grows-refl, Grows-trans, part_whole, below_wider, raised_below, fits_at)

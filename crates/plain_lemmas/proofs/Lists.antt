@@ -2,11 +2,13 @@
 use Rattle.std.proofs.Common.{ℕ, ◌≡◌, true, List, refl, ◌-◌, ◌∷◌, length, take, drop, arith, length-drop, zero, suc, ◌+◌, [], ◌++◌, Some, slice_get, ◌≤◌, None, ap, ◌<◌, ◌∙◌, Bool, false, cond, filter, if◌then◌else◌, ◌||◌, map, fold, option_map, flat_map, sym, subst, get_or}
 use Rattle.std.proofs.lemmas.Grind.{common_steps}
 use Rattle.std.proofs.lemmas.List.{take_all}
+use Rattle.std.proofs.lemmas.List.Sums.{sum_by-append, sum_by-cons}
 use Rattle.std.proofs.lemmas.Option.{same_Some}
 use Rattle.std.proofs.lemmas.Slice.Eq.{bytes_eq-Decides}
 use Rattle.std.specs.Cmp.Lexicographic.{nat_list_eq_equiv, bytes_decides}
 use Rattle.std.specs.List.{AllByRecursion, list_any, list_all, position_from}
-use Rattle.std.specs.Prelude.{Contains}
+use Rattle.std.specs.List.Sorted.{IsStrictlyIncreasing}
+use Rattle.std.specs.Prelude.{Contains, count_by}
 use Rattle.std.specs.Str.{bytes_eq}
 use Rattle.plain_lemmas.proofs.Bools.{and-both as and_left}
 use Rattle.std.proofs.lemmas.Bool.{false_from_ne_true}
@@ -292,3 +294,44 @@ get_or-end xs y i h = grind (arith, common_steps)
 
 pub differ_by : (a b : List ℕ) → (a ≡ b → ⊥) → bytes_eq a b ≡ false
 differ_by a b h = false_from_ne_true (bytes_eq a b) (λ t. h ((bytes_eq-Decides a b).0 t))
+
+pub map-flat_map : {X Y Z : Type 0} (g : Y → Z) (f : X → List Y) (xs : List X) → map g (flat_map f xs) ≡ flat_map (λ x. map g (f x)) xs
+map-flat_map g f [] = refl
+map-flat_map g f (x ∷ xs) = map-append g (f x) (flat_map f xs) ∙ ap (λ ys. map g (f x) ++ ys) (map-flat_map g f xs)
+
+pub get-mapped : {X Y : Type 0} (f : X → Y) (xs : List X) (k : ℕ) (y : Y) → slice_get (map f xs) k ≡ Some y → (x : X) × (slice_get xs k ≡ Some x) × (f x ≡ y)
+get-mapped f [] k y e = cc e
+get-mapped f (x ∷ xs) zero y e = let same : f x ≡ y = cc e in (x, refl, same)
+get-mapped f (x ∷ xs) (suc k) y e = get-mapped f xs k y e
+
+pub get-taken : {X : Type 0} (xs : List X) (n k : ℕ) (x : X) → slice_get (take n xs) k ≡ Some x → (k < n) × (slice_get xs k ≡ Some x)
+get-taken xs zero k x e = cc
+get-taken [] (suc n) k x e = cc
+get-taken (y ∷ ys) (suc n) zero x e = (omega arith, e)
+get-taken (y ∷ ys) (suc n) (suc k) x e = let r = get-taken ys n k x e in (omega (arith, r.0), r.1)
+
+pub count_by-append : {X : Type 0} (p : X → Bool) (xs ys : List X) → count_by p (xs ++ ys) ≡ count_by p xs + count_by p ys
+count_by-append p xs ys = sum_by-append (λ x. cond (p x) 1 0) xs ys
+
+pub count_by-cons : {X : Type 0} (p : X → Bool) (x : X) (xs : List X) → count_by p (x ∷ xs) ≡ cond (p x) 1 0 + count_by p xs
+count_by-cons p x xs = sum_by-cons (λ y. cond (p y) 1 0) x xs
+
+pub each-unit : {X : Type 0} (xs : List X) → AllByRecursion (λ x. Unit {0}) xs
+each-unit [] = tt
+each-unit (x ∷ xs) = (tt, each-unit xs)
+
+pub get_or-not_below : (xs : List ℕ) → IsStrictlyIncreasing xs → (i n : ℕ) → i + n < length xs → get_or xs i 0 ≤ get_or xs (i + n) 0
+get_or-not_below xs up i zero l = let e : i + 0 ≡ i = omega arith in rw e (omega arith)
+get_or-not_below xs up i (suc n) l =
+    let before : get_or xs i 0 ≤ get_or xs (i + n) 0 = get_or-not_below xs up i n (omega (arith, l)) in
+    let e : i + suc n ≡ i + n + 1 = omega arith in
+    let next : get_or xs (i + n) 0 < get_or xs (i + n + 1) 0 = up (i + n) (omega (arith, l)) in
+    rw e (omega (arith, before, next))
+
+pub get_or-below : (xs : List ℕ) → IsStrictlyIncreasing xs → (i j : ℕ) → i < j → j < length xs → get_or xs i 0 < get_or xs j 0
+get_or-below xs up i j l within =
+    let first : get_or xs i 0 < get_or xs (i + 1) 0 = up i (omega (arith, l, within)) in
+    let at : i + 1 + (j - (i + 1)) ≡ j = omega (arith, l) in
+    let rest : get_or xs (i + 1) 0 ≤ get_or xs (i + 1 + (j - (i + 1))) 0 = get_or-not_below xs up (i + 1) (j - (i + 1)) (omega (arith, l, within)) in
+    let same : get_or xs (i + 1 + (j - (i + 1))) 0 ≡ get_or xs j 0 = ap (λ k. get_or xs k 0) at in
+    omega (arith, first, rest, same)

@@ -3,7 +3,9 @@ use Rattle.std.proofs.Common.{◌≡◌, ℕ, ◌==◌, true, arith, ◌+◌, su
 use Rattle.std.proofs.lemmas.Bool.Decides.{nat_tests}
 use Rattle.std.proofs.lemmas.Fmt.{decimal_step, decimal_digit}
 use Rattle.std.proofs.lemmas.List.{length-append}
-use Rattle.std.proofs.Math.Nat.{mod-add-mod}
+use Rattle.std.proofs.lemmas.Nat.{pow-add, pow_pos}
+use Rattle.std.proofs.Math.Nat.{mod-add-mod, mul-lt-mul_of_pos_right, pow-le-pow_right}
+use Rattle.std.specs.Fmt.{digit_glyph}
 
 pub eq-itself : (m : ℕ) → (m == m) ≡ true
 eq-itself m = grind arith
@@ -99,3 +101,13 @@ not-number a b differ = go (a == b) refl
 
 pub fits : (b k : ℕ) → nat_le b k ≡ false → k < b
 fits b k e = grind (arith, nat_tests)
+
+pub times_power-below : (x w k u : ℕ) → x < 2 ^ w → w + k ≤ u → x * 2 ^ k < 2 ^ u
+times_power-below x w k u l h =
+    let p : 2 ^ (w + k) ≤ 2 ^ u = pow-le-pow_right (omega arith) h in
+    let e : 2 ^ (w + k) ≡ 2 ^ w * 2 ^ k = pow-add 2 w k in
+    let q : x * 2 ^ k < 2 ^ w * 2 ^ k = mul-lt-mul_of_pos_right l (pow_pos k) in
+    omega (arith, p, e, q)
+
+pub digit_glyph-plain : (d : ℕ) → d < 10 → digit_glyph false d ≡ 48 + d
+digit_glyph-plain d l = grind (arith, nat_tests)

@@ -19,22 +19,7 @@ use Rattle.rb_machine.specs.declared.bus.Access.TheVariants as access
 use Rattle.rb_machine.specs.declared.bus.Transfer.{Transfer}
 use Rattle.rb_machine.specs.Transfers.{IsThere, IsTransfer, access_seen}
 use Rattle.plain_lemmas.proofs.Numbers.{differ, differ_above}
-
-last_or_before : (i j : ℕ) → i < suc j → (i ≡ j) ⊎ (i < j)
-last_or_before i j l = grind arith
-
--- numbers that rise from one to the next rise from each to each later one
-pub rises : (xs : List ℕ) → IsStrictlyIncreasing xs → (i j : ℕ) → i < j → j < length xs → get_or xs i 0 < get_or xs j 0
-rises xs h i zero l m = absurd (omega (arith, l))
-rises xs h i (suc j) l m =
-    let e : j + 1 ≡ suc j = omega arith in
-    let b : j + 1 < length xs = omega (arith, m) in
-    let low : j < length xs = omega (arith, m) in
-    let next : get_or xs j 0 < get_or xs (suc j) 0 = subst (λ n. get_or xs j 0 < get_or xs n 0) e (h j b) in
-    elim (last_or_before i j l) [
-      | inl e ↦ subst (λ n. get_or xs n 0 < get_or xs (suc j) 0) (sym e) next
-      | inr k ↦ omega (arith, rises xs h i j k low, next)
-    ]
+use Rattle.plain_lemmas.proofs.Lists.{get_or-below as rises}
 
 pub never_falls : (xs : List ℕ) → IsStrictlyIncreasing xs → (i j : ℕ) → i ≤ j → j < length xs → get_or xs i 0 ≤ get_or xs j 0
 never_falls xs h i j l m = by (same_or_below i j l)

@@ -31,7 +31,7 @@ use Rattle.rdl_values.specs.NoNode.{is_reg}
 use Rattle.rdl_values.specs.Uses.{Seen}
 use Rattle.rdl_values.specs.Verdict.{IsListOf}
 use Rattle.rdl_values.proofs.Given.{IsAtRoot, IsChildOf, children-given, signals-given}
-use Rattle.plain_lemmas.proofs.Lists.{each-append, each-imp}
+use Rattle.plain_lemmas.proofs.Lists.{each-append, each-imp, get-mapped as got}
 use Rattle.rdl_nodes.proofs.Apart.{Apart, apart-append, apart-flat_map, pairs}
 use Rattle.rdl_nodes.proofs.Lineages.{all_nodes}
 use Rattle.rdl_nodes.proofs.Paths.{nodes_apart}
@@ -53,7 +53,7 @@ use Rattle.rdl_rules.specs.Fields.{field_of}
 use Rattle.rdl_rules.specs.Numbers.{Numbered, all_fields, all_signals, number_of, registers}
 use Rattle.rdl_sound_laws.specs.Lists.{HasLists}
 use Rattle.rdl_sound_laws.specs.Standing.{HasItem}
-use Rattle.rdl_sound_laws.proofs.Found.{field-in, got, in-filter, own}
+use Rattle.rdl_sound_laws.proofs.Found.{field-in, in-filter, own}
 use Rattle.rdl_sound_laws.proofs.Standing.{item-in, ref-by, same-ref, some-when}
 use Rattle.rdl_block_laws.proofs.Having.{in-back, register-of}
 use Rattle.rdl_sound_laws.proofs.Faultless.{field-kind}

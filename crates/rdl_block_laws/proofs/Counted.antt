@@ -10,12 +10,7 @@ use Rattle.rdl_layers.specs.Assignments.{same_path}
 use Rattle.rdl_nodes.proofs.Members.{each-in, place-in}
 use Rattle.rdl_fields.proofs.Steps.{is-same-path, path-refl}
 use Rattle.rdl_rules.specs.Numbers.{number_of}
-
-pub count-join : {X : Type 0} (p : X → Bool) (xs ys : List X) → count_by p (xs ++ ys) ≡ count_by p xs + count_by p ys
-count-join p xs ys = sum_by-append (λ x. cond (p x) 1 0) xs ys
-
-count-next : {X : Type 0} (p : X → Bool) (x : X) (xs : List X) → count_by p (x ∷ xs) ≡ cond (p x) 1 0 + count_by p xs
-count-next p x xs = sum_by-cons (λ y. cond (p y) 1 0) x xs
+use Rattle.plain_lemmas.proofs.Lists.{count_by-append as count-join, count_by-cons as count-next}
 
 -- of what is made of others
 pub count-map : {X Y : Type 0} (p : Y → Bool) (q : X → Bool) (f : X → Y) (xs : List X) → ((x : X) → p (f x) ≡ q x) → count_by p (map f xs) ≡ count_by q xs

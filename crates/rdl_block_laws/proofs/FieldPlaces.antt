@@ -2,7 +2,7 @@
 use Rattle.std.proofs.Common.{◌≡◌, ◌∙◌, inl, inr, ℕ, suc, ◌+◌, false, not, List, [], ◌∷◌, map, filter, length, Option, Some, slice_get, refl, sym, ap, subst, arith}
 use Rattle.std.specs.List.{AllByRecursion}
 use Rattle.std.proofs.lemmas.Bool.{not-true}
-use Rattle.plain_lemmas.proofs.Lists.{map-filter}
+use Rattle.plain_lemmas.proofs.Lists.{get-mapped as got, map-filter}
 use Rattle.rdl_tree.specs.declared.item.Kind.TheVariants as kind
 use Rattle.rdl_tree.specs.declared.item.Source.{Source}
 use Rattle.rdl_values.specs.Instances.{Instance, children, nodes}
@@ -19,7 +19,7 @@ use Rattle.rdl_rules.specs.Block.{IsBlockOf, numbered_registers, reg_of}
 use Rattle.rdl_rules.specs.Fields.{field_of}
 use Rattle.rdl_rules.specs.Numbers.{Numbered, all_fields, numbered_from, registers}
 use Rattle.rdl_fields.proofs.Lists.{filter-in, filter-true}
-use Rattle.rdl_sound_laws.proofs.Found.{got, own, own-fields, pairs, with-registers}
+use Rattle.rdl_sound_laws.proofs.Found.{own, own-fields, pairs, with-registers}
 
 -- what holds of the element at each place
 pub each-of : {X : Type 0} (P : X → Type 0) (xs : List X) → ((k : ℕ) (x : X) → slice_get xs k ≡ Some x → P x) → Each P xs

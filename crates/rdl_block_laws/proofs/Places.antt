@@ -1,6 +1,6 @@
 -- Where fields stand in a block.
 use Rattle.std.proofs.Common.{◌≡◌, ◌∙◌, inl, inr, ℕ, suc, ◌+◌, Bool, true, false, not, cond, List, [], ◌∷◌, map, filter, length, Option, Some, slice_get, refl, sym, ap, subst, arith}
-use Rattle.plain_lemmas.proofs.Lists.{each-filter, map-filter}
+use Rattle.plain_lemmas.proofs.Lists.{each-filter, get-mapped as got, map-filter}
 use Rattle.rb_model.specs.declared.block.Block.{Block}
 use Rattle.rb_model.specs.declared.block.Field.{Field}
 use Rattle.rdl_tree.specs.declared.item.Kind.TheVariants as kind
@@ -18,7 +18,7 @@ use Rattle.rdl_rules.specs.Block.{numbered_registers}
 use Rattle.rdl_rules.specs.Fields.{field_of}
 use Rattle.rdl_rules.specs.Numbers.{Numbered, all_fields, number_of, numbered_from, primaries, registers}
 use Rattle.rdl_sound_laws.specs.Lists.{HasLists}
-use Rattle.rdl_sound_laws.proofs.Found.{field-in, found, got, in-filter, own, own-fields, pairs, with-registers}
+use Rattle.rdl_sound_laws.proofs.Found.{field-in, found, in-filter, own, own-fields, pairs, with-registers}
 use Rattle.rdl_sound_laws.proofs.Distinct.{apart-filter}
 use Rattle.rdl_sound_laws.proofs.Names.{IsRegister, all_registers, fields_apart, registers_apart, same_front}
 use Rattle.rdl_block_laws.proofs.Numbers.{apart-index}

@@ -29,9 +29,10 @@ use Rattle.rdl_sound_laws.specs.Faultless.{IsFaultless}
 use Rattle.rdl_sound_laws.specs.Fielded.{HavePrimaries}
 use Rattle.rdl_block_laws.proofs.FieldPlaces.{IsOf, of-place}
 use Rattle.rdl_block_laws.proofs.Classes.{changing, same-class}
-use Rattle.rdl_block_laws.proofs.Counted.{count-join, count-map, count-none, number-at, one-at}
+use Rattle.rdl_block_laws.proofs.Counted.{count-map, count-none, number-at, one-at}
 use Rattle.rdl_block_laws.proofs.Names.{own-apart}
 use Rattle.rdl_block_laws.proofs.Viewed.{over-views, own-view}
+use Rattle.plain_lemmas.proofs.Lists.{count_by-append as count-join}
 
 -- The views that are no alias's.
 

@@ -1,7 +1,7 @@
 -- The lines of registers.
 use Rattle.std.proofs.Common.{◌≡◌, ◌∙◌, ℕ, ◌==◌, Bool, true, false, not, ◌&&◌, ◌||◌, List, [], ◌∷◌, map, filter, Option, None, Some, is_some, slice_get, refl, sym, ap, subst}
 use Rattle.std.specs.List.{AllByRecursion, enumerate_from, list_any}
-use Rattle.plain_lemmas.proofs.Lists.{list_any-alike as any-alike, map-filter, map-map}
+use Rattle.plain_lemmas.proofs.Lists.{get-mapped as got, list_any-alike as any-alike, map-filter, map-map}
 use Rattle.rdl_props.specs.Table.{takes_of}
 use Rattle.rdl_props.specs.declared.form.Form.TheVariants as form
 use Rattle.rdl_props.specs.declared.prop.Prop.{Prop}
@@ -30,7 +30,6 @@ use Rattle.rdl_rules.specs.Block.{IsBlockOf, fields, halts, reg_of}
 use Rattle.rdl_rules.specs.Feeds.{item_at, mask_at}
 use Rattle.rdl_rules.specs.Fields.{latch_of}
 use Rattle.rdl_rules.specs.Numbers.{all_fields, primaries, registers}
-use Rattle.rdl_sound_laws.proofs.Found.{got}
 use Rattle.rdl_block_laws.proofs.Having.{in-back}
 use Rattle.rdl_sound_laws.specs.Faultless.{Leads}
 use Rattle.rdl_sound_laws.proofs.Alone.{latch-is}

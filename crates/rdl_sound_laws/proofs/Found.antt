@@ -3,7 +3,7 @@ use Rattle.std.proofs.Common.{◌≡◌, ◌∙◌, ◌⊎◌, inl, inr, ℕ, ze
 use Rattle.std.specs.List.{AllByRecursion}
 use Rattle.std.proofs.lemmas.List.{map-append}
 use Rattle.std.proofs.lemmas.List.Folds.{find_at}
-use Rattle.plain_lemmas.proofs.Lists.{map-filter, map-map}
+use Rattle.plain_lemmas.proofs.Lists.{get-mapped as got, map-filter, map-map}
 use Rattle.rdl_tree.specs.declared.item.Kind.TheVariants as kind
 use Rattle.rdl_tree.specs.declared.item.Source.{Source}
 use Rattle.rdl_values.specs.Instances.{Instance, children, nodes}
@@ -95,12 +95,6 @@ own-nodes all =
 
 pub own-fields : (all : List Lineage) → map (λ p. p.1) (pairs (own all)) ≡ all_fields (nodes_in all)
 own-fields all = fields-alone (own all) ∙ ap (flat_map fields_of) (own-nodes all)
-
--- what a list has where its image has something
-pub got : {X Y : Type 0} (f : X → Y) (xs : List X) (k : ℕ) (y : Y) → slice_get (map f xs) k ≡ Some y → (x : X) × (slice_get xs k ≡ Some x) × (f x ≡ y)
-got f [] k y e = cc e
-got f (x ∷ xs) zero y e = (x, refl, (let same : f x ≡ y = cc in same))
-got f (x ∷ xs) (suc k) y e = got f xs k y e
 
 pub field-in : (wanted : Option (List ℕ)) (s : Source) (n : Instance) → In (all_fields (nodes wanted s)) n → In (nodes wanted s) n
 field-in wanted s n i =

@@ -4,7 +4,7 @@ use Rattle.std.specs.Char.{is_ascii_digit}
 use Rattle.std.specs.List.{AllByRecursion, list_all}
 use Rattle.std.proofs.lemmas.List.{append_cancel_left, map-append}
 use Rattle.std.proofs.lemmas.List.Elements.{recursion_from_All}
-use Rattle.plain_lemmas.proofs.Lists.{each-append, each-filter, each-flat_map, each-imp, filter-each as passed, flat_map-alike as flat-same, map-map}
+use Rattle.plain_lemmas.proofs.Lists.{each-append, each-filter, each-flat_map, each-imp, filter-each as passed, flat_map-alike as flat-same, map-flat_map as map-flat, map-map}
 use Rattle.plain_lemmas.proofs.Bools.{and-left}
 use Rattle.rb_model.specs.declared.block.Block.{Block}
 use Rattle.rb_model.specs.Ports.{signal_name}
@@ -195,10 +195,6 @@ module _ (wanted : Option (List ℕ)) (s : Source) where
     fields_apart = apart-flat_map Differ fields_of rs (apart-imp IsRegister Differ (λ a b. Across Differ (fields_of a) (fields_of b)) rs (λ a b h g d. apart_fields a b h g d) all apart) (each-imp IsRegister (λ r. Apart Differ (fields_of r)) rs (λ r h. apart-filter Differ (is_a kind.Field) (children r) (children_apart r h.steps h.path_is)) all)
 
 -- Lists of the block, by the nodes that they tell of.
-
-map-flat : {X Y Z : Type 0} (g : Y → Z) (f : X → List Y) (xs : List X) → map g (flat_map f xs) ≡ flat_map (λ x. map g (f x)) xs
-map-flat g f [] = refl
-map-flat g f (x ∷ xs) = map-append g (f x) (flat_map f xs) ∙ ap (λ ys. map g (f x) ++ ys) (map-flat g f xs)
 
 abbrev text : Instance → List ℕ
 text n = path_text n.path

@@ -7,6 +7,3 @@ too_far left step rest far = grind (arith, nat_tests)
 
 pub nearer : (left step rest : ℕ) → step ≤ left → (left - step == rest) ≡ (left == step + rest)
 nearer left step rest near = grind (arith, nat_tests)
-
-pub behind_first : (address first distance : ℕ) → first ≤ address → (address - first == distance) ≡ (address == first + distance)
-behind_first address first distance h = grind (arith, nat_tests)

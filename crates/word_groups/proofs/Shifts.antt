@@ -7,11 +7,7 @@ use Rattle.rb_model.specs.declared.block.Field.{Field}
 use Rattle.rb_model.specs.declared.block.Slot.{Slot}
 use Rattle.rb_model.specs.SoundField.{is_wire}
 use Rattle.word_groups.specs.Parts.{part_reset}
-
-pub shifted_fits : (x n lo w : ℕ) → x < 2 ^ n → n + lo ≤ w → x * 2 ^ lo < 2 ^ w
-shifted_fits x n lo w fits inside =
-    let low : x * 2 ^ lo < 2 ^ (n + lo) = rw (pow-add 2 n lo) (omega (arith, mul-le-mul_right (2 ^ lo) fits, pow_pos lo)) in
-    omega (arith, low, pow-le-pow_right {n = 2} (lit< tt) inside)
+use Rattle.plain_lemmas.proofs.Numbers.{times_power-below as shifted_fits}
 
 pub ones_fit : (n : ℕ) → 2 ^ n - 1 < 2 ^ n
 ones_fit n = omega (arith, pow_pos n)
