@@ -11,11 +11,13 @@ use Rattle.rb_model.specs.declared.block.Block.{Block}
 use Rattle.rb_model.specs.declared.block.Field.{Field}
 use Rattle.rb_model.specs.declared.block.View.{View}
 use Rattle.rb_model.specs.declared.block.Slot.{Slot}
-use Rattle.rb_model.specs.Effects.{acts, after_read, after_write, is_open, written}
+use Rattle.rb_model.specs.declared.kinds.OnRead.{OnRead}
+use Rattle.rb_model.specs.declared.kinds.OnRead.TheVariants as on_read
+use Rattle.rb_model.specs.Effects.{acts, after_read, after_write, has_read_effect, is_open, written}
 use Rattle.rb_model.specs.Kept.{Done}
 use Rattle.rb_model.specs.Items.{Now, ItemValues, shows}
 use Rattle.rb_model.specs.Machine.{slot_bits, slot_read, slot_written, view_gate}
-use Rattle.rb_model.specs.Sound.{IsSound}
+use Rattle.rb_model.specs.Sound.{IsSound, view_passes}
 use Rattle.rb_model.specs.SoundField.{FieldIsSoundIn}
 use Rattle.rb_model.proofs.Eachs.{Each-from_zero}
 use Rattle.gen_fields.specs.Software.{software_of}
@@ -24,7 +26,7 @@ use Rattle.gen_scene.specs.Worth.{MayBeWorth}
 use Rattle.gen_access.specs.declared.software.Effect.{Effect}
 use Rattle.gen_access.specs.declared.software.Effect.TheVariants as effect
 use Rattle.gen_access.specs.Words.{data_of, is_at, written_word, read_word}
-use Rattle.gen_access.specs.Effects.{IsPut, reached_by, slot_effect, width_of}
+use Rattle.gen_access.specs.Effects.{IsPut, has_effect, reached_by, slot_effect, width_of}
 use Rattle.gen_access.proofs.Reaching.{data_is}
 use Rattle.plain_lemmas.proofs.Lists.{any-get as any_at}
 
@@ -41,6 +43,9 @@ module _ (b : Block) (s : Slot) (u : View) (here : slice_get b.views s.view ≡ 
 
   pub read_here : (f : Field) (x : ℕ) → slot_read b u.field f x s ≡ after_read u.on_read f.width x
   read_here f x = ap (λ o. option_map_or (λ w. if w.field == u.field then after_read w.on_read f.width x else x) o x) here ∙ ap (λ c. if c then after_read u.on_read f.width x else x) self
+
+  pub passes_here : (test : View → Bool) → view_passes b test s ≡ test u
+  passes_here test = ap (λ o. option_map_or test o false) here
 
   pub shows_here : (test : View → Bool) → shows b u.field test s ≡ test u
   shows_here test = ap (λ o. option_map_or (λ w. w.field == u.field && test w) o false) here ∙ ap (λ c. c && test u) self
@@ -84,13 +89,13 @@ written_value false u w v h r bits d g t p q e = rw (p, q) refl
 
 module _ (b : Block) (a : Inlet) (old net new : Net) (s : Slot) (u : View) (hit v bits read id : Id) (gate done : Option Id) (sound : IsSound b) (hu : slice_get b.views s.view ≡ Some u)
     (fits : 0 < s.bits) (older : Grows old net) (newer : Grows net new) where
-  pub written_put : (w : ℕ) → IsNode net bits w (λ x. part (x.node a.bits.0) (s.low + (s.bits - 1)) s.low) → IsNode net read 1 (λ x. 0)
+  pub written_put : (w : ℕ) → u.writes ≡ true → IsNode net bits w (λ x. part (x.node a.bits.0) (s.low + (s.bits - 1)) s.low) → IsNode net read 1 (λ x. 0)
       → MayBeWorth b a net gate 1 (λ n k. view_gate n k u)
       → ((f : Field) → slice_get b.fields u.field ≡ Some f → MayBeWorth b a net done 1 (λ n k. if f.once then n.kept (Done u.field) else 0))
       → ((f : Field) → slice_get b.fields u.field ≡ Some f → Stands old v f.width)
       → IsNode new id (width_in net v) (λ x. software_of u (width_in net v) (x.node v.0) (x.node hit.0) (x.node read.0) (x.node bits.0) (seen_or_zero x gate) (seen_or_zero x done))
       → IsPut b a old new effect.Written s u.field hit v id
-  written_put w cut zeros gates dones wide node = record {
+  written_put w writes cut zeros gates dones wide node = record {
     stands = λ f hf. subst (λ w. Stands new id w) (Stands-grows old net v f.width older (wide f hf)).width node.stands;
     worth = λ j f g hf on at. record {
       stands = subst (λ w. Stands new id w) (Stands-grows old net v f.width older (wide f hf)).width node.stands;
@@ -98,7 +103,7 @@ module _ (b : Block) (a : Inlet) (old net new : Net) (s : Slot) (u : View) (hit 
           let q1 = newer.settles x q in
           let q0 = older.settles x q1 in
           let width : width_in net v ≡ f.width = (Stands-grows old net v f.width older (wide f hf)).width in
-          let hits : x.node hit.0 ≡ bit_of (is_at j (written_word n.access)) = on.value x q0 n found items c in
+          let hits : x.node hit.0 ≡ bit_of (is_at j (written_word n.access)) = (on (passes_here b s u hu (has_effect effect.Written) ∙ writes)).value x q0 n found items c in
           let gated : seen_or_zero x gate ≡ view_gate n items u = gates.read.value x q1 n found items c in
           let was : seen_or_zero x done ≡ (if f.once then n.kept (Done u.field) else 0) = (dones f hf).read.value x q1 n found items c in
           let y : x.node v.0 ≡ g n items = at.value x q0 n found items c in
@@ -132,7 +137,7 @@ module _ (b : Block) (a : Inlet) (old net new : Net) (s : Slot) (u : View) (hit 
       value = λ x q n found items c.
           let q1 = newer.settles x q in
           let q0 = older.settles x q1 in
-          let hits : x.node hit.0 ≡ bit_of (is_at j (written_word n.access)) = on.value x q0 n found items c in
+          let hits : x.node hit.0 ≡ bit_of (is_at j (written_word n.access)) = (on (passes_here b s u hu (has_effect effect.Used) ∙ once)).value x q0 n found items c in
           let gated : seen_or_zero x gate ≡ view_gate n items u = gates.read.value x q0 n found items c in
           let was : seen_or_zero x done ≡ (if f.once then n.kept (Done u.field) else 0) = (dones f hf).read.value x q0 n found items c in
           let y : x.node v.0 ≡ g n items = at.value x q0 n found items c in
@@ -191,16 +196,19 @@ read_put b a old new s u hit v id hu older wide node = record {
     stands = subst (λ w. Stands new id w) (wide f hf).width node.stands;
     value = λ x q n found items c.
         let q0 = older.settles x q in
-        let hits : x.node hit.0 ≡ bit_of (is_at j (read_word n.access)) = on.value x q0 n found items c in
         node.value x q
         ∙ ap (λ w. if x.node hit.0 == 1 then after_read u.on_read w (x.node v.0) else x.node v.0) (wide f hf).width
         ∙ ap (λ z. if x.node hit.0 == 1 then after_read u.on_read f.width z else z) (at.value x q0 n found items c)
-        ∙ ap (λ z. if z == 1 then after_read u.on_read f.width (g n items) else g n items) hits
-        ∙ read_value (is_at j (read_word n.access)) (after_read u.on_read f.width (g n items)) (g n items)
+        ∙ read_value u.on_read f.width (g n items) (x.node hit.0) (is_at j (read_word n.access)) (λ t. (on (passes_here b s u hu (has_effect effect.Read) ∙ t)).value x q0 n found items c)
         ∙ ap (λ z. if is_at j (read_word n.access) then z else g n items) (sym (read_here b s u hu f (g n items)));
   };
 }
   where
-    read_value : (c : Bool) (y z : ℕ) → (if bit_of c == 1 then y else z) ≡ (if c then y else z)
-    read_value true y z = refl
-    read_value false y z = refl
+    by_hit : (c : Bool) (h y z : ℕ) → h ≡ bit_of c → (if h == 1 then y else z) ≡ (if c then y else z)
+    by_hit true h y z e = rw e refl
+    by_hit false h y z e = rw e refl
+
+    read_value : (r : OnRead) (w y h : ℕ) (c : Bool) → (has_read_effect r ≡ true → h ≡ bit_of c) → (if h == 1 then after_read r w y else y) ≡ (if c then after_read r w y else y)
+    read_value on_read.Off w y h c e = sym (same_either (h == 1) y) ∙ same_either c y
+    read_value on_read.RClr w y h c e = by_hit c h 0 y (e refl)
+    read_value on_read.RSet w y h c e = by_hit c h (after_read on_read.RSet w y) y (e refl)

@@ -1,5 +1,6 @@
 -- Which words the nodes of an access reach.
 use Rattle.std.proofs.Common.{◌≡◌, ℕ, ◌<◌, ◌==◌, Bool, true, false, ◌&&◌, if◌then◌else◌, List, length, refl, sym, ap, ◌∙◌, subst, arith, inl, inr, ◌⊎◌}
+use Rattle.std.proofs.lemmas.Option.{slice_get_within}
 use Rattle.plain_lemmas.proofs.Numbers.{below-two as below_two}
 use Rattle.rtl_net.specs.Value.{At, bit_of}
 use Rattle.rtl_net.specs.Net.{Net, IsNode, Settles}
@@ -12,7 +13,7 @@ use Rattle.gen_decode.specs.Hits.{AreHits}
 use Rattle.gen_scene.specs.declared.base.Inlet.{Inlet}
 use Rattle.gen_scene.specs.Bases.{HasInlet}
 use Rattle.gen_scene.specs.Worth.{Finds}
-use Rattle.gen_access.specs.Words.{AreHitsOf, data_of, is_at, read_word, written_word}
+use Rattle.gen_access.specs.Words.{AreHitsOf, AreMarkedWords, data_of, is_at, read_word, reads_through, written_word, writes_through}
 
 -- an access of these nodes
 abbrev pub access_of : (valid write word bits : ℕ) → Access
@@ -72,7 +73,7 @@ module _ (b : Block) (valid write word bits : ℕ) (low_valid : valid < 2) (low_
       by x y (inr p) (inl q) = rw (p, q) refl
       by x y (inr p) (inr q) = rw (p, q) refl
 
-module _ (b : Block) (a : Inlet) (net : Net) (on : Id) (hits : List Id) (inlet : HasInlet net a) (hit : AreHits net on a.word hits) where
+module _ (b : Block) (a : Inlet) (net : Net) (on : Id) (needed : List Bool) (hits : List Id) (inlet : HasInlet net a) (hit : AreHits net on a.word needed hits) where
   valid_low : (v : At) → Settles net v → v.node a.valid.0 < 2
   valid_low v s = let f = fits_at net v a.valid 1 s inlet.valid in omega arith
 
@@ -82,28 +83,30 @@ module _ (b : Block) (a : Inlet) (net : Net) (on : Id) (hits : List Id) (inlet :
   there_at : (v : At) (n : Now) → Finds b a v n → IsThere b (access_of (v.node a.valid.0) (v.node a.write.0) (v.node a.word.0) (v.node a.bits.0))
   there_at v n f = subst (IsThere b) f.access f.there
 
-  pub read_hits : length hits ≡ length b.reads → IsNode net on 1 (λ x. bit_of (x.node a.valid.0 == 1 && bit_of (x.node a.write.0 == 0) == 1)) → AreHitsOf b a net b.reads read_word hits
-  read_hits long node = record {
-    long = long;
-    each = λ j l. record {
-      stands = hit.stand.each j (let e = long in omega arith);
+  pub read_hits : length hits ≡ length needed → AreMarkedWords b reads_through b.reads needed → IsNode net on 1 (λ x. bit_of (x.node a.valid.0 == 1 && bit_of (x.node a.write.0 == 0) == 1)) → AreHitsOf b a net b.reads read_word reads_through hits
+  read_hits counted marked node = record {
+    long = counted ∙ marked.long;
+    stand = λ j l. hit.stand.each j (let e = counted in let m = marked.long in omega arith);
+    each = λ j w at some. let l : j < length hits = (let e = counted in let m = marked.long in let k = slice_get_within b.reads j w at in omega arith) in record {
+      stands = hit.stand.each j l;
       value = λ v s n f items c.
           let e = node.value v s in
-          hit.value v s (λ one. let r = read_there b (v.node a.valid.0) (v.node a.write.0) (v.node a.word.0) (v.node a.bits.0) (valid_low v s) (write_low v s) (there_at v n f) (sym e ∙ one) in omega (arith, long)) j (let z = long in omega arith)
+          hit.value v s (λ one. let r = read_there b (v.node a.valid.0) (v.node a.write.0) (v.node a.word.0) (v.node a.bits.0) (valid_low v s) (write_low v s) (there_at v n f) (sym e ∙ one) in omega (arith, counted, marked.long)) j l (marked.each j w at ∙ some)
           ∙ ap (λ t. bit_of (t == 1 && v.node a.word.0 == j)) e
           ∙ read_at b (v.node a.valid.0) (v.node a.write.0) (v.node a.word.0) (v.node a.bits.0) (valid_low v s) (write_low v s) j
           ∙ ap (λ t. bit_of (is_at j (read_word t))) (sym f.access);
     };
   }
 
-  pub write_hits : length hits ≡ length b.writes → IsNode net on 1 (λ x. bit_of (x.node a.valid.0 == 1 && x.node a.write.0 == 1)) → AreHitsOf b a net b.writes written_word hits
-  write_hits long node = record {
-    long = long;
-    each = λ j l. record {
-      stands = hit.stand.each j (let e = long in omega arith);
+  pub write_hits : length hits ≡ length needed → AreMarkedWords b writes_through b.writes needed → IsNode net on 1 (λ x. bit_of (x.node a.valid.0 == 1 && x.node a.write.0 == 1)) → AreHitsOf b a net b.writes written_word writes_through hits
+  write_hits counted marked node = record {
+    long = counted ∙ marked.long;
+    stand = λ j l. hit.stand.each j (let e = counted in let m = marked.long in omega arith);
+    each = λ j w at some. let l : j < length hits = (let e = counted in let m = marked.long in let k = slice_get_within b.writes j w at in omega arith) in record {
+      stands = hit.stand.each j l;
       value = λ v s n f items c.
           let e = node.value v s in
-          hit.value v s (λ one. let r = write_there b (v.node a.valid.0) (v.node a.write.0) (v.node a.word.0) (v.node a.bits.0) (valid_low v s) (write_low v s) (there_at v n f) (sym e ∙ one) in omega (arith, long)) j (let z = long in omega arith)
+          hit.value v s (λ one. let r = write_there b (v.node a.valid.0) (v.node a.write.0) (v.node a.word.0) (v.node a.bits.0) (valid_low v s) (write_low v s) (there_at v n f) (sym e ∙ one) in omega (arith, counted, marked.long)) j l (marked.each j w at ∙ some)
           ∙ ap (λ t. bit_of (t == 1 && v.node a.word.0 == j)) e
           ∙ write_at b (v.node a.valid.0) (v.node a.write.0) (v.node a.word.0) (v.node a.bits.0) (valid_low v s) (write_low v s) j
           ∙ ap (λ t. bit_of (is_at j (written_word t))) (sym f.access);

@@ -1,10 +1,11 @@
 -- What slots and words in turn make of a table.
-use Rattle.std.proofs.Common.{◌≡◌, ◌≢◌, ℕ, ◌+◌, ◌<◌, ◌≤◌, ◌==◌, nat_lt, Bool, true, false, if◌then◌else◌, Option, Some, None, List, [], ◌++◌, length, fold, take, drop, slice_get, get_or, refl, sym, ap, ◌∙◌, subst, arith, get_or-set_other, get_or-set_same, length-set, inl, inr, ◌⊎◌}
+use Rattle.std.proofs.Common.{◌≡◌, ◌≢◌, ℕ, ◌+◌, ◌<◌, ◌≤◌, ◌==◌, nat_lt, Bool, true, false, ◌||◌, if◌then◌else◌, Option, Some, None, List, [], ◌∷◌, ◌++◌, length, fold, take, drop, slice_get, get_or, refl, sym, ap, ◌∙◌, subst, arith, get_or-set_other, get_or-set_same, length-set, inl, inr, ◌⊎◌}
 use Rattle.std.proofs.Math.ListN.{set}
+use Rattle.std.specs.List.{list_any}
 use Rattle.std.specs.Option.{option_map_or}
 use Rattle.std.proofs.lemmas.List.{take_at, take_more}
 use Rattle.std.proofs.lemmas.Option.{same_Some, slice_get-get_or, slice_get_within}
-use Rattle.plain_lemmas.proofs.Bools.{if-same as same_either}
+use Rattle.plain_lemmas.proofs.Bools.{if-same as same_either, or-left as or_first, or-true_right as or_second}
 use Rattle.plain_lemmas.proofs.Lists.{fold-push}
 use Rattle.rtl_net.specs.Net.{Net, Grows, Stands}
 use Rattle.rtl_net.specs.Ids.{at}
@@ -16,7 +17,8 @@ use Rattle.rb_model.specs.declared.block.View.{View}
 use Rattle.rb_model.specs.declared.block.Slot.{Slot}
 use Rattle.rb_model.specs.declared.block.Word.{Word}
 use Rattle.rb_model.specs.Items.{Access, Now, ItemValues, AreItemValues, slots_of}
-use Rattle.rb_model.specs.Sound.{IsSound, WordIsSound, SlotIsSound}
+use Rattle.rb_model.specs.Effects.{has_read_effect}
+use Rattle.rb_model.specs.Sound.{IsSound, WordIsSound, SlotIsSound, view_passes}
 use Rattle.rb_model.proofs.Eachs.{Each-at}
 use Rattle.block_plan.specs.Behind.{IsThere}
 use Rattle.gen_scene.specs.declared.base.Inlet.{Inlet}
@@ -26,19 +28,51 @@ use Rattle.gen_scene.proofs.Worths.{IsWorth-grows, IsBase-grows, HasView-grows}
 use Rattle.rb_model.specs.References.{Each}
 use Rattle.gen_access.specs.declared.software.Effect.{Effect}
 use Rattle.gen_access.specs.declared.software.Effect.TheVariants as effect
-use Rattle.gen_access.specs.Effects.{words_of}
+use Rattle.gen_access.specs.Effects.{has_effect, ways_of, words_of}
 use Rattle.gen_access.specs.declared.touched.Touch.{Touch}
 use Rattle.gen_access.specs.declared.touched.Touch.TheVariants as touch
-use Rattle.gen_access.specs.Touches.{touch_words}
+use Rattle.gen_access.specs.Touches.{touch_ways, touch_words, touches}
 use Rattle.gen_access.specs.Tables.{AreNodes, AreWorth, Changes, HasViews, Step}
-use Rattle.gen_access.specs.Words.{AreHitsOf, SlotFits, SlotStep, below, is_at}
+use Rattle.gen_access.specs.Words.{AreHitsOf, SlotFits, SlotStep, below, is_at, passes_some}
 use Rattle.plain_lemmas.proofs.Numbers.{same_or_other}
 
 pub HasViews-grows : (old new : Net) (s : Scene) → Grows old new → HasViews old s → HasViews new s
 HasViews-grows old new s h v = record { base = IsBase-grows old new h s.base.now v.base; each = λ k u e. HasView-grows old new h s k u (v.each k u e) }
 
-pub AreHitsOf-grows : (b : Block) (a : Inlet) (old new : Net) (words : List Word) (reached : Access → Option ℕ) (hits : List Id) → Grows old new → AreHitsOf b a old words reached hits → AreHitsOf b a new words reached hits
-AreHitsOf-grows b a old new words reached hits h k = record { long = k.long; each = λ j l. IsWorth-grows b a old new (at hits j) 1 _ h (k.each j l) }
+pub AreHitsOf-grows : (b : Block) (a : Inlet) (old new : Net) (words : List Word) (reached : Access → Option ℕ) (acts : View → Bool) (hits : List Id) → Grows old new → AreHitsOf b a old words reached acts hits → AreHitsOf b a new words reached acts hits
+AreHitsOf-grows b a old new words reached acts hits h k = record {
+  long = k.long;
+  stand = λ j l. Stands-grows old new (at hits j) 1 h (k.stand j l);
+  each = λ j w e t. IsWorth-grows b a old new (at hits j) 1 _ h (k.each j w e t);
+}
+
+-- a view that passes one test passes another
+pub passes_more : (b : Block) (p q : View → Bool) → ((u : View) → p u ≡ true → q u ≡ true) → (slots : List Slot) → passes_some b p slots ≡ true → passes_some b q slots ≡ true
+passes_more b p q f [] h = cc
+passes_more b p q f (s ∷ ss) h = either (view_passes b p s) (list_any (view_passes b p) ss) (view_passes b q s) (list_any (view_passes b q) ss) (one (slice_get b.views s.view)) (passes_more b p q f ss) h
+  where
+    one : (o : Option View) → option_map_or p o false ≡ true → option_map_or q o false ≡ true
+    one None h = cc
+    one (Some u) h = f u h
+
+    later : (c d : Bool) → d ≡ true → (c || d) ≡ true
+    later true d h = refl
+    later false d h = h
+
+    either : (x y v w : Bool) → (x ≡ true → v ≡ true) → (y ≡ true → w ≡ true) → (x || y) ≡ true → (v || w) ≡ true
+    either true y v w f g h = rw (f refl) refl
+    either false y v w f g h = later v w (g h)
+
+-- what has an effect does something
+pub effect_acts : (e : Effect) (u : View) → has_effect e u ≡ true → ways_of e u ≡ true
+effect_acts effect.Written u h = or_first u.writes u.once h
+effect_acts effect.Read u h = or_second u.reads (has_read_effect u.on_read) h
+effect_acts effect.Used u h = or_second u.writes u.once h
+
+pub touch_acts : (t : Touch) (u : View) → touches t u ≡ true → touch_ways t u ≡ true
+touch_acts touch.ReadsWithEffect u h = or_second u.reads (has_read_effect u.on_read) h
+touch_acts touch.Reads u h = or_first u.reads (has_read_effect u.on_read) h
+touch_acts touch.Writes u h = or_first u.writes u.once h
 
 -- Tables
 

@@ -19,7 +19,7 @@ use Rattle.gen_access.specs.declared.touched.Strobe.TheVariants as mark
 use Rattle.gen_access.specs.declared.touched.Touch.{Touch}
 use Rattle.gen_access.specs.declared.touched.Touch.TheVariants as touch
 use Rattle.gen_access.specs.Tables.{Step}
-use Rattle.gen_access.specs.Words.{SlotStep, below, read_word, written_word}
+use Rattle.gen_access.specs.Words.{SlotStep, below, read_word, reads_through, written_word, writes_through}
 
 -- the item of a field that the mark is
 abbrev pub mark_item : Strobe → ℕ → RefItem
@@ -36,6 +36,11 @@ abbrev pub touch_reached : Touch → Access → Option ℕ
 touch_reached touch.ReadsWithEffect a = read_word a
 touch_reached touch.Reads a = read_word a
 touch_reached touch.Writes a = written_word a
+
+abbrev pub touch_ways : Touch → View → Bool
+touch_ways touch.ReadsWithEffect u = reads_through u
+touch_ways touch.Reads u = reads_through u
+touch_ways touch.Writes u = writes_through u
 
 abbrev pub touch_words : Block → Touch → List Word
 touch_words b touch.ReadsWithEffect = b.reads

@@ -1,15 +1,15 @@
 //! What an access makes of the fields, slot by slot.
 
-ghost use Rattle.std.specs.Prelude.{◌≡◌, ◌<◌, ℕ, IfOk, OnOk, Some, length, slice_get, fold, ◌==◌, if◌then◌else◌};
+ghost use Rattle.std.specs.Prelude.{◌≡◌, ◌<◌, ℕ, IfOk, OnOk, Some, length, slice_get, fold, IsTrue, ◌==◌, if◌then◌else◌};
 ghost use Rattle.rtl_net.specs.Value.{At, bit_of};
 ghost use Rattle.rtl_net.specs.Net.{Grows, IsNode, Has, Stands, width_in};
 ghost use Rattle.rb_model.specs.Effects as effects;
 ghost use Rattle.rb_model.specs.declared.block.Field.{Field};
 ghost use Rattle.rb_model.specs.Items.{Now, ItemValues};
-ghost use Rattle.rb_model.specs.Sound.{WordIsSound};
+ghost use Rattle.rb_model.specs.Sound.{WordIsSound, view_passes};
 ghost use Rattle.gen_scene.specs.Worth.{IsWorth};
 ghost use Rattle.gen_access.specs.Tables.{AreNodes, Changes, HasViews};
-ghost use Rattle.gen_access.specs.Words.{AreHitsOf, SlotFits, below, is_at};
+ghost use Rattle.gen_access.specs.Words.{AreHitsOf, SlotFits, below, is_at, passes_some};
 ghost use Rattle.gen_access.specs.Effects as spec;
 
 use gen_fields::{SoftHit, acting, software};
@@ -192,7 +192,8 @@ fn put_slot(
     ensures older { Grows net.old net.new }
     ensures name { net.new.name ≡ net.old.name }
     ensures table { OnOk result (AreNodes scene.now.base.now.block.now net.new table.new (spec.width_of effect)) }
-    ensures changes { OnOk result ((j : ℕ) → IsWorth scene.now.base.now.block.now scene.now.base.now.inlet net.old hit 1 (λ n v. bit_of (is_at j (spec.reached_by effect n.access)))
+    ensures changes { OnOk result ((j : ℕ) → (IsTrue (view_passes scene.now.base.now.block.now (spec.has_effect effect) slot)
+        → IsWorth scene.now.base.now.block.now scene.now.base.now.inlet net.old hit 1 (λ n v. bit_of (is_at j (spec.reached_by effect n.access))))
         → Changes scene.now.base.now.block.now scene.now.base.now.inlet net.old net.new table.old table.new (spec.width_of effect)
         (λ n v k f x. if is_at j (spec.reached_by effect n.access) then spec.slot_effect scene.now.base.now.block.now effect n v k f x slot else x)) }
 {
@@ -219,7 +220,8 @@ fn put_word(
     ensures older { Grows net.old net.new }
     ensures name { net.new.name ≡ net.old.name }
     ensures table { OnOk result (AreNodes scene.now.base.now.block.now net.new table.new (spec.width_of effect)) }
-    ensures changes { OnOk result ((j : ℕ) → IsWorth scene.now.base.now.block.now scene.now.base.now.inlet net.old hit 1 (λ n v. bit_of (is_at j (spec.reached_by effect n.access)))
+    ensures changes { OnOk result ((j : ℕ) → (IsTrue (passes_some scene.now.base.now.block.now (spec.has_effect effect) word.now.slots)
+        → IsWorth scene.now.base.now.block.now scene.now.base.now.inlet net.old hit 1 (λ n v. bit_of (is_at j (spec.reached_by effect n.access))))
         → Changes scene.now.base.now.block.now scene.now.base.now.inlet net.old net.new table.old table.new (spec.width_of effect)
         (λ n v k f x. if is_at j (spec.reached_by effect n.access) then fold (spec.slot_effect scene.now.base.now.block.now effect n v k f) x word.now.slots else x)) }
 {
@@ -230,7 +232,7 @@ fn put_word(
 }
 
 /// Puts an effect of software behind what the table has of each field. `hits` says of each word of the effect whether the access
-/// reaches it. The only error is want of memory, after which the netlist has some of the nodes.
+/// reaches it, if it does something there. The only error is want of memory, after which the netlist has some of the nodes.
 pub fn software_nodes(
     net: &mut Netlist,
     scene: &Scene,
@@ -239,7 +241,7 @@ pub fn software_nodes(
     table: &mut [Id],
 ) -> Result<(), NoMemory>
     requires views { HasViews net.old scene.now }
-    requires hits { AreHitsOf scene.now.base.now.block.now scene.now.base.now.inlet net.old (spec.words_of scene.now.base.now.block.now effect) (spec.reached_by effect) hits.now }
+    requires hits { AreHitsOf scene.now.base.now.block.now scene.now.base.now.inlet net.old (spec.words_of scene.now.base.now.block.now effect) (spec.reached_by effect) (spec.ways_of effect) hits.now }
     requires table { AreNodes scene.now.base.now.block.now net.old table.old (spec.width_of effect) }
     ensures older { Grows net.old net.new }
     ensures name { net.new.name ≡ net.old.name }

@@ -1,15 +1,15 @@
 //! Which fields an access touches.
 
-ghost use Rattle.std.specs.Prelude.{◌≡◌, ◌&&◌, ℕ, IfOk, OnOk, length, fold, if◌then◌else◌};
+ghost use Rattle.std.specs.Prelude.{◌≡◌, ◌&&◌, ℕ, IfOk, IsTrue, OnOk, length, fold, if◌then◌else◌};
 ghost use Rattle.rtl_net.specs.Value.{bit_of};
 ghost use Rattle.rtl_net.specs.Net.{Grows, Stands};
-ghost use Rattle.rb_model.specs.Sound.{IsSound, WordIsSound};
+ghost use Rattle.rb_model.specs.Sound.{IsSound, WordIsSound, view_passes};
 ghost use Rattle.gen_scene.specs.Bases.{IsBase};
 ghost use Rattle.block_plan.specs.Wanted as wants;
 ghost use Rattle.gen_scene.specs.Items as items;
 ghost use Rattle.gen_scene.specs.Worth.{IsWorth};
 ghost use Rattle.gen_access.specs.Tables.{AreNodes, AreWorth, Changes};
-ghost use Rattle.gen_access.specs.Words.{AreHitsOf, SlotFits, below, is_at, read_word, written_word};
+ghost use Rattle.gen_access.specs.Words.{AreHitsOf, SlotFits, below, is_at, passes_some, read_word, reads_through, written_word, writes_through};
 ghost use Rattle.gen_access.specs.Touches as spec;
 
 use crate::reached::WordHits;
@@ -97,7 +97,8 @@ impl<'a> Marking<'a> {
         ensures older { Grows net.old net.new }
         ensures name { net.new.name ≡ net.old.name }
         ensures table { OnOk result (AreNodes self.now.base.now.block.now net.new table.new spec.one_bit) }
-        ensures changes { OnOk result ((j : ℕ) → IsWorth self.now.base.now.block.now self.now.base.now.inlet net.old hit 1 (λ n v. bit_of (is_at j (spec.touch_reached self.now.touch n.access)))
+        ensures changes { OnOk result ((j : ℕ) → (IsTrue (view_passes self.now.base.now.block.now (spec.touches self.now.touch) slot)
+            → IsWorth self.now.base.now.block.now self.now.base.now.inlet net.old hit 1 (λ n v. bit_of (is_at j (spec.touch_reached self.now.touch n.access))))
             → Changes self.now.base.now.block.now self.now.base.now.inlet net.old net.new table.old table.new spec.one_bit
             (λ n v k f x. if is_at j (spec.touch_reached self.now.touch n.access) then spec.slot_mark self.now.base.now.block.now self.now.wanted.now self.now.mark self.now.touch n v k f x slot else x)) }
     {
@@ -125,7 +126,8 @@ impl<'a> Marking<'a> {
         ensures older { Grows net.old net.new }
         ensures name { net.new.name ≡ net.old.name }
         ensures table { OnOk result (AreNodes self.now.base.now.block.now net.new table.new spec.one_bit) }
-        ensures changes { OnOk result ((j : ℕ) → IsWorth self.now.base.now.block.now self.now.base.now.inlet net.old hit 1 (λ n v. bit_of (is_at j (spec.touch_reached self.now.touch n.access)))
+        ensures changes { OnOk result ((j : ℕ) → (IsTrue (passes_some self.now.base.now.block.now (spec.touches self.now.touch) word.now.slots)
+            → IsWorth self.now.base.now.block.now self.now.base.now.inlet net.old hit 1 (λ n v. bit_of (is_at j (spec.touch_reached self.now.touch n.access))))
             → Changes self.now.base.now.block.now self.now.base.now.inlet net.old net.new table.old table.new spec.one_bit
             (λ n v k f x. if is_at j (spec.touch_reached self.now.touch n.access)
             then fold (spec.slot_mark self.now.base.now.block.now self.now.wanted.now self.now.mark self.now.touch n v k f) x word.now.slots else x)) }
@@ -139,7 +141,7 @@ impl<'a> Marking<'a> {
     /// Puts the marks of all words' fields behind what the table has of each field.
     fn all(&self, net: &mut Netlist, hits: &[Id], table: &mut [Id]) -> Result<(), NoMemory>
         requires sound { IsSound self.now.base.now.block.now }
-        requires hits { AreHitsOf self.now.base.now.block.now self.now.base.now.inlet net.old (spec.touch_words self.now.base.now.block.now self.now.touch) (spec.touch_reached self.now.touch) hits.now }
+        requires hits { AreHitsOf self.now.base.now.block.now self.now.base.now.inlet net.old (spec.touch_words self.now.base.now.block.now self.now.touch) (spec.touch_reached self.now.touch) (spec.touch_ways self.now.touch) hits.now }
         requires table { AreNodes self.now.base.now.block.now net.old table.old spec.one_bit }
         ensures older { Grows net.old net.new }
         ensures name { net.new.name ≡ net.old.name }
@@ -180,8 +182,8 @@ fn put_marks(
     table: &mut [Id],
 ) -> Result<(), NoMemory>
     requires sound { IsSound base.now.block.now }
-    requires reads { AreHitsOf base.now.block.now base.now.inlet net.old (spec.touch_words base.now.block.now kind.1) (spec.touch_reached kind.1) hits.now.reads.items }
-    requires writes { AreHitsOf base.now.block.now base.now.inlet net.old base.now.block.now.writes written_word hits.now.writes.items }
+    requires reads { AreHitsOf base.now.block.now base.now.inlet net.old (spec.touch_words base.now.block.now kind.1) (spec.touch_reached kind.1) (spec.touch_ways kind.1) hits.now.reads.items }
+    requires writes { AreHitsOf base.now.block.now base.now.inlet net.old base.now.block.now.writes written_word writes_through hits.now.writes.items }
     requires table { AreNodes base.now.block.now net.old table.old spec.one_bit }
     ensures older { Grows net.old net.new }
     ensures name { net.new.name ≡ net.old.name }
@@ -220,8 +222,8 @@ fn marked(
 ) -> Result<Vec<Id>, NoMemory>
     requires sound { IsSound base.now.block.now }
     requires reading { spec.IsReading reading }
-    requires reads { AreHitsOf base.now.block.now base.now.inlet net.old (spec.touch_words base.now.block.now reading) (spec.touch_reached reading) hits.now.reads.items }
-    requires writes { AreHitsOf base.now.block.now base.now.inlet net.old base.now.block.now.writes written_word hits.now.writes.items }
+    requires reads { AreHitsOf base.now.block.now base.now.inlet net.old (spec.touch_words base.now.block.now reading) (spec.touch_reached reading) (spec.touch_ways reading) hits.now.reads.items }
+    requires writes { AreHitsOf base.now.block.now base.now.inlet net.old base.now.block.now.writes written_word writes_through hits.now.writes.items }
     ensures older { Grows net.old net.new }
     ensures name { net.new.name ≡ net.old.name }
     ensures long { IfOk result (λ t. length t.items ≡ length base.now.block.now.fields) }
@@ -259,8 +261,8 @@ pub fn marks(
     wanted: &[bool],
 ) -> Result<Vec<Marks>, NoMemory>
     requires base { IsBase net.old base.now }
-    requires reads { AreHitsOf base.now.block.now base.now.inlet net.old base.now.block.now.reads read_word hits.now.reads.items }
-    requires writes { AreHitsOf base.now.block.now base.now.inlet net.old base.now.block.now.writes written_word hits.now.writes.items }
+    requires reads { AreHitsOf base.now.block.now base.now.inlet net.old base.now.block.now.reads read_word reads_through hits.now.reads.items }
+    requires writes { AreHitsOf base.now.block.now base.now.inlet net.old base.now.block.now.writes written_word writes_through hits.now.writes.items }
     ensures older { Grows net.old net.new }
     ensures name { net.new.name ≡ net.old.name }
     ensures marks { IfOk result (λ all. items.AreMarks base.now.block.now base.now.inlet net.new wanted.now all.items) }

@@ -1,8 +1,10 @@
 -- The read data, slot by slot and word by word.
-use Rattle.std.proofs.Common.{◌≡◌, ℕ, suc, ◌+◌, ◌-◌, ◌*◌, ◌^◌, ◌<◌, ◌≤◌, ◌==◌, nat_lt, lt-ltb, bit_or, Bool, true, false, if◌then◌else◌, Option, Some, None, List, [], ◌∷◌, ◌++◌, length, fold, take, slice_get, get_or, refl, sym, ap, ◌∙◌, subst, arith, inl, inr, ◌⊎◌}
+use Rattle.std.proofs.Common.{◌≡◌, ℕ, suc, ◌+◌, ◌-◌, ◌*◌, ◌^◌, ◌<◌, ◌≤◌, ◌==◌, nat_lt, lt-ltb, bit_or, Bool, true, false, ◌||◌, if◌then◌else◌, Option, Some, None, List, [], ◌∷◌, ◌++◌, length, fold, take, slice_get, get_or, refl, sym, ap, ◌∙◌, subst, arith, inl, inr, ◌⊎◌}
+use Rattle.std.specs.List.{list_any}
 use Rattle.std.specs.Option.{option_map_or}
 use Rattle.std.proofs.lemmas.List.{length-append, get_or_append_left, get_or_at, take_more, take_all}
 use Rattle.std.specs.Int.Bits.{or_zero_l, or_zero_r}
+use Rattle.plain_lemmas.proofs.Bools.{or-neither as or_false, same-if as same_either}
 use Rattle.plain_lemmas.proofs.Lists.{fold-push}
 use Rattle.plain_lemmas.proofs.Numbers.{below_next-or_same as split}
 use Rattle.rb_base.specs.Bits.{part}
@@ -18,14 +20,16 @@ use Rattle.rb_model.specs.declared.block.View.{View}
 use Rattle.rb_model.specs.declared.block.Slot.{Slot}
 use Rattle.rb_model.specs.declared.block.Word.{Word}
 use Rattle.rb_model.specs.Items.{Access, NoAccess, Read, Write, ItemValues, slots_of}
+use Rattle.rb_model.specs.Effects.{has_read_effect}
 use Rattle.rb_model.specs.Machine.{read_data, slot_value}
+use Rattle.rb_model.specs.Sound.{view_passes}
 use Rattle.block_plan.specs.Behind.{IsThere}
 use Rattle.gen_scene.specs.declared.base.Inlet.{Inlet}
 use Rattle.gen_clock.specs.declared.stacks.Stack.{Stack}
 use Rattle.gen_clock.specs.Stacks.{IsLaid, MayStack, stacked}
 use Rattle.gen_scene.specs.Worth.{IsRead, IsWorth}
 use Rattle.gen_scene.proofs.Worths.{IsWorth-grows, worth_read}
-use Rattle.gen_access.specs.Words.{is_at, read_word}
+use Rattle.gen_access.specs.Words.{is_at, passes_some, read_word, reads_through}
 use Rattle.gen_clock.specs.Edges.{IsAnswerOf, IsLaidOn, shown_by}
 
 -- One slot
@@ -100,6 +104,25 @@ data_all b a first net new stack id slots whole end same past to h node =
     worth_read b a net new id 32 (λ x. stacked x stack) (λ n v. shown_by b v whole) h node
     (subst (λ ss. IsRead b a net (λ x. stacked x stack) (λ n v. shown_by b v ss)) (take_all end slots past ∙ same) to.read)
 
+-- slots of which none is read show nothing
+nothing_read : (b : Block) (v : ItemValues) (slots : List Slot) → passes_some b reads_through slots ≡ false → shown_by b v slots ≡ 0
+nothing_read b v slots h = all slots 0 h
+  where
+    value : Slot → View → ℕ
+    value s w = part (v (item.Field w.field)) (s.from + s.bits - 1) s.from * 2 ^ s.low
+
+    one : (s : Slot) (o : Option View) → option_map_or reads_through o false ≡ false → option_map_or (λ w. if w.reads then value s w else 0) o 0 ≡ 0
+    one s None h = refl
+    one s (Some w) h = rw (or_false w.reads (has_read_effect w.on_read) h).0 refl
+
+    all : (slots : List Slot) (acc : ℕ) → list_any (view_passes b reads_through) slots ≡ false → fold (λ acc s. bit_or acc (slot_value b v s)) acc slots ≡ acc
+    all [] acc h = refl
+    all (s ∷ ss) acc h =
+        let p = or_false (view_passes b reads_through s) (list_any (view_passes b reads_through) ss) h in
+        ap (λ y. fold (λ acc s. bit_or acc (slot_value b v s)) (bit_or acc y) ss) (one s (slice_get b.views s.view) p.0)
+        ∙ ap (λ y. fold (λ acc s. bit_or acc (slot_value b v s)) y ss) (or_zero acc)
+        ∙ all ss acc p.1
+
 pub chosen : (b : Block) (a : Inlet) (old net new : Net) (hit all none id : Id) (slots : List Slot) (w : ℕ) → w ≡ 32 → Grows old net → Grows net new → IsWorth b a net all 32 (λ n v. shown_by b v slots) → IsNode net none 32 (λ x. 0)
     → IsNode new id w (λ x. if x.node hit.0 == 1 then x.node all.0 else x.node none.0) → IsAnswerOf b a old new hit slots id
 chosen b a old net new hit all none id slots w wide h1 h2 at zeros node = record {
@@ -109,16 +132,17 @@ chosen b a old net new hit all none id slots w wide h1 h2 at zeros node = record
     value = λ x q n found items c.
         let q1 = h2.settles x q in
         node.value x q
-        ∙ ap (λ y. if y == 1 then x.node all.0 else x.node none.0) (on.value x (h1.settles x q1) n found items c)
-        ∙ ap (λ y. if bit_of (is_at j (read_word n.access)) == 1 then y else x.node none.0) (at.value x q1 n found items c)
-        ∙ ap (λ y. if bit_of (is_at j (read_word n.access)) == 1 then shown_by b items slots else y) (zeros.value x q1)
-        ∙ bit (is_at j (read_word n.access)) (shown_by b items slots);
+        ∙ ap (λ y. if x.node hit.0 == 1 then y else x.node none.0) (at.value x q1 n found items c)
+        ∙ ap (λ y. if x.node hit.0 == 1 then shown_by b items slots else y) (zeros.value x q1)
+        ∙ by_hit (passes_some b reads_through slots) (is_at j (read_word n.access)) (x.node hit.0) (shown_by b items slots)
+        (λ t. (on t).value x (h1.settles x q1) n found items c) (nothing_read b items slots);
   };
 }
   where
-    bit : (c : Bool) (y : ℕ) → (if bit_of c == 1 then y else 0) ≡ (if c then y else 0)
-    bit true y = refl
-    bit false y = refl
+    by_hit : (some c : Bool) (h y : ℕ) → (some ≡ true → h ≡ bit_of c) → (some ≡ false → y ≡ 0) → (if h == 1 then y else 0) ≡ (if c then y else 0)
+    by_hit true true h y e z = rw (e refl) refl
+    by_hit true false h y e z = rw (e refl) refl
+    by_hit false c h y e z = rw (z refl) (sym (same_either (h == 1) 0) ∙ same_either c 0)
 
 -- All words
 
@@ -133,7 +157,7 @@ pub answers_none : (b : Block) (a : Inlet) (net : Net) (ids : List Id) (words : 
 answers_none b a net ids words e = record { older = Grows-refl net; name = refl; long = ap length e; each = λ k l. absurd (omega arith) }
 
 pub answers_more : (b : Block) (a : Inlet) (first net new : Net) (ids more : List Id) (words : List Word) (end : ℕ) (word : Word) (hit id : Id) → slice_get words end ≡ Some word → AnswersTo b a first net ids words end
-    → Grows net new → new.name ≡ net.name → IsAnswerOf b a net new hit word.slots id → IsWorth b a net hit 1 (λ n v. bit_of (is_at end (read_word n.access))) → more ≡ ids ++ id ∷ [] → AnswersTo b a first new more words (end + 1)
+    → Grows net new → new.name ≡ net.name → IsAnswerOf b a net new hit word.slots id → (passes_some b reads_through word.slots ≡ true → IsWorth b a net hit 1 (λ n v. bit_of (is_at end (read_word n.access)))) → more ≡ ids ++ id ∷ [] → AnswersTo b a first new more words (end + 1)
 answers_more b a first net new ids more words end word hit id here to h e answer on added = record {
   older = Grows-trans first net new to.older h;
   name = e ∙ to.name;

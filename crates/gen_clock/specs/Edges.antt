@@ -1,5 +1,5 @@
 -- What an edge makes of a block, as nodes.
-use Rattle.std.specs.Prelude.{◌≡◌, ℕ, ◌<◌, ◌&&◌, true, false, if◌then◌else◌, Option, Some, unwrap_or, List, length, slice_get, fold, bit_or}
+use Rattle.std.specs.Prelude.{◌≡◌, ℕ, ◌<◌, ◌&&◌, true, false, IsTrue, if◌then◌else◌, Option, Some, unwrap_or, List, length, slice_get, fold, bit_or}
 use Rattle.rtl_net.specs.Value.{bit_of}
 use Rattle.rtl_net.specs.Net.{Net, Stands}
 use Rattle.rtl_net.specs.Ids.{at}
@@ -21,7 +21,7 @@ use Rattle.gen_scene.specs.Bases.{IsBase}
 use Rattle.gen_scene.specs.Items.{IsItem}
 use Rattle.gen_scene.specs.Worth.{IsRead, IsWorth}
 use Rattle.gen_access.specs.Tables.{HasViews, Step}
-use Rattle.gen_access.specs.Words.{is_at, read_word}
+use Rattle.gen_access.specs.Words.{is_at, passes_some, read_word, reads_through}
 use Rattle.gen_clock.specs.Moves.{HasFields, moved_in}
 
 -- a netlist has the nodes of a sound block that an edge refers to
@@ -67,10 +67,10 @@ pub record AreValues (s : Scene) (ids : List Id) : Type 0 where
 pub record HasPlaces (s : Scene) : Type 0 where
   pub each : (k : ℕ) → k < length s.base.now.block.now.fields → item_place (item.Field k) < length s.items.now
 
--- a node is what the slots of word j show where hit says that the access reads that word, else 0
+-- a node is what the slots of word j show where hit says, if anything is read there, that the access reads that word, else 0
 pub record IsAnswerOf (b : Block) (a : Inlet) (old new : Net) (hit : Id) (slots : List Slot) (id : Id) : Type 0 where
   pub stands : Stands new id 32
-  pub worth : (j : ℕ) → IsWorth b a old hit 1 (λ n v. bit_of (is_at j (read_word n.access))) → IsWorth b a new id 32 (λ n v. if is_at j (read_word n.access) then shown_by b v slots else 0)
+  pub worth : (j : ℕ) → (IsTrue (passes_some b reads_through slots) → IsWorth b a old hit 1 (λ n v. bit_of (is_at j (read_word n.access)))) → IsWorth b a new id 32 (λ n v. if is_at j (read_word n.access) then shown_by b v slots else 0)
 
 -- what keeps a value: a field that has it
 abbrev pub IsKeptBy : Block → Kept → Type 0

@@ -5,7 +5,7 @@ ghost use Rattle.rtl_net.specs.Net.{Grows, Stands};
 ghost use Rattle.rb_model.specs.Sound.{WordIsSound};
 ghost use Rattle.rb_model.specs.Machine.{read_data, slot_value};
 ghost use Rattle.gen_scene.specs.Worth.{IsWorth};
-ghost use Rattle.gen_access.specs.Words.{AreHitsOf, SlotFits, read_word};
+ghost use Rattle.gen_access.specs.Words.{AreHitsOf, SlotFits, read_word, reads_through};
 ghost use Rattle.gen_clock.specs.Stacks.{MayStack};
 ghost use Rattle.gen_clock.specs.Edges.{IsAnswerOf, IsLaidOn, IsScene, shown_by};
 
@@ -95,7 +95,7 @@ pub fn answer_node(
     hits: &[Id],
 ) -> Result<Id, NoMemory>
     requires scene { IsScene net.old scene.now }
-    requires hits { AreHitsOf scene.now.base.now.block.now scene.now.base.now.inlet net.old scene.now.base.now.block.now.reads read_word hits.now }
+    requires hits { AreHitsOf scene.now.base.now.block.now scene.now.base.now.inlet net.old scene.now.base.now.block.now.reads read_word reads_through hits.now }
     ensures older { Grows net.old net.new }
     ensures name { net.new.name ≡ net.old.name }
     ensures worth { IfOk result (λ id. IsWorth scene.now.base.now.block.now scene.now.base.now.inlet net.new id 32

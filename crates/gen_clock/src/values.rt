@@ -7,7 +7,7 @@ ghost use Rattle.rb_model.specs.Kept.{Done};
 ghost use Rattle.rb_model.specs.declared.kinds.RefItem.TheVariants as item;
 ghost use Rattle.gen_scene.specs.Bases.{IsBase};
 ghost use Rattle.gen_access.specs.Tables.{AreNodes, AreWorth, Changes};
-ghost use Rattle.gen_access.specs.Words.{AreHitsOf, read_word, written_word};
+ghost use Rattle.gen_access.specs.Words.{AreHitsOf, read_word, reads_through, written_word, writes_through};
 ghost use Rattle.gen_access.specs.Touches.{one_bit};
 ghost use Rattle.gen_clock.specs.Edges as spec;
 
@@ -56,8 +56,8 @@ fn put_edge(
     table: &mut [Id],
 ) -> Result<(), NoMemory>
     requires scene { spec.IsScene net.old scene.now }
-    requires reads { AreHitsOf scene.now.base.now.block.now scene.now.base.now.inlet net.old scene.now.base.now.block.now.reads read_word hits.now.reads.items }
-    requires writes { AreHitsOf scene.now.base.now.block.now scene.now.base.now.inlet net.old scene.now.base.now.block.now.writes written_word hits.now.writes.items }
+    requires reads { AreHitsOf scene.now.base.now.block.now scene.now.base.now.inlet net.old scene.now.base.now.block.now.reads read_word reads_through hits.now.reads.items }
+    requires writes { AreHitsOf scene.now.base.now.block.now scene.now.base.now.inlet net.old scene.now.base.now.block.now.writes written_word writes_through hits.now.writes.items }
     requires table { AreNodes scene.now.base.now.block.now net.old table.old (λ f. f.width) }
     ensures older { Grows net.old net.new }
     ensures name { net.new.name ≡ net.old.name }
@@ -82,8 +82,8 @@ pub fn moved_nodes(
     hits: &WordHits,
 ) -> Result<Vec<Id>, NoMemory>
     requires scene { spec.IsScene net.old scene.now }
-    requires reads { AreHitsOf scene.now.base.now.block.now scene.now.base.now.inlet net.old scene.now.base.now.block.now.reads read_word hits.now.reads.items }
-    requires writes { AreHitsOf scene.now.base.now.block.now scene.now.base.now.inlet net.old scene.now.base.now.block.now.writes written_word hits.now.writes.items }
+    requires reads { AreHitsOf scene.now.base.now.block.now scene.now.base.now.inlet net.old scene.now.base.now.block.now.reads read_word reads_through hits.now.reads.items }
+    requires writes { AreHitsOf scene.now.base.now.block.now scene.now.base.now.inlet net.old scene.now.base.now.block.now.writes written_word writes_through hits.now.writes.items }
     ensures older { Grows net.old net.new }
     ensures name { net.new.name ≡ net.old.name }
     ensures moved { IfOk result (λ t. spec.AreMoved scene.now.base.now.block.now scene.now.base.now.inlet net.new t.items) }
@@ -121,7 +121,7 @@ pub fn used_nodes(
     writes: &[Id],
 ) -> Result<Vec<Id>, NoMemory>
     requires scene { spec.IsScene net.old scene.now }
-    requires writes { AreHitsOf scene.now.base.now.block.now scene.now.base.now.inlet net.old scene.now.base.now.block.now.writes written_word writes.now }
+    requires writes { AreHitsOf scene.now.base.now.block.now scene.now.base.now.inlet net.old scene.now.base.now.block.now.writes written_word writes_through writes.now }
     ensures older { Grows net.old net.new }
     ensures name { net.new.name ≡ net.old.name }
     ensures used { IfOk result (λ t. spec.AreUsed scene.now.base.now.block.now scene.now.base.now.inlet net.new t.items) }

@@ -3,7 +3,7 @@
 ghost use Rattle.std.specs.Prelude.{◌≡◌, IfOk, OnOk};
 ghost use Rattle.rtl_net.specs.Net.{Grows};
 ghost use Rattle.gen_scene.specs.Bases.{IsBase};
-ghost use Rattle.gen_access.specs.Words.{AreHitsOf, read_word, written_word};
+ghost use Rattle.gen_access.specs.Words.{AreHitsOf, read_word, reads_through, written_word, writes_through};
 ghost use Rattle.gen_clock.specs.Edges.{AreNexts, IsScene};
 ghost use Rattle.gen_core.specs.Parts.{HasParts, HasShown, HasTaken, IsSceneOf};
 
@@ -37,8 +37,8 @@ fn table(
     hits: &WordHits,
 ) -> Result<Vec<Id>, NoMemory>
     requires base { IsBase net.old base.now }
-    requires reads { AreHitsOf base.now.block.now base.now.inlet net.old base.now.block.now.reads read_word hits.now.reads.items }
-    requires writes { AreHitsOf base.now.block.now base.now.inlet net.old base.now.block.now.writes written_word hits.now.writes.items }
+    requires reads { AreHitsOf base.now.block.now base.now.inlet net.old base.now.block.now.reads read_word reads_through hits.now.reads.items }
+    requires writes { AreHitsOf base.now.block.now base.now.inlet net.old base.now.block.now.writes written_word writes_through hits.now.writes.items }
     ensures older { Grows net.old net.new }
     ensures name { net.new.name ≡ net.old.name }
     ensures scene { IfOk result (λ t. IsSceneOf net.new base.now t.items) }
@@ -57,8 +57,8 @@ fn next_values(
     hits: &WordHits,
 ) -> Result<Vec<Id>, NoMemory>
     requires scene { IsScene net.old scene.now }
-    requires reads { AreHitsOf scene.now.base.now.block.now scene.now.base.now.inlet net.old scene.now.base.now.block.now.reads read_word hits.now.reads.items }
-    requires writes { AreHitsOf scene.now.base.now.block.now scene.now.base.now.inlet net.old scene.now.base.now.block.now.writes written_word hits.now.writes.items }
+    requires reads { AreHitsOf scene.now.base.now.block.now scene.now.base.now.inlet net.old scene.now.base.now.block.now.reads read_word reads_through hits.now.reads.items }
+    requires writes { AreHitsOf scene.now.base.now.block.now scene.now.base.now.inlet net.old scene.now.base.now.block.now.writes written_word writes_through hits.now.writes.items }
     ensures older { Grows net.old net.new }
     ensures name { net.new.name ≡ net.old.name }
     ensures nexts { IfOk result (λ ids. AreNexts scene.now.base.now.block.now scene.now.base.now.inlet net.new ids.items) }
@@ -76,8 +76,8 @@ fn edge_nodes(
     hits: &WordHits,
 ) -> Result<EdgeResults, NoMemory>
     requires scene { IsSceneOf net.old scene.now.base.now scene.now.items.now }
-    requires reads { AreHitsOf scene.now.base.now.block.now scene.now.base.now.inlet net.old scene.now.base.now.block.now.reads read_word hits.now.reads.items }
-    requires writes { AreHitsOf scene.now.base.now.block.now scene.now.base.now.inlet net.old scene.now.base.now.block.now.writes written_word hits.now.writes.items }
+    requires reads { AreHitsOf scene.now.base.now.block.now scene.now.base.now.inlet net.old scene.now.base.now.block.now.reads read_word reads_through hits.now.reads.items }
+    requires writes { AreHitsOf scene.now.base.now.block.now scene.now.base.now.inlet net.old scene.now.base.now.block.now.writes written_word writes_through hits.now.writes.items }
     ensures older { Grows net.old net.new }
     ensures name { net.new.name ≡ net.old.name }
     ensures shown { OnOk result (HasShown scene.now.base.now.block.now scene.now.base.now.inlet net.new scene.now.items.now) }

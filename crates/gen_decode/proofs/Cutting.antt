@@ -5,15 +5,7 @@ use Rattle.std.proofs.lemmas.List.{get_or-take, get_or-drop, get_or_default, len
 use Rattle.std.proofs.lemmas.Option.{get_or_from_slice_get}
 use Rattle.rtl_net.proofs.Places.{slice_get-within}
 use Rattle.gen_decode.specs.Among.{IsCut}
-
--- later words are not below earlier ones
-pub rises : (xs : List ℕ) → IsStrictlyIncreasing xs → (i n : ℕ) → i + n < length xs → get_or xs i 0 ≤ get_or xs (i + n) 0
-rises xs up i zero l = let e : i + 0 ≡ i = omega arith in rw e (omega arith)
-rises xs up i (suc n) l =
-    let before : get_or xs i 0 ≤ get_or xs (i + n) 0 = rises xs up i n (omega arith) in
-    let e : i + suc n ≡ i + n + 1 = omega arith in
-    let next : get_or xs (i + n) 0 < get_or xs (i + n + 1) 0 = up (i + n) (omega arith) in
-    rw e (omega arith)
+use Rattle.plain_lemmas.proofs.Lists.{get_or-not_below as rises}
 
 pub parted : (xs : List ℕ) (t : ℕ) → IsStrictlyIncreasing xs → IsPartitionedBy (λ w. ltb w t) xs
 parted xs t up i j d le lt e =

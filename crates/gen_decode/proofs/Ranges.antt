@@ -14,9 +14,9 @@ use Rattle.gen_decode.specs.declared.runs.Run.{Run}
 use Rattle.gen_decode.specs.declared.words.Decoded.{Decoded}
 use Rattle.gen_decode.specs.Among.{AreWithin, IsWithin, IsAmong, IsNarrowed, hit_of, word_of}
 use Rattle.gen_decode.specs.Runs.{IsEven, IsRun}
-use Rattle.gen_decode.proofs.Cutting.{rises}
 use Rattle.gen_decode.proofs.Halves.{any_same, any_where}
 use Rattle.gen_decode.proofs.Spans.{any_even, between, run_entry}
+use Rattle.plain_lemmas.proofs.Lists.{get_or-not_below as rises}
 
 slice_get_at : (ws : List ℕ) (i : ℕ) → i < length ws → slice_get ws i ≡ Some (get_or ws i 0)
 slice_get_at [] i l = absurd (omega arith)

@@ -20,5 +20,5 @@ returns-clause-worth c =
     let views = HasViews-grows c.args.net.now c.zero.new.net c.args.scene.now grows c.requires.views in
     written_put b a c.args.net.now c.zero.new.net c.software.new.net s c.args.view.now c.args.hit c.args.v c.in_ok-bits.bits c.in_ok-read.read c.in_ok-id.id c.view_gate.result c.done.result
     c.requires.views.base.sound c.requires.view c.requires.slot.some_bit grows c.in_ok-id.ensures.older
-    _ (IsNode-grows c.slice.new.net c.zero.new.net c.in_ok-bits.bits _ _ c.in_ok-read.ensures.older c.in_ok-bits.ensures.node) c.in_ok-read.ensures.node
+    _ c.if-not-view.false (IsNode-grows c.slice.new.net c.zero.new.net c.in_ok-bits.bits _ _ c.in_ok-read.ensures.older c.in_ok-bits.ensures.node) c.in_ok-read.ensures.node
     (c.view_gate.ensures c.zero.new.net (views.each s.view c.args.view.now c.requires.view)) (λ f h. c.done.ensures c.zero.new.net f views.base h) c.requires.v c.in_ok-id.ensures.node

@@ -1,8 +1,8 @@
 use Rattle.std.proofs.Common.{◌≡◌, length, if◌then◌else◌, sym, subst, arith}
 use Rattle.block_plan.specs.Wanted.{is_wanted}
 use Rattle.gen_access.specs.Tables.{AreWorth}
-use Rattle.gen_access.specs.Words.{written_word}
-use Rattle.gen_access.specs.Touches.{mark_item, mark_value, one_bit, touch_reached, touch_words}
+use Rattle.gen_access.specs.Words.{written_word, writes_through}
+use Rattle.gen_access.specs.Touches.{mark_item, mark_value, one_bit, touch_reached, touch_ways, touch_words}
 use Rattle.gen_access.proofs.Turns.{AreHitsOf-grows, lent}
 use Rattle.gen_access.proofs.MarkSteps.{marks_made}
 use Rattle.gen_access.proofs.touched.marked.Goals as goal
@@ -10,12 +10,12 @@ use Rattle.gen_access.proofs.touched.marked.Goals as goal
 pub put_marks-requires-clause-reads : goal.put_marks-requires-clause-reads
 put_marks-requires-clause-reads c =
     let b = c.args.base.now.block.now in
-    AreHitsOf-grows b c.args.base.now.inlet c.args.net.now c.no_marks.new.net (touch_words b c.args.reading) (touch_reached c.args.reading) c.args.hits.now.reads.items c.in_ok-table.ensures.older c.requires.reads
+    AreHitsOf-grows b c.args.base.now.inlet c.args.net.now c.no_marks.new.net (touch_words b c.args.reading) (touch_reached c.args.reading) (touch_ways c.args.reading) c.args.hits.now.reads.items c.in_ok-table.ensures.older c.requires.reads
 
 pub put_marks-requires-clause-writes : goal.put_marks-requires-clause-writes
 put_marks-requires-clause-writes c =
     let b = c.args.base.now.block.now in
-    AreHitsOf-grows b c.args.base.now.inlet c.args.net.now c.no_marks.new.net b.writes written_word c.args.hits.now.writes.items c.in_ok-table.ensures.older c.requires.writes
+    AreHitsOf-grows b c.args.base.now.inlet c.args.net.now c.no_marks.new.net b.writes written_word writes_through c.args.hits.now.writes.items c.in_ok-table.ensures.older c.requires.writes
 
 pub returns-clause-worth : goal.returns-clause-worth
 returns-clause-worth c =

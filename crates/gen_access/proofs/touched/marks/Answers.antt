@@ -1,7 +1,7 @@
 use Rattle.std.proofs.Common.{subst}
 use Rattle.gen_access.specs.declared.touched.Touch.TheVariants as touch
-use Rattle.gen_access.specs.Words.{written_word}
-use Rattle.gen_access.specs.Touches.{ArePaired, one_bit, touch_reached, touch_words}
+use Rattle.gen_access.specs.Words.{written_word, writes_through}
+use Rattle.gen_access.specs.Touches.{ArePaired, one_bit, touch_reached, touch_ways, touch_words}
 use Rattle.gen_access.proofs.Turns.{AreHitsOf-grows, AreWorth-grows}
 use Rattle.gen_access.proofs.MarkSteps.{paired_marks}
 use Rattle.gen_access.proofs.touched.marks.Goals as goal
@@ -9,12 +9,12 @@ use Rattle.gen_access.proofs.touched.marks.Goals as goal
 pub marked-requires-2-clause-reads : goal.marked-requires-2-clause-reads
 marked-requires-2-clause-reads c =
     let b = c.args.base.now.block.now in
-    AreHitsOf-grows b c.args.base.now.inlet c.args.net.now c.marked.new.net (touch_words b touch.Reads) (touch_reached touch.Reads) c.args.hits.now.reads.items c.in_ok-modified.ensures.older c.requires.reads
+    AreHitsOf-grows b c.args.base.now.inlet c.args.net.now c.marked.new.net (touch_words b touch.Reads) (touch_reached touch.Reads) (touch_ways touch.Reads) c.args.hits.now.reads.items c.in_ok-modified.ensures.older c.requires.reads
 
 pub marked-requires-2-clause-writes : goal.marked-requires-2-clause-writes
 marked-requires-2-clause-writes c =
     let b = c.args.base.now.block.now in
-    AreHitsOf-grows b c.args.base.now.inlet c.args.net.now c.marked.new.net b.writes written_word c.args.hits.now.writes.items c.in_ok-modified.ensures.older c.requires.writes
+    AreHitsOf-grows b c.args.base.now.inlet c.args.net.now c.marked.new.net b.writes written_word writes_through c.args.hits.now.writes.items c.in_ok-modified.ensures.older c.requires.writes
 
 pub returns-clause-marks : goal.returns-clause-marks
 returns-clause-marks c =

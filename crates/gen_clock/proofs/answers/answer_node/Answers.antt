@@ -2,8 +2,10 @@ use Rattle.std.proofs.Common.{◌≡◌, ℕ, ◌<◌, ◌≤◌, get_or, length
 use Rattle.std.proofs.lemmas.List.{get_or_default}
 use Rattle.net_gates.specs.Gates.{or_of}
 use Rattle.rtl_net.specs.Net.{IsNode, Stands}
+use Rattle.rtl_net.specs.Ids.{at}
+use Rattle.rtl_net.proofs.Nets.{Stands-grows}
 use Rattle.rtl_net.proofs.Places.{read_at}
-use Rattle.gen_access.specs.Words.{read_word}
+use Rattle.gen_access.specs.Words.{read_word, reads_through}
 use Rattle.gen_access.proofs.Turns.{AreHitsOf-grows}
 use Rattle.gen_clock.proofs.Edging.{IsScene-grows}
 use Rattle.gen_clock.proofs.Answering.{answered, answers_more}
@@ -12,6 +14,13 @@ use Rattle.gen_clock.proofs.answers.answer_node.Goals as goal
 pub word_answer-requires-clause-scene : goal.word_answer-requires-clause-scene
 word_answer-requires-clause-scene c = IsScene-grows c.args.net.now c.loop-number.net c.args.scene.now c.loop-number.invariant.older c.requires.scene
 
+pub word_answer-requires-clause-hit : goal.word_answer-requires-clause-hit
+word_answer-requires-clause-hit c =
+    let b = c.args.scene.now.base.now.block.now in
+    let value : c.deref-words.result.now ≡ b.reads = c.deref-words.ensures.value ∙ ap (λ b. b.reads) c.block.view_is in
+    let low : c.loop-number.number < length b.reads = (let l = ap length value in omega (arith, c.loop-number-test.true)) in
+    Stands-grows c.args.net.now c.loop-number.net (at c.args.hits.now c.loop-number.number) 1 c.loop-number.invariant.older (c.requires.hits.stand c.loop-number.number low)
+
 pub loop-number-preserved : goal.loop-number-preserved
 loop-number-preserved c =
     let b = c.args.scene.now.base.now.block.now in
@@ -19,10 +28,9 @@ loop-number-preserved c =
     let j = c.loop-number.number in
     let value : c.deref-words.result.now ≡ b.reads = c.deref-words.ensures.value ∙ ap (λ b. b.reads) c.block.view_is in
     let here = read_at c.deref-words.result.now b.reads j c.index-words-number.result value c.loop-number-test.true c.index-words-number.is in
-    let low : j < length b.reads = (let l = ap length value in omega (arith, c.loop-number-test.true)) in
-    let hit = (AreHitsOf-grows b a c.args.net.now c.loop-number.net b.reads read_word c.args.hits.now c.loop-number.invariant.older c.requires.hits).each j low in
+    let hits = AreHitsOf-grows b a c.args.net.now c.loop-number.net b.reads read_word reads_through c.args.hits.now c.loop-number.invariant.older c.requires.hits in
     answers_more b a c.args.net.now c.loop-number.net c.word_answer.new.net c.loop-number.answers.items c.push.new.self.items b.reads j c.index-words-number.result _ c.in_ok-word_answer.field-0 here c.loop-number.invariant
-    c.in_ok-word_answer.ensures.older c.in_ok-word_answer.ensures.name c.in_ok-word_answer.ensures.worth hit c.in_ok-push.ensures.items
+    c.in_ok-word_answer.ensures.older c.in_ok-word_answer.ensures.name c.in_ok-word_answer.ensures.worth (hits.each j c.index-words-number.result here) c.in_ok-push.ensures.items
 
 all_words : (n m k : ℕ) → n ≡ m → n ≤ k → k ≤ n → k ≡ m
 all_words n m k e l h = omega arith

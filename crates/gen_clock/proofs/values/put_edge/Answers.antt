@@ -1,6 +1,6 @@
 use Rattle.std.proofs.Common.{sym, subst}
 use Rattle.rtl_net.proofs.Nets.{Grows-trans}
-use Rattle.gen_access.specs.Words.{AreHitsOf, read_word, written_word}
+use Rattle.gen_access.specs.Words.{AreHitsOf, read_word, reads_through, written_word, writes_through}
 use Rattle.gen_access.proofs.Turns.{AreHitsOf-grows, HasViews-grows}
 use Rattle.gen_clock.proofs.Sweeps.{HasFields-grows}
 use Rattle.gen_clock.proofs.Edging.{edge_passes}
@@ -13,8 +13,8 @@ pub software_nodes-requires-clause-hits : goal.software_nodes-requires-clause-hi
 software_nodes-requires-clause-hits c =
     let b = c.args.scene.now.base.now.block.now in
     let a = c.args.scene.now.base.now.inlet in
-    subst (λ xs. AreHitsOf b a c.hardware_nodes.new.net b.writes written_word xs) (sym c.deref.ensures.value)
-    (AreHitsOf-grows b a c.args.net.now c.hardware_nodes.new.net b.writes written_word c.args.hits.now.writes.items c.in_ok-hardware_nodes.ensures.older c.requires.writes)
+    subst (λ xs. AreHitsOf b a c.hardware_nodes.new.net b.writes written_word writes_through xs) (sym c.deref.ensures.value)
+    (AreHitsOf-grows b a c.args.net.now c.hardware_nodes.new.net b.writes written_word writes_through c.args.hits.now.writes.items c.in_ok-hardware_nodes.ensures.older c.requires.writes)
 
 pub software_nodes-requires-2-clause-views : goal.software_nodes-requires-2-clause-views
 software_nodes-requires-2-clause-views c =
@@ -26,8 +26,8 @@ software_nodes-requires-2-clause-hits c =
     let b = c.args.scene.now.base.now.block.now in
     let a = c.args.scene.now.base.now.inlet in
     let g = Grows-trans c.args.net.now c.hardware_nodes.new.net c.software_nodes.new.net c.in_ok-hardware_nodes.ensures.older c.in_ok-software_nodes.ensures.older in
-    subst (λ xs. AreHitsOf b a c.software_nodes.new.net b.reads read_word xs) (sym c.deref-2.ensures.value)
-    (AreHitsOf-grows b a c.args.net.now c.software_nodes.new.net b.reads read_word c.args.hits.now.reads.items g c.requires.reads)
+    subst (λ xs. AreHitsOf b a c.software_nodes.new.net b.reads read_word reads_through xs) (sym c.deref-2.ensures.value)
+    (AreHitsOf-grows b a c.args.net.now c.software_nodes.new.net b.reads read_word reads_through c.args.hits.now.reads.items g c.requires.reads)
 
 pub hardware_nodes-requires-2-clause-fields : goal.hardware_nodes-requires-2-clause-fields
 hardware_nodes-requires-2-clause-fields c =

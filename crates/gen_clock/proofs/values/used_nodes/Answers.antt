@@ -1,7 +1,7 @@
 use Rattle.std.proofs.Common.{◌≡◌, if◌then◌else◌, length, sym, subst, arith}
 use Rattle.rb_model.specs.Kept.{Done}
 use Rattle.gen_access.specs.Tables.{AreWorth}
-use Rattle.gen_access.specs.Words.{written_word}
+use Rattle.gen_access.specs.Words.{written_word, writes_through}
 use Rattle.gen_access.specs.Touches.{one_bit}
 use Rattle.gen_access.proofs.Turns.{AreHitsOf-grows, HasViews-grows, lent}
 use Rattle.gen_clock.specs.Edges.{AreUsed}
@@ -15,7 +15,7 @@ pub software_nodes-requires-clause-hits : goal.software_nodes-requires-clause-hi
 software_nodes-requires-clause-hits c =
     let b = c.args.scene.now.base.now.block.now in
     let a = c.args.scene.now.base.now.inlet in
-    AreHitsOf-grows b a c.args.net.now c.done_nodes.new.net b.writes written_word c.args.writes.now c.in_ok-table.ensures.older c.requires.writes
+    AreHitsOf-grows b a c.args.net.now c.done_nodes.new.net b.writes written_word writes_through c.args.writes.now c.in_ok-table.ensures.older c.requires.writes
 
 pub returns-clause-used : goal.returns-clause-used
 returns-clause-used c =

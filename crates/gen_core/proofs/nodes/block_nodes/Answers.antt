@@ -1,6 +1,6 @@
 use Rattle.std.proofs.Common.{sym, subst}
 use Rattle.rtl_net.proofs.Nets.{Grows-trans}
-use Rattle.gen_access.specs.Words.{read_word, written_word}
+use Rattle.gen_access.specs.Words.{read_word, reads_through, written_word, writes_through}
 use Rattle.gen_access.proofs.Turns.{AreHitsOf-grows}
 use Rattle.gen_scene.proofs.Worths.{IsBase-grows}
 use Rattle.gen_core.specs.Parts.{HasShown, IsSceneOf}
@@ -15,12 +15,12 @@ edge_nodes-requires-clause-scene c = subst (λ t. IsSceneOf c.table.new.net c.ar
 pub edge_nodes-requires-clause-reads : goal.edge_nodes-requires-clause-reads
 edge_nodes-requires-clause-reads c =
     let b = c.args.base.now.block.now in
-    AreHitsOf-grows b c.args.base.now.inlet c.word_hits.new.net c.table.new.net b.reads read_word c.in_ok-hits.hits.reads.items c.in_ok-items.ensures.older c.in_ok-hits.ensures.reads
+    AreHitsOf-grows b c.args.base.now.inlet c.word_hits.new.net c.table.new.net b.reads read_word reads_through c.in_ok-hits.hits.reads.items c.in_ok-items.ensures.older c.in_ok-hits.ensures.reads
 
 pub edge_nodes-requires-clause-writes : goal.edge_nodes-requires-clause-writes
 edge_nodes-requires-clause-writes c =
     let b = c.args.base.now.block.now in
-    AreHitsOf-grows b c.args.base.now.inlet c.word_hits.new.net c.table.new.net b.writes written_word c.in_ok-hits.hits.writes.items c.in_ok-items.ensures.older c.in_ok-hits.ensures.writes
+    AreHitsOf-grows b c.args.base.now.inlet c.word_hits.new.net c.table.new.net b.writes written_word writes_through c.in_ok-hits.hits.writes.items c.in_ok-items.ensures.older c.in_ok-hits.ensures.writes
 
 pub returns-clause-parts : goal.returns-clause-parts
 returns-clause-parts c =

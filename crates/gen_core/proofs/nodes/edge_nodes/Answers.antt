@@ -1,7 +1,7 @@
 use Rattle.std.proofs.Common.{refl, sym, subst}
 use Rattle.rb_model.specs.Machine.{read_data}
 use Rattle.gen_scene.proofs.Worths.{IsWorth-grows}
-use Rattle.gen_access.specs.Words.{AreHitsOf, read_word, written_word}
+use Rattle.gen_access.specs.Words.{AreHitsOf, read_word, reads_through, written_word, writes_through}
 use Rattle.gen_access.proofs.Turns.{AreHitsOf-grows}
 use Rattle.gen_clock.proofs.Edging.{IsScene-grows}
 use Rattle.rtl_net.proofs.Nets.{Grows-trans}
@@ -11,7 +11,7 @@ use Rattle.gen_core.proofs.nodes.edge_nodes.Goals as goal
 pub answer_node-requires-clause-hits : goal.answer_node-requires-clause-hits
 answer_node-requires-clause-hits c =
     let b = c.args.scene.now.base.now.block.now in
-    subst (λ xs. AreHitsOf b c.args.scene.now.base.now.inlet c.args.net.now b.reads read_word xs) (sym c.deref.ensures.value) c.requires.reads
+    subst (λ xs. AreHitsOf b c.args.scene.now.base.now.inlet c.args.net.now b.reads read_word reads_through xs) (sym c.deref.ensures.value) c.requires.reads
 
 pub next_values-requires-clause-scene : goal.next_values-requires-clause-scene
 next_values-requires-clause-scene c = IsScene-grows c.args.net.now c.answer_node.new.net c.args.scene.now c.in_ok-answer.ensures.older (c.requires.scene.is c.args.scene.now refl refl)
@@ -19,12 +19,12 @@ next_values-requires-clause-scene c = IsScene-grows c.args.net.now c.answer_node
 pub next_values-requires-clause-reads : goal.next_values-requires-clause-reads
 next_values-requires-clause-reads c =
     let b = c.args.scene.now.base.now.block.now in
-    AreHitsOf-grows b c.args.scene.now.base.now.inlet c.args.net.now c.answer_node.new.net b.reads read_word c.args.hits.now.reads.items c.in_ok-answer.ensures.older c.requires.reads
+    AreHitsOf-grows b c.args.scene.now.base.now.inlet c.args.net.now c.answer_node.new.net b.reads read_word reads_through c.args.hits.now.reads.items c.in_ok-answer.ensures.older c.requires.reads
 
 pub next_values-requires-clause-writes : goal.next_values-requires-clause-writes
 next_values-requires-clause-writes c =
     let b = c.args.scene.now.base.now.block.now in
-    AreHitsOf-grows b c.args.scene.now.base.now.inlet c.args.net.now c.answer_node.new.net b.writes written_word c.args.hits.now.writes.items c.in_ok-answer.ensures.older c.requires.writes
+    AreHitsOf-grows b c.args.scene.now.base.now.inlet c.args.net.now c.answer_node.new.net b.writes written_word writes_through c.args.hits.now.writes.items c.in_ok-answer.ensures.older c.requires.writes
 
 pub returns-clause-taken : goal.returns-clause-taken
 returns-clause-taken c =

@@ -1,6 +1,6 @@
 use Rattle.std.proofs.Common.{sym, subst}
 use Rattle.rtl_net.proofs.Nets.{Grows-trans}
-use Rattle.gen_access.specs.Words.{AreHitsOf, written_word}
+use Rattle.gen_access.specs.Words.{AreHitsOf, written_word, writes_through}
 use Rattle.gen_access.proofs.Turns.{AreHitsOf-grows}
 use Rattle.gen_clock.specs.Edges.{AreMoved, AreUsed}
 use Rattle.gen_clock.proofs.Edging.{IsScene-grows}
@@ -14,8 +14,8 @@ pub used_nodes-requires-clause-writes : goal.used_nodes-requires-clause-writes
 used_nodes-requires-clause-writes c =
     let b = c.args.scene.now.base.now.block.now in
     let a = c.args.scene.now.base.now.inlet in
-    subst (λ xs. AreHitsOf b a c.moved_nodes.new.net b.writes written_word xs) (sym c.deref.ensures.value)
-    (AreHitsOf-grows b a c.args.net.now c.moved_nodes.new.net b.writes written_word c.args.hits.now.writes.items c.in_ok-values.ensures.older c.requires.writes)
+    subst (λ xs. AreHitsOf b a c.moved_nodes.new.net b.writes written_word writes_through xs) (sym c.deref.ensures.value)
+    (AreHitsOf-grows b a c.args.net.now c.moved_nodes.new.net b.writes written_word writes_through c.args.hits.now.writes.items c.in_ok-values.ensures.older c.requires.writes)
 
 pub next_nodes-requires-clause-scene : goal.next_nodes-requires-clause-scene
 next_nodes-requires-clause-scene c =

@@ -3,7 +3,10 @@ use Rattle.std.proofs.lemmas.Option.{slice_get_within}
 use Rattle.plain_lemmas.proofs.Bools.{if-same as same_either}
 use Rattle.gen_access.specs.Words.{is_at}
 use Rattle.gen_access.proofs.Turns.{changes_set, field_there, nodes_set}
-use Rattle.gen_access.specs.Touches.{one_bit, slot_mark, touch_reached}
+use Rattle.gen_access.specs.Touches.{mark_item, one_bit, slot_mark, touch_reached, touches}
+use Rattle.block_plan.specs.Wanted.{is_wanted}
+use Rattle.std.proofs.lemmas.Bool.{and_parts}
+use Rattle.gen_access.proofs.Puts.{passes_here}
 use Rattle.gen_access.proofs.Turns.{Changes-none}
 use Rattle.gen_access.proofs.MarkSteps.{mark_other, mark_put, unmarked}
 use Rattle.gen_access.proofs.touched.Marking.slot.Goals as goal
@@ -45,7 +48,9 @@ returns-clause-changes c = λ j on.
     let w = c.args.self.now.wanted.now in
     let m = c.args.self.now.mark in
     let f = field_there b c.args.slot u c.requires.slot c.view_at-view.ensures in
+    let counts = sym c.counts.ensures ∙ c.if-not-counts.false in
+    let passes = passes_here b c.args.slot u c.view_at-view.ensures (touches t) ∙ (and_parts (is_wanted w (mark_item m u.field)) (touches t u) counts).1 in
     changes_set b c.args.net.now c.either.new.net c.args.table.now u.field f.0 c.in_ok-id.id one_bit f.1 c.requires.table c.in_ok-id.ensures.older
     a (λ n v k g x. if is_at j (touch_reached t n.access) then slot_mark b w m t n v k g x c.args.slot else x)
-    (λ g was. mark_put b w m t c.args.slot u c.view_at-view.ensures a c.args.net.now c.either.new.net c.args.hit _ c.in_ok-id.id (sym c.counts.ensures ∙ c.if-not-counts.false) c.in_ok-id.ensures.older c.in_ok-id.ensures.node j f.0 g on was)
+    (λ g was. mark_put b w m t c.args.slot u c.view_at-view.ensures a c.args.net.now c.either.new.net c.args.hit _ c.in_ok-id.id counts c.in_ok-id.ensures.older c.in_ok-id.ensures.node j f.0 g (on passes) was)
     (λ n v k g x ne. ap (λ y. if is_at j (touch_reached t n.access) then y else x) (mark_other b w m t c.args.slot u c.view_at-view.ensures n v k g x ne) ∙ same_either (is_at j (touch_reached t n.access)) x)
