@@ -12,8 +12,8 @@ ghost use Rattle.gen_channels.specs.Slaves.{IsRequest, SayActs, address_seen, ha
 use crate::acts::Acts;
 use crate::kept::ChannelNodes;
 use crate::pins::ChannelPins;
-use gen_scene::Inlet;
 use gen_ports::word_node;
+use gen_scene::Inlet;
 use net_gates::{both, choose, either, placed, slice};
 use rb_base::NoMemory;
 use rb_model::Block;

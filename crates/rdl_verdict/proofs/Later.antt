@@ -1,5 +1,5 @@
 -- What is answered, by what the steps answer.
-use Rattle.std.proofs.Common.{◌≡◌, ◌≢◌, ◌∙◌, inl, inr, ℕ, List, [], ◌∷◌, Option, Some, Result, Ok, Err, IfErr, IfOk, IsErrAnd, Contains, refl, sym, subst}
+use Rattle.std.proofs.Common.{◌≡◌, ◌≢◌, ◌∙◌, inl, inr, ℕ, List, [], ◌∷◌, Option, Some, Result, Ok, Err, IfErr, IsErrAnd, Contains, refl, sym, subst}
 use Rattle.rdl_base.specs.declared.fault.Fault.{Fault}
 use Rattle.rb_model.specs.declared.block.Block.{Block}
 use Rattle.rdl_tree.specs.declared.node.Elab.{Elab}
@@ -12,12 +12,13 @@ use Rattle.rdl_parser.specs.Verdicts.{HasError, Reads}
 use Rattle.rdl_parser.specs.declared.error.ParseError.{ParseError}
 use Rattle.rdl_parser.specs.declared.error.ParseError.TheVariants as parse
 use Rattle.rdl_tree.specs.InOrder.{IsInOrder}
-use Rattle.rdl_layers.specs.Answers.{IsSettled, settings_fail}
+use Rattle.rdl_layers.specs.Answers.{IsSettled}
 use Rattle.rdl_addr.specs.Answers.{IsPlaced}
 use Rattle.rdl_refs.specs.Answers.{IsBound}
-use Rattle.rdl_rules.specs.Answers.{IsBlockFor, meaning_fails}
+use Rattle.rdl_rules.specs.Answers.{meaning_fails}
+use Rattle.rdl_rules.specs.declared.settled.Settled.{Settled}
 use Rattle.rdl_verdict.specs.Answers.{IsJudged, Judges, Refuses}
-use Rattle.rdl_verdict.specs.Steps.{FailsLate, HasAll, HasOne, IsClear, stands_fail}
+use Rattle.rdl_verdict.specs.Steps.{FailsLate, HasAll, HasOne, IsClear}
 use Rattle.rdl_verdict.specs.Verdict.{IsVerdict, tree}
 use Rattle.rdl_verdict.specs.declared.error.JudgeError.{JudgeError}
 use Rattle.rdl_verdict.specs.declared.error.JudgeError.TheVariants as error
@@ -30,26 +31,10 @@ pub only : (wanted : Option (List ℕ)) (text : List ℕ) (fault : Fault) → Is
 only wanted text fault v (error.Faults list) e = record { verdict = subst (IsVerdict wanted text) (sym e) v; some = some fault list.items (subst (λ l. Contains l fault) (sym e) (first-in fault [])) }
 only wanted text fault v error.NoMemory e = tt
 
--- the settings
-pub late4 : (e : Elab) (err : JudgeError) → HasAll (settings_fail e) err → FailsLate e err
-late4 e (error.Faults list) h = record { first = inl (h.failures, h.some); some = h.some }
-late4 e error.NoMemory h = tt
-
--- layout and targets
-pub late5 : (e : Elab) (err : JudgeError) → IsSettled e → HasAll (stands_fail e) err → FailsLate e err
-late5 e (error.Faults list) s h = record { first = inr (s, inl (h.failures, h.some)); some = h.some }
-late5 e error.NoMemory s h = tt
-
 -- the meaning
-pub late6 : (e : Elab) (r : Result Block JudgeError) → IsSettled e → IsPlaced e → IsBound e → IfErr r (HasAll (meaning_fails e)) → IfErr r (FailsLate e)
-late6 e (Ok b) s p t h = tt
-late6 e (Err (error.Faults list)) s p t h = record { first = inr (s, inr (second-alone e [] p t, inl (h.failures, h.some))); some = h.some }
-late6 e (Err error.NoMemory) s p t h = tt
-
--- the block
-pub clear : (e : Elab) (r : Result Block JudgeError) → IsSettled e → IsPlaced e → IsBound e → IfOk r (IsBlockFor e) → IfOk r (IsClear e)
-clear e (Ok b) s p t h = record { settled = s; placed = p; bound = t; block = h }
-clear e (Err err) s p t h = tt
+pub late6 : (e : Elab) (err : JudgeError) → IsSettled e → IsPlaced e → IsBound e → HasAll (meaning_fails e) err → FailsLate e err
+late6 e (error.Faults list) s p t h = record { first = inr (s, inr (second-alone e [] p t, inl (h.failures, h.some))); some = h.some }
+late6 e error.NoMemory s p t h = tt
 
 -- instances
 pub refused3 : (wanted : Option (List ℕ)) (text : List ℕ) (s : Source) → Reads text s.items.now → (err : JudgeError) → HasAll (fails3 wanted s) err → Refuses wanted text err
@@ -62,9 +47,10 @@ refused-own wanted text e reads h same (error.Faults list) late = record { verdi
 refused-own wanted text e reads h same error.NoMemory late = tt
 
 -- none
-judged-own : (wanted : Option (List ℕ)) (text : List ℕ) (e : Elab) (b : Block) → Reads text e.source.now.items.now → Elaborates wanted e.source.now e → top_use_of wanted e.source.now ≡ top_use_of (Some (top_name e)) e.source.now → IsClean e → IsClear e b → IsJudged wanted text (record { elab = e; block = b })
-judged-own wanted text e b reads h same clean x = record {
+judged-own : (wanted : Option (List ℕ)) (text : List ℕ) (e : Elab) (known : Settled) (b : Block) → known.props ≡ e → Reads text e.source.now.items.now → Elaborates wanted e.source.now e → top_use_of wanted e.source.now ≡ top_use_of (Some (top_name e)) e.source.now → IsClean e → IsClear e b → IsJudged wanted text (record { elab = e; settled = known; block = b })
+judged-own wanted text e known b of reads h same clean x = record {
   clean = clean;
+  props = of;
   tree = h;
   described = record {
     reads = reads;
@@ -89,14 +75,18 @@ module _ (wanted : Option (List ℕ)) (text : List ℕ) (s : Source) (e : Elab) 
   pub refused : Reads text s.items.now → top_use_of wanted s ≡ top_use_of (Some (top_name e)) s → (err : JudgeError) → FailsLate e err → Refuses wanted text err
   refused reads same = refused-own wanted text e (subst (λ x. Reads text x.items.now) here reads) (subst (λ x. Elaborates wanted x e) here h) (subst (λ x. top_use_of wanted x ≡ top_use_of (Some (top_name e)) x) here same)
 
-  pub judged : (b : Block) → Reads text s.items.now → top_use_of wanted s ≡ top_use_of (Some (top_name e)) s → IsClean e → IsClear e b → IsJudged wanted text (record { elab = e; block = b })
-  judged b reads same = judged-own wanted text e b (subst (λ x. Reads text x.items.now) here reads) (subst (λ x. Elaborates wanted x e) here h) (subst (λ x. top_use_of wanted x ≡ top_use_of (Some (top_name e)) x) here same)
+  pub judged : (known : Settled) (b : Block) → known.props ≡ e → Reads text s.items.now → top_use_of wanted s ≡ top_use_of (Some (top_name e)) s → IsClean e → IsClear e b → IsJudged wanted text (record { elab = e; settled = known; block = b })
+  judged known b of reads same = judged-own wanted text e known b of (subst (λ x. Reads text x.items.now) here reads) (subst (λ x. Elaborates wanted x e) here h) (subst (λ x. top_use_of wanted x ≡ top_use_of (Some (top_name e)) x) here same)
 
 -- An error passed on says what it said.
 
 pub passed-on : (wanted : Option (List ℕ)) (text : List ℕ) (r : Result Judged JudgeError) (err : JudgeError) → IsErrAnd r (λ x. x ≡ err) → Refuses wanted text err → Judges wanted text r
 passed-on wanted text (Err x) err is h = subst (Refuses wanted text) (sym is) h
 passed-on wanted text (Ok j) err is h = absurd is
+
+pub late-on : (e : Elab) (r : Result Judged JudgeError) (err : JudgeError) → IsErrAnd r (λ x. x ≡ err) → FailsLate e err → IfErr r (FailsLate e)
+late-on e (Err x) err is h = subst (FailsLate e) (sym is) h
+late-on e (Ok j) err is h = tt
 
 -- An error of the tokens that is not want of memory.
 

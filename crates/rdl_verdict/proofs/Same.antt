@@ -25,6 +25,7 @@ use Rattle.rdl_refs.specs.Follows.{FailsR7}
 use Rattle.rdl_refs.specs.Items.{bad_reference, failures_r}
 use Rattle.rdl_rules.specs.Phase5.{fails5}
 use Rattle.rdl_rules.specs.Phase6.{failures6, fails6}
+use Rattle.rdl_rules.specs.Phase7.{failures7, fails7, narrow_register}
 use Rattle.rdl_rules.specs.ReferenceRules.{of_references, second_reset}
 use Rattle.rdl_rules.specs.Block.{IsBlockOf, fields, reg_of, signal_of, views}
 use Rattle.rdl_rules.specs.Numbers.{all_signals, registers}
@@ -83,6 +84,10 @@ module _ (v w : Option (List ℕ)) (s : Source) (same : top_use_of v s ≡ top_u
       ++ flat_map (λ n. second_reset (children n)) (same-nodes j)
       ++ second_reset (signals s)
 
+  same7 : failures7 v s ≡ failures7 w s
+  unfolding failures7
+  same7 = ap (flat_map narrow_register) same-nodes
+
   -- Phases.
 
   pub phase4 : (list : List Fault) → IsListOf (fails4 w s) list → IsListOf (fails4 v s) list
@@ -109,6 +114,9 @@ module _ (v w : Option (List ℕ)) (s : Source) (same : top_use_of v s ≡ top_u
         let there : fails6 w s f.rule f.place ≡ fails6 v s f.rule f.place = sym (of-failing w f.rule f.place) ∙ ap (λ fs. failing fs (lineages w s) f.rule f.place) (sym same6) ∙ ap (λ ls. failing (failures6 v s) ls f.rule f.place) (sym same-lineages) ∙ of-failing v f.rule f.place in
         (λ c. subst (λ X. X) there (here.0 c), λ x. here.1 (subst (λ X. X) (sym there) x));
   }
+
+  pub phase7 : (list : List Fault) → IsListOf (fails7 w s) list → IsListOf (fails7 v s) list
+  phase7 list = subst (λ fs. IsListOf (λ r p. Contains fs (at_ r p)) list) (sym same7)
 
   step : (P Q : Phase) (ps qs : List Phase) (list : List Fault) → ((l : List Fault) → P l → Q l) → (FirstOf ps list → FirstOf qs list) → FirstOf (P ∷ ps) list → FirstOf (Q ∷ qs) list
   step P Q ps qs list f g (inl h) = inl (f list h.0, h.1)

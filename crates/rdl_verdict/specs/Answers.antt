@@ -1,5 +1,5 @@
 -- What the calls of this crate answer.
-use Rattle.std.specs.Prelude.{◌≢◌, ℕ, List, [], Option, Result, Ok, Err}
+use Rattle.std.specs.Prelude.{◌≡◌, ◌≢◌, ℕ, List, [], Option, Result, Ok, Err}
 use Rattle.rdl_base.specs.declared.fault.Fault.{Fault}
 use Rattle.rdl_values.specs.Elaboration.{Elaborates, IsClean}
 use Rattle.rdl_verdict.specs.Verdict.{IsDescribed, IsVerdict}
@@ -10,6 +10,7 @@ use Rattle.rdl_verdict.specs.declared.judging.Judged.{Judged}
 -- a source that breaks no rule: its tree, and its block
 pub record IsJudged (wanted : Option (List ℕ)) (text : List ℕ) (j : Judged) : Type 0 where
   pub clean : IsClean j.elab
+  pub props : j.settled.props ≡ j.elab
   pub tree : Elaborates wanted j.elab.source.now j.elab
   pub described : IsDescribed wanted text j.elab.source.now j.block
 

@@ -1,5 +1,5 @@
 -- The verdict of a source: the failures of the first of six phases that has any.
-use Rattle.std.specs.Prelude.{ℕ, List, [], ◌∷◌, Option}
+use Rattle.std.specs.Prelude.{◌≢◌, ◌⊎◌, ℕ, List, [], ◌∷◌, Option}
 use Rattle.rdl_base.specs.declared.fault.Fault.{Fault}
 use Rattle.rb_base.specs.declared.place.Place.{Place}
 use Rattle.rdl_base.specs.declared.rule.Rule.{Rule}
@@ -15,6 +15,7 @@ use Rattle.rdl_layers.specs.Phase4.{fails4}
 use Rattle.rdl_rules.specs.Block.{IsBlockOf}
 use Rattle.rdl_rules.specs.Phase5.{fails5}
 use Rattle.rdl_rules.specs.Phase6.{fails6}
+use Rattle.rdl_rules.specs.Phase7.{fails7}
 
 -- settings: all failures
 abbrev pub settings : Option (List ℕ) → Source → Phase
@@ -38,6 +39,16 @@ pub data IsVerdict (wanted : Option (List ℕ)) (text : List ℕ) : List Fault �
   grammar : {place : Place} {rule : Rule} → HasError text (error.Syntax place rule) → IsVerdict wanted text (record { place = place; rule = rule } ∷ [])
   depth : {place : Place} → HasError text (error.TooDeep place) → IsVerdict wanted text (record { place = place; rule = S2 } ∷ [])
   tree : (s : Source) {list : List Fault} → Reads text s.items.now → FirstOf (tree_phases wanted s) list → IsVerdict wanted text list
+
+-- access widths: all failures, of a source behind a bus of 32 data bits alone
+abbrev pub accesses : Option (List ℕ) → Source → Phase
+accesses wanted s list = IsListOf (fails7 wanted s) list
+
+-- The verdict of a source behind an AXI4-Lite slave port: that of the source, or else, where it breaks no rule, all failures of the
+-- access widths.
+abbrev pub IsAxiVerdict : Option (List ℕ) → List ℕ → List Fault → Type 0
+IsAxiVerdict wanted text list = (IsVerdict wanted text list × (list ≢ []))
+    ⊎ ((s : Source) × Reads text s.items.now × FirstOf (tree_phases wanted s) [] × accesses wanted s list)
 
 -- The text reads as this tree, which breaks no rule and describes this block, without wait states.
 pub record IsDescribed (wanted : Option (List ℕ)) (text : List ℕ) (s : Source) (b : Block) : Type 0 where

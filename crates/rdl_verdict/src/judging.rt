@@ -1,32 +1,38 @@
 //! `judge`.
 
-ghost use Rattle.std.specs.Prelude.{◌≡◌, ◌<◌, ◌^◌, ◌-◌, IfErr, IfOk, Some, length, option_copied};
+ghost use Rattle.std.specs.Prelude.{◌≡◌, ◌<◌, ◌^◌, ◌-◌, ℕ, IfErr, IfOk, List, Option, Some, length, option_copied};
 ghost use Rattle.rdl_values.specs.Elaborated.{HasWords, top_name};
 ghost use Rattle.rdl_values.specs.Elaboration.{IsClean};
 ghost use Rattle.rdl_layers.specs.Answers.{IsSettled};
 ghost use Rattle.rdl_rules.specs.Facts.{AreFacts};
 ghost use Rattle.rdl_rules.specs.Answers.{IsBlockFor, meaning_fails};
 ghost use Rattle.rdl_check.specs.Trees.{HaveOneForm};
-ghost use Rattle.rdl_verdict.specs.Answers.{Judges};
+ghost use Rattle.rdl_verdict.specs.Answers.{IsJudged, Judges};
 ghost use Rattle.rdl_verdict.specs.Steps.{FailsLate, HasAll, IsClear, IsStood};
+ghost use Rattle.rdl_verdict.specs.Verdict.{accesses};
 
 use crate::error::JudgeError;
 use crate::phases::{Stood, grow, read, set, stand};
 use bumpalo::Bump;
+use rb_base::NoMemory;
 use rb_model::Block;
+use rdl_base::Fault;
 use rdl_check::check;
 use rdl_failures::PhaseError;
 use rdl_lexer::spelled_in_order;
+use rdl_meaning_rules::access_failures;
 use rdl_nodes::{derived_forms_are_single, forms_are_single, names_are_words};
 use rdl_rules::Settled;
 use rdl_tree::{Elab, derived_in_order};
 use rdl_values::name_decides_the_top;
 use std::alloc::Global;
 
-/// A source that breaks no rule: its instances, and the register block that it describes, without wait states.
+/// A source that breaks no rule: its instances, what their properties are set to, and the register block that it describes,
+/// without wait states.
 #[derive(Drop)]
 pub struct Judged<'a> {
     pub elab: Elab<'a>,
+    pub settled: Settled<'a>,
     pub block: Block,
 }
 
@@ -54,17 +60,24 @@ fn mean<'a>(
     }
 }
 
-// The block of a tree whose instances break no rule, or the failures of the first later phase that has any.
-fn describe<'a>(alloc: Global, arena: &'a Bump, elab: &Elab<'a>) -> Result<Block, JudgeError>
-    requires clean { IsClean elab.now }
-    requires words { HasWords (Some (top_name elab.now)) elab.now.source.now }
-    requires forms { HaveOneForm elab.now }
-    ensures clear { IfOk result (IsClear elab.now) }
-    ensures error { IfErr result (FailsLate elab.now) }
+// A tree whose instances break no rule, with its block, or the failures of the first later phase that has any.
+fn describe<'a>(alloc: Global, arena: &'a Bump, elab: Elab<'a>) -> Result<Judged<'a>, JudgeError>
+    requires clean { IsClean elab }
+    requires words { HasWords (Some (top_name elab)) elab.source.now }
+    requires forms { HaveOneForm elab }
+    ensures tree { IfOk result (λ j. j.elab ≡ elab.entry) }
+    ensures props { IfOk result (λ j. j.settled.props ≡ elab.entry) }
+    ensures clear { IfOk result (λ j. IsClear elab.entry j.block) }
+    ensures error { IfErr result (FailsLate elab.entry) }
 {
-    let settled = set(alloc, arena, elab)?;
-    let stood = stand(alloc, elab, &settled.props)?;
-    mean(alloc, elab, &settled, &stood)
+    let settled = set(alloc, arena, &elab)?;
+    let stood = stand(alloc, &elab, &settled.props)?;
+    let block = mean(alloc, &elab, &settled, &stood)?;
+    Ok(Judged {
+        elab,
+        settled,
+        block,
+    })
 }
 
 /// What a source is: a tree of instances and a register block, or the failures of the first phase that has any. The top is the first
@@ -86,6 +99,18 @@ pub fn judge<'a>(
     forms_are_single();
     let source = read(alloc, arena, text)?;
     let elab = grow(alloc, arena, source, top)?;
-    let block = describe(alloc, arena, &elab)?;
-    Ok(Judged { elab, block })
+    let judged = describe(alloc, arena, elab)?;
+    Ok(judged)
+}
+
+/// The registers of a source that breaks no rule which a bus of 32 data bits doesn't access 32 bits at once, as failures by place.
+/// The only error is want of memory.
+pub fn judge_accesses(alloc: Global, judged: &Judged<'_>) -> Result<Vec<Fault>, NoMemory>
+    requires { (wanted : Option (List ℕ)) × ((text : List ℕ) × IsJudged wanted text judged.now) }
+    ensures { IfOk result (λ list. (wanted : Option (List ℕ)) (text : List ℕ) → IsJudged wanted text judged.now
+        → accesses wanted judged.now.elab.source.now list.items) }
+{
+    name_decides_the_top();
+    let list = access_failures(alloc, &judged.settled.props, &judged.elab)?;
+    Ok(list)
 }

@@ -1,4 +1,4 @@
-//! The verdict of a source over all six phases, and the block of one that breaks no rule.
+//! The verdict of a source over six phases, the block of one that breaks no rule, and what a bus of 32 data bits asks of it besides.
 #![tactic(auto)]
 
 mod error;
@@ -7,5 +7,5 @@ mod laws;
 mod phases;
 
 pub use error::JudgeError;
-pub use judging::{Judged, judge};
+pub use judging::{Judged, judge, judge_accesses};
 pub use laws::one_list;

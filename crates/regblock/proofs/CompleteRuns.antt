@@ -1,8 +1,7 @@
 -- A run that can be done is done.
-use Rattle.std.specs.Prelude.{⊤}
 use Rattle.std.specs.List.{AllByRecursion, list_all}
 use Rattle.std.proofs.lemmas.List.Elements.{recursion_from_All}
-use Rattle.std.proofs.Common.{◌≡◌, ◌⊎◌, ⊎_elim, inl, inr, ℕ, true, ◌&&◌, cond, List, [], ◌∷◌, Contains, length, map, Option, None, Some, Ok, Err, refl, sym, ◌∙◌, ap, subst, arith}
+use Rattle.std.proofs.Common.{◌≡◌, ◌⊎◌, ⊎_elim, inl, inr, ℕ, true, ◌&&◌, cond, List, [], ◌∷◌, length, map, Option, None, Some, Ok, Err, refl, sym, ◌∙◌, ap, subst, arith}
 use Rattle.rb_base.specs.declared.ports.Pin.{Pin}
 use Rattle.vcd_syntax.specs.Reading.{IsTable}
 use Rattle.vcd_syntax.proofs.Answered.{no_error}
@@ -10,12 +9,14 @@ use Rattle.rb_edge.specs.Count.{Rose}
 use Rattle.rb_edge.specs.Shelf.{Files, IsLonger}
 use Rattle.replies.specs.declared.status.Status.{Status}
 use Rattle.replies.specs.declared.status.Status.TheVariants.{Done, Refused, ReadFault, WriteFault, NoMemory, TooLong, BadVerilog, BadStimulus, Protocol, BadVcd, BadScript, Unmet}
-use Rattle.command_line.specs.Words.{Command, check, compile, map_of, header_of, sim, vcd, pins_of, run_of, drive_of, gen_of, waits_of, Asks}
+use Rattle.command_line.specs.Words.{Command, check, compile, map_of, header_of, axi_of, sim, vcd, pins_of, run_of, drive_of, gen_of, waits_of, Asks}
 use Rattle.command_line.proofs.Asking.{one-command}
 use Rattle.replies.specs.Outcome.{AreRead, AreVerdicts, StopsAt, Texts, Judges, Answers, Outcome, files_of, has_none, source_limit}
 use Rattle.replies.specs.Ends.{Passage, IsCutShort, Ends}
 use Rattle.regblock.specs.Complete.{AreAtHand, AreFit, CanBeDone, FitsBlock, IsComplete, IsEnd, IsFit, IsScriptFor}
-use Rattle.replies.specs.Verdict.{BreaksNone, FailsFirst, IsVerdict, tree}
+use Rattle.rdl_parser.specs.Verdicts.{Reads}
+use Rattle.rdl_verdict.specs.Verdict.{IsAxiVerdict, accesses}
+use Rattle.replies.specs.Verdict.{BreaksNone, FailsFirst, IsFirst, tree}
 use Rattle.rdl_verdict_laws.proofs.OneVerdict.{one, one_block}
 use Rattle.rdl_base.specs.declared.fault.Fault.{Fault}
 use Rattle.rb_base.specs.declared.place.Place.{Place}
@@ -64,6 +65,18 @@ no_problem verilog stimulus problem fit bad =
 
 clean_source : (top : Option (List ℕ)) (source : List ℕ) (place : Place) (rule : Rule) → BreaksNone top source → FailsFirst top source place rule → ⊥
 clean_source top source place rule clean fails = let none = one top source [] _ clean fails.verdict in cc none
+
+-- nothing fails first of a source that breaks no rule and has whole registers
+whole_source : (top : Option (List ℕ)) (source : List ℕ) (place : Place) (rule : Rule) → BreaksNone top source → ((s : Source) → Reads source s.items.now → accesses top s [])
+    → IsFirst (IsAxiVerdict top source) place rule → ⊥
+whole_source top source place rule clean whole fails = by fails.verdict
+  where
+    by : IsAxiVerdict top source (record { place = place; rule = rule } ∷ fails.others) → ⊥
+    by (inl h) = clean_source top source place rule clean (record { others = fails.others; verdict = h.0 })
+    by (inr h) =
+        let f : Fault = record { place = place; rule = rule } in
+        let none = ((whole h.0 h.1).exact f).1 ((h.3.exact f).0 (0, omega arith, refl)) in
+        omega (arith, none.1)
 
 clean_lists : (top : Option (List ℕ)) (sources : List (List ℕ)) (lists : List (List Fault)) → AllByRecursion (BreaksNone top) sources → AreVerdicts top sources lists → list_all has_none lists ≡ true
 clean_lists top [] [] clean verdicts = refl
@@ -144,6 +157,12 @@ module _ (fails : NoModuleFails) where
   fit_judged files (header_of top file) (source ∷ []) Done texts fit read judged = refl
   fit_judged files (header_of top file) (source ∷ []) Refused texts fit read judged = absurd (clean_source top source judged.place judged.rule (fit source read.0.held) judged.fails)
   fit_judged files (header_of top file) (source ∷ []) _ texts fit read judged = absurd judged
+  fit_judged files (axi_of top file) [] status texts fit read judged = absurd read
+  fit_judged files (axi_of top file) (source ∷ a ∷ more) status texts fit read judged = absurd read.1
+  fit_judged files (axi_of top file) (source ∷ []) Done texts fit read judged = refl
+  fit_judged files (axi_of top file) (source ∷ []) Refused texts fit read judged =
+      let fits = fit source read.0.held in absurd (whole_source top source judged.place judged.rule fits.0 fits.1 judged.fails)
+  fit_judged files (axi_of top file) (source ∷ []) _ texts fit read judged = absurd judged
   fit_judged files (check top names) sources status texts fit read judged =
       judged.ends ∙ ap (λ t. cond t Done Refused) (clean_lists top sources judged.lists (fit_sources top files names sources (recursion_from_All (IsFit top files) names fit) read) judged.verdicts)
   fit_judged files (sim file table) [] status texts fit read judged = absurd read

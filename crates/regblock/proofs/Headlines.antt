@@ -1,22 +1,53 @@
--- What the answers to `compile`, `map`, `header` and `check` promise.
-use Rattle.std.proofs.Common.{◌≡◌, ◌⊎◌, ⊎_elim, ℕ, List, [], ◌∷◌, map, Option, subst}
+-- What the answers to `compile`, `axi`, `map`, `header` and `check` promise.
+use Rattle.std.proofs.Common.{◌≡◌, ◌⊎◌, ⊎_elim, inr, ℕ, List, [], ◌∷◌, map, Option, subst}
 use Rattle.rb_edge.specs.Shelf.{Files, Holds}
-use Rattle.replies.specs.Verdict.{tree}
+use Rattle.rdl_base.specs.declared.fault.Fault.{Fault}
+use Rattle.rdl_verdict.specs.Verdict.{IsAxiVerdict}
+use Rattle.replies.specs.Verdict.{IsVerdict, tree}
 use Rattle.replies.specs.declared.status.Status.{Status}
 use Rattle.replies.specs.declared.status.Status.TheVariants.{Done, Refused}
-use Rattle.command_line.specs.Words.{check, compile, header_of, map_of, waits_of, Asks}
-use Rattle.replies.specs.Outcome.{AreRead, IsChecked, IsRefused, Texts, Judges, Outcome, files_of, source_limit}
+use Rattle.command_line.specs.Words.{check, compile, header_of, axi_of, map_of, waits_of, Asks}
+use Rattle.replies.specs.Outcome.{AreRead, IsChecked, IsRefused, IsTold, Texts, Judges, Outcome, files_of, source_limit}
 use Rattle.replies.specs.Ends.{Passage, TookAll, Ends}
 use Rattle.regblock.proofs.Asked.{asked}
-use Rattle.regblock.specs.Headline.{AreHeld, AreToldVerdicts, IsHeader, IsRight, IsTable, IsToldFailure}
+use Rattle.regblock.specs.Headline.{AreHeld, AreToldVerdicts, IsFrontRight, IsHeader, IsRight, IsTable, IsToldFailure, IsToldFirst, IsToldForAxi}
 
--- the line of a source's first failure
+-- the line of the first failure of a verdict
+told_by : (contents : Option Files) (err out : Passage) (IsVerdictOf : List ℕ → List Fault → Type 0) (file : List ℕ) (texts : Texts) (source : List ℕ) → Holds contents file source
+    → IsTold (IsVerdictOf source) file source texts → TookAll err texts.err → TookAll out texts.out → IsToldFirst contents IsVerdictOf file err out
+told_by contents err out IsVerdictOf file texts source held judged e o =
+    let P : List ℕ → Type 0 = λ t. TookAll err t in
+    let Q : List ℕ → Type 0 = λ t. TookAll out t in
+    record { source = source; place = judged.place; rule = judged.rule; held = held; fails = judged.fails; told = subst P judged.told.0 e; quiet = subst Q judged.told.1 o }
+
 module _ (contents : Option Files) (err out : Passage) (top : Option (List ℕ)) (file : List ℕ) (texts : Texts) where
   pub told : (source : List ℕ) → Holds contents file source → IsRefused top file source texts → TookAll err texts.err → TookAll out texts.out → IsToldFailure contents top file err out
-  told source held judged e o =
+  told source held judged e o = told_by contents err out (IsVerdict top) file texts source held judged e o
+
+  at-front : (sources : List (List ℕ)) → AreRead contents (files_of (axi_of top file)) sources → Judges (axi_of top file) sources Done texts
+      → TookAll err texts.err → TookAll out texts.out → IsFrontRight contents top file err out
+  at-front [] read judged e o = absurd judged
+  at-front (source ∷ a ∷ more) read judged e o = absurd judged
+  at-front (source ∷ []) read judged e o =
       let P : List ℕ → Type 0 = λ t. TookAll err t in
-      let Q : List ℕ → Type 0 = λ t. TookAll out t in
-      record { source = source; place = judged.place; rule = judged.rule; held = held; fails = judged.fails; told = subst P judged.told.0 e; quiet = subst Q judged.told.1 o }
+      record {
+        source = source;
+        tree = judged.tree;
+        block = judged.block;
+        text = texts.out;
+        held = read.0.held;
+        clean = inr (judged.tree, judged.described.reads, judged.described.clean, judged.whole);
+        described = judged.described;
+        agrees = judged.agrees;
+        written = o;
+        quiet = subst P judged.quiet e;
+      }
+
+  no-front : (sources : List (List ℕ)) → AreRead contents (files_of (axi_of top file)) sources → Judges (axi_of top file) sources Refused texts
+      → TookAll err texts.err → TookAll out texts.out → IsToldForAxi contents top file err out
+  no-front [] read judged e o = absurd judged
+  no-front (source ∷ a ∷ more) read judged e o = absurd judged
+  no-front (source ∷ []) read judged e o = told_by contents err out (IsAxiVerdict top) file texts source read.0.held judged e o
 
   listed : (sources : List (List ℕ)) → AreRead contents (files_of (map_of top file)) sources → Judges (map_of top file) sources Done texts
       → TookAll err texts.err → TookAll out texts.out → IsTable contents top file err out
@@ -102,6 +133,18 @@ module _ (words : List (List ℕ)) (contents : Option Files) (failed : List ℕ 
       let at = subst At is ends in
       let a = asked words contents failed (compile waits top file) Refused at.0 asks at.1 in
       uncompiled contents err out waits top file at.0 a.0 a.1 a.2 at.2 at.3
+
+  pub fronted : (top : Option (List ℕ)) (file : List ℕ) → Asks words (axi_of top file) → result ≡ Done → IsFrontRight contents top file err out
+  fronted top file asks is =
+      let at = subst At is ends in
+      let a = asked words contents failed (axi_of top file) Done at.0 asks at.1 in
+      at-front contents err out top file at.0 a.0 a.1 a.2 at.2 at.3
+
+  pub not_fronted : (top : Option (List ℕ)) (file : List ℕ) → Asks words (axi_of top file) → result ≡ Refused → IsToldForAxi contents top file err out
+  not_fronted top file asks is =
+      let at = subst At is ends in
+      let a = asked words contents failed (axi_of top file) Refused at.0 asks at.1 in
+      no-front contents err out top file at.0 a.0 a.1 a.2 at.2 at.3
 
   pub mapped : (top : Option (List ℕ)) (file : List ℕ) → Asks words (map_of top file) → result ≡ Done → IsTable contents top file err out
   mapped top file asks is =

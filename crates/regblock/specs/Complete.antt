@@ -11,10 +11,12 @@ use Rattle.machine_run.specs.Runs.{IsFitFor}
 use Rattle.drive_lang.specs.Steps.{Step}
 use Rattle.drive_lang.specs.Scripts.{script_of}
 use Rattle.command_line.specs.Source.{source_of}
+use Rattle.rdl_parser.specs.Verdicts.{Reads}
+use Rattle.rdl_verdict.specs.Verdict.{accesses}
 use Rattle.replies.specs.Verdict.{BreaksNone, IsDescribedWith}
 use Rattle.replies.specs.declared.status.Status.{Status}
 use Rattle.replies.specs.declared.status.Status.TheVariants.{Done, NoMemory, Unmet}
-use Rattle.command_line.specs.Words.{Command, check, compile, map_of, header_of, sim, vcd, pins_of, run_of, drive_of, gen_of, waits_of, Asks}
+use Rattle.command_line.specs.Words.{Command, check, compile, map_of, header_of, axi_of, sim, vcd, pins_of, run_of, drive_of, gen_of, waits_of, Asks}
 use Rattle.replies.specs.Outcome.{files_of}
 use Rattle.replies.specs.Ends.{Passage}
 
@@ -26,6 +28,10 @@ AreAtHand files failed (file ∷ more) = ((bytes : List ℕ) × (files file.0 �
 -- the file is a source that breaks no rule
 abbrev pub IsFit : Option (List ℕ) → Files → List ℕ → Type 0
 IsFit top files file = (source : List ℕ) → files file ≡ Some source → BreaksNone top source
+
+-- for a bus of 32 data bits, also each of its registers is accessed 32 bits at once
+abbrev pub IsFitForAxi : Option (List ℕ) → Files → List ℕ → Type 0
+IsFitForAxi top files file = (source : List ℕ) → files file ≡ Some source → BreaksNone top source × ((tree : Source) → Reads source tree.items.now → accesses top tree [])
 
 -- The source breaks no rule, the table fits the block that it describes, and its rows keep the bus protocol.
 pub record FitsBlock (waits : ℕ) (top : Option (List ℕ)) (source stimulus : List ℕ) : Type 0 where
@@ -46,6 +52,7 @@ AreFit (compile waits top file) files = IsFit top files file
 AreFit (check top names) files = All (IsFit top files) names
 AreFit (map_of top file) files = IsFit top files file
 AreFit (header_of top file) files = IsFit top files file
+AreFit (axi_of top file) files = IsFitForAxi top files file
 AreFit (sim file table) files = (verilog stimulus : List ℕ) → files file ≡ Some verilog → files table ≡ Some stimulus → IsFitTable verilog stimulus
 AreFit (vcd file table) files = (verilog stimulus : List ℕ) → files file ≡ Some verilog → files table ≡ Some stimulus → IsFitTable verilog stimulus
 AreFit (pins_of file) files = (text : List ℕ) → files file ≡ Some text → (pins : List Pin) × (rows : List (List ℕ)) × IsTable text pins rows

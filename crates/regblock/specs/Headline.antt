@@ -1,4 +1,4 @@
--- What the answers to `compile`, `map`, `header` and `check` promise.
+-- What the answers to `compile`, `axi`, `map`, `header` and `check` promise.
 use Rattle.std.specs.Prelude.{ℕ, List, [], ◌∷◌, Option, ⊤}
 use Rattle.rb_base.specs.declared.place.Place.{Place}
 use Rattle.rdl_base.specs.declared.rule.Rule.{Rule}
@@ -7,12 +7,14 @@ use Rattle.rb_edge.specs.Shelf.{Files, Holds}
 use Rattle.rb_model.specs.declared.block.Block.{Block}
 use Rattle.rb_model.specs.Agreement.{Agrees}
 use Rattle.rb_model.specs.Run.{apb}
+use Rattle.axi_model.specs.Axi.{axi}
 use Rattle.rdl_base.specs.declared.fault.Fault.{Fault}
 use Rattle.rdl_tree.specs.declared.item.Source.{Source}
 use Rattle.report_text.specs.Lines.{address_lines}
 use Rattle.verdict_text.specs.Lines.{rule_line}
 use Rattle.replies.specs.Outcome.{AreVerdicts, all_failures, all_fine}
-use Rattle.replies.specs.Verdict.{FailsFirst, IsDescribedWith, IsVerdict}
+use Rattle.rdl_verdict.specs.Verdict.{IsAxiVerdict}
+use Rattle.replies.specs.Verdict.{IsDescribedWith, IsFirst, IsVerdict}
 use Rattle.replies.specs.Ends.{Passage, TookAll}
 
 -- Done: the source breaks no rule and describes a sound register block, and what was written is one module that gives the
@@ -30,15 +32,36 @@ pub record IsRight (contents : Option Files) (waits : ℕ) (top : Option (List �
   pub written : TookAll out text
   pub quiet : TookAll err []
 
--- Refused: the source breaks a rule, and what was written on err is the line of the first failure. Nothing stands on out.
-pub record IsToldFailure (contents : Option Files) (top : Option (List ℕ)) (file : List ℕ) (err out : Passage) : Type 0 where
+-- Done by `axi`: the same behind an AXI4-Lite slave port, for any pins at all. Each register of the source is accessed 32 bits at once.
+pub record IsFrontRight (contents : Option Files) (top : Option (List ℕ)) (file : List ℕ) (err out : Passage) : Type 0 where
+  pub source : List ℕ
+  pub tree : Source
+  pub block : Block
+  pub text : List ℕ
+  pub held : Holds contents file source
+  pub clean : IsAxiVerdict top source []
+  pub described : IsDescribedWith top source tree 0 block
+  pub agrees : Agrees text (axi block)
+  pub written : TookAll out text
+  pub quiet : TookAll err []
+
+-- What was written on err is the line of the first failure of the source's verdict. Nothing stands on out.
+pub record IsToldFirst (contents : Option Files) (IsVerdictOf : List ℕ → List Fault → Type 0) (file : List ℕ) (err out : Passage) : Type 0 where
   pub source : List ℕ
   pub place : Place
   pub rule : Rule
   pub held : Holds contents file source
-  pub fails : FailsFirst top source place rule
+  pub fails : IsFirst (IsVerdictOf source) place rule
   pub told : TookAll err (rule_line file source place rule)
   pub quiet : TookAll out []
+
+-- Refused: the source breaks a rule, and the line is that of the first failure.
+abbrev pub IsToldFailure : Option Files → Option (List ℕ) → (file : List ℕ) → (err out : Passage) → Type 0
+IsToldFailure contents top file err out = IsToldFirst contents (IsVerdict top) file err out
+
+-- Refused by `axi`: the source breaks a rule, or else a register of it isn't accessed 32 bits at once.
+abbrev pub IsToldForAxi : Option Files → Option (List ℕ) → (file : List ℕ) → (err out : Passage) → Type 0
+IsToldForAxi contents top file err out = IsToldFirst contents (IsAxiVerdict top) file err out
 
 -- Done by `map`: the source breaks no rule, and what was written is the address table of the block that it describes.
 pub record IsTable (contents : Option Files) (top : Option (List ℕ)) (file : List ℕ) (err out : Passage) : Type 0 where

@@ -3,11 +3,11 @@
 ghost use Rattle.std.specs.Prelude.{◌≡◌, ◌⊎◌, ◌<◌, ◌≤◌, List, Option, ℕ};
 ghost use Rattle.rb_edge.specs.Count.{Rose};
 ghost use Rattle.rb_edge.specs.Shelf.{IsLonger};
-ghost use Rattle.command_line.specs.Words.{texts, Command, check, compile, map_of, header_of, sim, vcd, pins_of, run_of, drive_of, gen_of, waits_of, Asks, AsksNothing};
+ghost use Rattle.command_line.specs.Words.{texts, Command, check, compile, map_of, header_of, axi_of, sim, vcd, pins_of, run_of, drive_of, gen_of, waits_of, Asks, AsksNothing};
 ghost use Rattle.replies.specs.Outcome.{FailedRead, Outcome, StopsAt, files_of};
 ghost use Rattle.replies.specs.Ends.{Ends, passage};
 ghost use Rattle.regblock.specs.Complete.{IsComplete};
-ghost use Rattle.regblock.specs.Headline.{AreToldVerdicts, IsHeader, IsRight, IsTable, IsToldFailure};
+ghost use Rattle.regblock.specs.Headline.{AreToldVerdicts, IsFrontRight, IsHeader, IsRight, IsTable, IsToldFailure, IsToldForAxi};
 ghost use Rattle.regblock.specs.Simulations.{IsRun, IsToldVerilog, IsToldStimulus};
 ghost use Rattle.regblock.specs.Waves.{IsDumped, IsPinTable, IsToldVcd};
 ghost use Rattle.regblock.specs.MachineRuns.{IsMachineRun, IsToldUnfit, IsToldBreak};
@@ -33,6 +33,12 @@ pub fn run<S: Shelf, O: Sink, E: Sink>(
         → IsRight (S.contents shelf.old) (waits_of waits) top file (passage E.told E.faults err.old err.new) (passage O.told O.faults out.old out.new) }
     ensures refused { (waits : Option ℕ) (top : Option (List ℕ)) (file : List ℕ) → Asks (texts words.now) (compile waits top file) → result ≡ Status.Refused
         → IsToldFailure (S.contents shelf.old) top file (passage E.told E.faults err.old err.new) (passage O.told O.faults out.old out.new) }
+
+    // So it is behind an AXI4-Lite slave port.
+    ensures fronted { (top : Option (List ℕ)) (file : List ℕ) → Asks (texts words.now) (axi_of top file) → result ≡ Status.Done
+        → IsFrontRight (S.contents shelf.old) top file (passage E.told E.faults err.old err.new) (passage O.told O.faults out.old out.new) }
+    ensures not_fronted { (top : Option (List ℕ)) (file : List ℕ) → Asks (texts words.now) (axi_of top file) → result ≡ Status.Refused
+        → IsToldForAxi (S.contents shelf.old) top file (passage E.told E.faults err.old err.new) (passage O.told O.faults out.old out.new) }
 
     // A table or a header that was written is that of the block that the source describes; verdicts that were written are those of all files.
     ensures mapped { (top : Option (List ℕ)) (file : List ℕ) → Asks (texts words.now) (map_of top file) → result ≡ Status.Done

@@ -1,5 +1,5 @@
 -- The rows of the outcome, at a status that is known by an equation.
-use Rattle.std.proofs.Common.{◌≡◌, ◌⊎◌, ⊎_elim, ℕ, zero, suc, ◌==◌, ◌<◌, Bool, true, false, cond, List, [], ◌∷◌, append-nil, codes, take, Option, None, Err, refl, sym, ◌∙◌, ap, subst, arith}
+use Rattle.std.proofs.Common.{◌≡◌, ◌≢◌, ◌⊎◌, ⊎_elim, ℕ, zero, suc, ◌==◌, ◌<◌, Bool, true, false, cond, List, [], ◌∷◌, append-nil, codes, take, Option, None, Err, refl, sym, ◌∙◌, ap, subst, arith}
 use Rattle.std.specs.List.{list_all}
 use Rattle.std.proofs.lemmas.Bool.{eqb-true}
 use Rattle.rdl_base.specs.declared.fault.Fault.{Fault}
@@ -16,10 +16,10 @@ use Rattle.vcd_syntax.specs.declared.error.VcdError.{VcdError}
 use Rattle.report_text.specs.Printed.{printed_run}
 use Rattle.rb_base.specs.declared.ports.Pin.{Pin}
 use Rattle.replies.specs.Text.{IsVcdLine, cannot_read, too_long, verilog_line, stimulus_line, protocol_line, script_line}
-use Rattle.command_line.specs.Words.{Command, check, compile, map_of, header_of, sim, vcd, pins_of, run_of, drive_of, gen_of, waits_of}
+use Rattle.command_line.specs.Words.{Command, check, compile, map_of, header_of, axi_of, sim, vcd, pins_of, run_of, drive_of, gen_of, waits_of}
 use Rattle.rb_model.specs.declared.block.Block.{Block}
 use Rattle.rdl_tree.specs.declared.item.Source.{Source}
-use Rattle.replies.specs.Verdict.{IsDescribedWith}
+use Rattle.replies.specs.Verdict.{IsDescribedWith, IsVerdict}
 use Rattle.machine_run.specs.Runs.{IsBreak}
 use Rattle.machine_run.specs.Runs as machine
 use Rattle.command_line.specs.Source.{source_of}
@@ -27,19 +27,23 @@ use Rattle.replies.specs.RunAnswer.{IsRunAnswer}
 use Rattle.drive_lang.specs.declared.error.DriveError.{DriveError}
 use Rattle.drive_lang.specs.Scripts.{script_of}
 use Rattle.replies.specs.DriveAnswer.{IsDriveAnswer, status_of_checks}
-use Rattle.replies.specs.Outcome.{IsDriveText, IsHeaded, IsMapped, IsRefused, IsRunText, AreRead, StopsAt, Texts, IsNotice, Judges, Answers, Outcome, files_of, has_none}
+use Rattle.replies.specs.Outcome.{IsDriveText, IsHeaded, IsMapped, IsRefused, IsRunText, IsTold, IsUnfronted, AreRead, StopsAt, Texts, IsNotice, Judges, Answers, Outcome, files_of, has_none}
 use Rattle.replies.specs.Ends.{Passage, TookAll, IsCutShort, Ends}
 
 -- the first failure of a verdict, told alone
-pub first_told : (top : Option (List ℕ)) (file source : List ℕ) (list : List Fault) (texts : Texts)
-    → verdict.IsRefused top source list → IsNotice texts (verdict_lines file source (take 1 list)) → IsRefused top file source texts
-first_told top file source [] texts refused notice = absurd (refused.some refl)
-first_told top file source (f ∷ fs) texts refused notice = record {
+pub told_first : (IsVerdictOf : List Fault → Type 0) (file source : List ℕ) (list : List Fault) (texts : Texts)
+    → IsVerdictOf list → list ≢ [] → IsNotice texts (verdict_lines file source (take 1 list)) → IsTold IsVerdictOf file source texts
+told_first IsVerdictOf file source [] texts is some notice = absurd (some refl)
+told_first IsVerdictOf file source (f ∷ fs) texts is some notice = record {
   place = f.place;
   rule = f.rule;
-  fails = record { others = fs; verdict = refused.verdict };
+  fails = record { others = fs; verdict = is };
   told = (notice.0 ∙ append-nil (rule_line file source f.place f.rule), notice.1);
 }
+
+pub first_told : (top : Option (List ℕ)) (file source : List ℕ) (list : List Fault) (texts : Texts)
+    → verdict.IsRefused top source list → IsNotice texts (verdict_lines file source (take 1 list)) → IsRefused top file source texts
+first_told top file source list texts refused notice = told_first (IsVerdict top source) file source list texts refused.verdict refused.some notice
 
 -- the one file of `compile` breaks a rule
 pub Judges-uncompiled : (waits : Option ℕ) (top : Option (List ℕ)) (file source : List ℕ) (status : Status) (texts : Texts)
@@ -72,6 +76,13 @@ pub Judges-unheaded : (top : Option (List ℕ)) (file source : List ℕ) (status
     → status ≡ Refused → IsRefused top file source texts → Judges (header_of top file) (source ∷ []) status texts
 Judges-unheaded top file source status texts is refused =
     let P : Status → Type 0 = λ s. Judges (header_of top file) (source ∷ []) s texts in
+    subst P (sym is) refused
+
+-- the one file of `axi` breaks a rule
+pub Judges-unfronted : (top : Option (List ℕ)) (file source : List ℕ) (status : Status) (texts : Texts)
+    → status ≡ Refused → IsUnfronted top file source texts → Judges (axi_of top file) (source ∷ []) status texts
+Judges-unfronted top file source status texts is refused =
+    let P : Status → Type 0 = λ s. Judges (axi_of top file) (source ∷ []) s texts in
     subst P (sym is) refused
 
 -- what the two files of `sim` give
@@ -207,6 +218,11 @@ only_judged (header_of top file) (a ∷ []) Done texts j = refl
 only_judged (header_of top file) (a ∷ []) Refused texts j = refl
 only_judged (header_of top file) (a ∷ []) _ texts j = absurd j
 only_judged (header_of top file) (a ∷ b ∷ more) status texts j = absurd j
+only_judged (axi_of top file) [] status texts j = absurd j
+only_judged (axi_of top file) (a ∷ []) Done texts j = refl
+only_judged (axi_of top file) (a ∷ []) Refused texts j = refl
+only_judged (axi_of top file) (a ∷ []) _ texts j = absurd j
+only_judged (axi_of top file) (a ∷ b ∷ more) status texts j = absurd j
 only_judged (check top files) sources status texts j = check_judged (list_all has_none j.lists) status j.ends
 only_judged (sim file table) [] status texts j = absurd j
 only_judged (sim file table) (a ∷ []) status texts j = absurd j

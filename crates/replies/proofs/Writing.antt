@@ -1,8 +1,7 @@
 -- A reply that was written.
-use Rattle.std.proofs.Common.{◌≡◌, ◌⊎◌, inl, inr, ℕ, List, [], Result, Ok, Err, MatchResult, OnErr, refl, sym, subst}
+use Rattle.std.proofs.Common.{◌≡◌, ◌⊎◌, inl, inr, ℕ, List, [], refl, sym, subst}
 use Rattle.rb_edge.specs.Count.{Rose}
-use Rattle.rb_edge.specs.Sink.{Takes, TakesPart}
-use Rattle.rb_edge.proofs.Taken.{Takes-nil}
+use Rattle.rb_edge.specs.Sink.{TakesPart}
 use Rattle.v_printer.specs.Layout.{text_of}
 use Rattle.v_printer.specs.TextOf.{IsTextOf}
 use Rattle.rtl_net.specs.Net.{Net}

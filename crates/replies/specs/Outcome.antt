@@ -6,17 +6,18 @@ use Rattle.rb_edge.specs.Shelf.{Files, Holds, IsLonger}
 use Rattle.rb_model.specs.declared.block.Block.{Block}
 use Rattle.rb_model.specs.Agreement.{Agrees}
 use Rattle.rb_model.specs.Run.{apb}
+use Rattle.axi_model.specs.Axi.{axi}
 use Rattle.rdl_base.specs.declared.fault.Fault.{Fault}
 use Rattle.rdl_tree.specs.declared.item.Source.{Source}
-use Rattle.rdl_verdict.specs.Verdict.{IsVerdict}
+use Rattle.rdl_verdict.specs.Verdict.{IsAxiVerdict, IsVerdict, accesses}
 use Rattle.report_text.specs.Lines.{address_lines}
 use Rattle.c_header.specs.Header.{header}
 use Rattle.verdict_text.specs.Lines.{ok_line, rule_line, verdict_lines}
-use Rattle.command_line.specs.Words.{Command, check, compile, map_of, header_of, sim, vcd, pins_of, run_of, drive_of, gen_of, waits_of, Asks, AsksNothing}
+use Rattle.command_line.specs.Words.{Command, check, compile, map_of, header_of, axi_of, sim, vcd, pins_of, run_of, drive_of, gen_of, waits_of, Asks, AsksNothing}
 use Rattle.replies.specs.declared.status.Status.{Status}
 use Rattle.replies.specs.declared.status.Status.TheVariants.{Done, Refused, Usage, ReadFault, TooLong, BadVerilog, BadStimulus, Protocol, BadVcd, BadScript, Unmet}
 use Rattle.replies.specs.Text.{cannot_read, too_long, verilog_line, stimulus_line, protocol_line, script_line, IsVcdLine, usage}
-use Rattle.replies.specs.Verdict.{FailsFirst, IsDescribedWith}
+use Rattle.replies.specs.Verdict.{IsDescribedWith, IsFirst}
 use Rattle.sim_run.specs.Simulated.{IsSimulated, IsProblem}
 use Rattle.wave_run.specs.Dumped.{IsWave}
 use Rattle.vcd_syntax.specs.Reading.{Fails as DumpFails, IsTable}
@@ -65,6 +66,7 @@ files_of (compile waits top source) = (source, source_limit) ∷ []
 files_of (check top sources) = map (λ source. (source, source_limit)) sources
 files_of (map_of top source) = (source, source_limit) ∷ []
 files_of (header_of top source) = (source, source_limit) ∷ []
+files_of (axi_of top source) = (source, source_limit) ∷ []
 files_of (sim verilog stimulus) = (verilog, verilog_limit) ∷ (stimulus, source_limit) ∷ []
 files_of (vcd verilog stimulus) = (verilog, verilog_limit) ∷ (stimulus, source_limit) ∷ []
 files_of (pins_of waves) = (waves, waves_limit) ∷ []
@@ -112,12 +114,30 @@ pub record IsHeaded (top : Option (List ℕ)) (source : List ℕ) (texts : Texts
   pub text : texts.out ≡ header block
   pub quiet : texts.err ≡ []
 
--- on err is the line of the first rule that the source breaks
-pub record IsRefused (top : Option (List ℕ)) (file source : List ℕ) (texts : Texts) : Type 0 where
+-- the source breaks no rule, each of its registers is accessed 32 bits at once, and on out is a module of the block that it describes
+-- behind an AXI4-Lite slave port
+pub record IsFronted (top : Option (List ℕ)) (source : List ℕ) (texts : Texts) : Type 0 where
+  pub tree : Source
+  pub block : Block
+  pub described : IsDescribedWith top source tree 0 block
+  pub whole : accesses top tree []
+  pub agrees : Agrees texts.out (axi block)
+  pub quiet : texts.err ≡ []
+
+-- on err is the line of the first failure of a verdict
+pub record IsTold (IsVerdictOf : List Fault → Type 0) (file source : List ℕ) (texts : Texts) : Type 0 where
   pub place : Place
   pub rule : Rule
-  pub fails : FailsFirst top source place rule
+  pub fails : IsFirst IsVerdictOf place rule
   pub told : IsNotice texts (rule_line file source place rule)
+
+-- that of the first rule that the source breaks
+abbrev pub IsRefused : Option (List ℕ) → (file source : List ℕ) → Texts → Type 0
+IsRefused top file source texts = IsTold (IsVerdict top source) file source texts
+
+-- and behind an AXI4-Lite slave port
+abbrev pub IsUnfronted : Option (List ℕ) → (file source : List ℕ) → Texts → Type 0
+IsUnfronted top file source texts = IsTold (IsAxiVerdict top source) file source texts
 
 -- The verdicts of some sources, each by its own text alone.
 abbrev pub AreVerdicts : Option (List ℕ) → List (List ℕ) → List (List Fault) → Type 0
@@ -262,6 +282,8 @@ Judges (map_of top file) (source ∷ []) Done texts = IsMapped top source texts
 Judges (map_of top file) (source ∷ []) Refused texts = IsRefused top file source texts
 Judges (header_of top file) (source ∷ []) Done texts = IsHeaded top source texts
 Judges (header_of top file) (source ∷ []) Refused texts = IsRefused top file source texts
+Judges (axi_of top file) (source ∷ []) Done texts = IsFronted top source texts
+Judges (axi_of top file) (source ∷ []) Refused texts = IsUnfronted top file source texts
 Judges (check top files) sources status texts = IsChecked top files sources status texts
 Judges (sim file table) (verilog ∷ stimulus ∷ []) Done texts = IsSimulation verilog stimulus texts
 Judges (sim file table) (verilog ∷ stimulus ∷ []) BadVerilog texts = IsBadVerilog file verilog texts

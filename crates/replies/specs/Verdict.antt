@@ -12,10 +12,14 @@ use Rattle.rdl_rules.specs.Block.{IsBlockOf}
 use Rattle.rdl_verdict.specs.Verdict.{tree_phases}
 pub use Rattle.rdl_verdict.specs.Verdict.{IsVerdict, tree}
 
--- The first failure of a source, where the definition of a name is wanted as its top.
-pub record FailsFirst (top : Option (List ℕ)) (source : List ℕ) (place : Place) (rule : Rule) : Type 0 where
+-- The first failure of a verdict.
+pub record IsFirst (IsVerdictOf : List Fault → Type 0) (place : Place) (rule : Rule) : Type 0 where
   pub others : List Fault
-  pub verdict : IsVerdict top source (record { place = place; rule = rule } ∷ others)
+  pub verdict : IsVerdictOf (record { place = place; rule = rule } ∷ others)
+
+-- The first failure of a source, where the definition of a name is wanted as its top.
+abbrev pub FailsFirst : Option (List ℕ) → List ℕ → Place → Rule → Type 0
+FailsFirst top source place rule = IsFirst (IsVerdict top source) place rule
 
 -- the source breaks no rule: its verdict is empty
 abbrev pub BreaksNone : Option (List ℕ) → List ℕ → Type 0

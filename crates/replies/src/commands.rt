@@ -9,6 +9,7 @@ use crate::answer::{Reply, usage_answer};
 use crate::checking::check_files;
 use crate::compiling::{compile_file, map_file};
 use crate::driving::drive_files;
+use crate::fronting::front_file;
 use crate::generating::generate;
 use crate::heading::header_file;
 use crate::reading::read_file;
@@ -43,6 +44,7 @@ pub fn answer_words<S: Shelf>(
         Some(Command::Header { top, source }) => {
             Ok(Reply::Text(header_file(alloc, shelf, top, source)?))
         }
+        Some(Command::Axi { top, source }) => Ok(front_file(alloc, shelf, top, source)?),
         Some(Command::Sim { verilog, stimulus }) => {
             Ok(Reply::Text(simulate_files(alloc, shelf, verilog, stimulus)?))
         }

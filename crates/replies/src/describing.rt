@@ -25,8 +25,13 @@ pub(crate) enum Described {
     Stopped(Answer),
 }
 
-// The line of the first rule that a source breaks.
-fn refusal(alloc: Global, file: &str, source: &[u8], faults: Vec<Fault>) -> Result<Answer, NoMemory>
+/// The line of the first failure of a verdict.
+pub(crate) fn refusal(
+    alloc: Global,
+    file: &str,
+    source: &[u8],
+    faults: Vec<Fault>,
+) -> Result<Answer, NoMemory>
     requires short { length source.now ≤ source_limit }
     requires some { faults.items ≢ [] }
     ensures status { IfOk result (λ answer. answer.status ≡ Status.Refused) }

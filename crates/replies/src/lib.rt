@@ -7,6 +7,7 @@ mod commands;
 mod compiling;
 mod describing;
 mod driving;
+mod fronting;
 mod generating;
 mod heading;
 mod loading;

@@ -1,7 +1,7 @@
-use Rattle.rdl_verdict.proofs.Later.{late6}
+use Rattle.rdl_verdict.proofs.Later.{late-on, late6}
 use Rattle.rdl_verdict.proofs.judging.describe.Goals as goal
 
-pub returns-clause-error : goal.returns-clause-error
-returns-clause-error c =
+pub returns-in_err-block-clause-error : goal.returns-in_err-block-clause-error
+returns-in_err-block-clause-error c =
     let stood = c.in_ok-stood.ensures.stood in
-    late6 c.args.elab.now c.mean.result c.in_ok-settled.ensures.settled stood.placed stood.bound c.mean.ensures.error
+    late-on c.args.elab _ _ c.from_residual-in_err-block.ensures.1 (late6 c.args.elab _ c.in_ok-settled.ensures.settled stood.placed stood.bound c.in_err-block.ensures.error)

@@ -1,6 +1,8 @@
-use Rattle.std.proofs.Common.{Some, option_copied, subst}
+use Rattle.std.proofs.Common.{◌≡◌, Some, option_copied, sym, subst}
 use Rattle.rdl_values.specs.Elaborated.{top_name}
 use Rattle.rdl_nodes.specs.Single.{AreSingle}
+use Rattle.rdl_verdict.specs.Answers.{IsJudged}
+use Rattle.rdl_verdict.specs.declared.judging.Judged.{Judged}
 use Rattle.rdl_verdict.proofs.Later.{clean, here, judged, passed-on, refused, refused3}
 use Rattle.rdl_verdict.proofs.judging.judge.Goals as goal
 
@@ -24,17 +26,20 @@ describe-requires-clause-forms c =
     let single = subst (λ x. AreSingle x.items.now) (here (option_copied c.args.top) c.args.text.now c.in_ok-source.source.now e c.in_ok-elab.ensures.tree) (c.derived_forms_are_single.ensures reads.tokens _ reads.derived) in
     c.forms_are_single.ensures (Some (top_name e)) e.source.now single
 
-pub returns-in_err-block : goal.returns-in_err-block
-returns-in_err-block c =
+pub returns-in_err-judged : goal.returns-in_err-judged
+returns-in_err-judged c =
     let s = c.in_ok-source.source.now in
     let e = c.in_ok-elab.elab in
-    passed-on _ _ _ _ c.from_residual-in_err-block.ensures.1 (refused _ c.args.text.now s e c.in_ok-elab.ensures.tree c.in_ok-source.ensures.tree (c.name_decides_the_top.ensures.top _ s e c.in_ok-elab.ensures.tree) _ c.in_err-block.ensures.error)
+    passed-on _ _ _ _ c.from_residual-in_err-judged.ensures.1 (refused _ c.args.text.now s e c.in_ok-elab.ensures.tree c.in_ok-source.ensures.tree (c.name_decides_the_top.ensures.top _ s e c.in_ok-elab.ensures.tree) _ c.in_err-judged.ensures.error)
 
 pub returns : goal.returns
 returns c =
     let s = c.in_ok-source.source.now in
     let e = c.in_ok-elab.elab in
+    let j = c.in_ok-judged.judged in
+    let is = c.in_ok-judged.ensures in
     let reads = c.in_ok-source.ensures.tree in
     let h = c.in_ok-elab.ensures.tree in
     let whole = clean _ c.args.text.now s e h (c.name_decides_the_top.ensures.tree _ s e h) (c.derived_in_order.ensures.order reads.tokens _ (c.spelled_in_order.ensures.places c.args.text.now reads.tokens reads.spelled) reads.derived) in
-    judged _ c.args.text.now s e h c.in_ok-block.block reads (c.name_decides_the_top.ensures.top _ s e h) whole c.in_ok-block.ensures.clear
+    let same : record j { elab = e } ≡ j = λ i. record j { elab = sym is.tree i } in
+    subst (λ (x : Judged). IsJudged (option_copied c.args.top) c.args.text.now x) same (judged _ c.args.text.now s e h j.settled j.block is.props reads (c.name_decides_the_top.ensures.top _ s e h) whole is.clear)

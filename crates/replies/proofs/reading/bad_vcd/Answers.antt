@@ -1,8 +1,6 @@
 use Rattle.std.proofs.Common.{codes, ◌++◌, refl}
-use Rattle.verdict_text.specs.Lines.{at_place, file_line}
-use Rattle.vcd_reader.specs.Reading.{place_number}
+use Rattle.verdict_text.specs.Lines.{file_line}
 use Rattle.replies.specs.Answer.{texts_of}
-use Rattle.replies.specs.Text.{vcd_kind}
 use Rattle.replies.proofs.Dumps.{lacking, placed}
 use Rattle.replies.proofs.Rows.{Judges-bad_vcd}
 use Rattle.replies.proofs.reading.bad_vcd.Goals as goal

@@ -1,0 +1,6 @@
+mod Joining
+mod Names
+mod Parts
+mod Placing
+mod Running
+mod Tying
