@@ -7,13 +7,10 @@ use Rattle.rb_grammar.specs.Spelling.{IsNext, StartsWith, SpellsFrom}
 use Rattle.vcd_syntax.specs.Words.{vcd}
 use Rattle.vcd_syntax.specs.Tokens.{Word}
 use Rattle.vcd_reader.proofs.Runs.{starts}
+use Rattle.plain_lemmas.proofs.Bools.{or-false as or_none}
 
 abbrev in_word : ℕ → Bool
 in_word b = not (is_blank b)
-
-or_none : (b : Bool) → (b || false) ≡ b
-or_none true = refl
-or_none false = refl
 
 -- a lexeme means itself
 pub means_itself : (w : List ℕ) → has_form vcd w ≡ true → meaning_of vcd w ≡ Some w

@@ -3,6 +3,7 @@ pub mod Cells
 pub mod Ending
 pub mod Existing
 pub mod Keeping
+pub mod Leading
 pub mod Lists
 pub mod Places
 pub mod Runs

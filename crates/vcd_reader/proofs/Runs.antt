@@ -1,6 +1,6 @@
 -- The first word of a text is its first run of bytes other than blanks.
 use Rattle.std.specs.List.{take_while, list_all, prefix_len}
-use Rattle.std.proofs.Common.{◌≡◌, ℕ, ◌<◌, ◌≤◌, Bool, true, false, not, ◌||◌, List, [], ◌∷◌, length, take, drop, get_or, refl, ap, sym, ◌∙◌, subst, arith, length-take, length-drop}
+use Rattle.std.proofs.Common.{◌≡◌, ℕ, ◌<◌, ◌≤◌, Bool, true, false, not, List, [], ◌∷◌, length, take, drop, get_or, refl, ap, sym, ◌∙◌, subst, arith, length-take, length-drop}
 use Rattle.rb_grammar.specs.Separators.{is_blank, Skips, stay, skip, blank, begins_separator}
 use Rattle.rb_grammar.specs.Lexemes.{has_form}
 use Rattle.rb_grammar.specs.Spelling.{IsNext}
@@ -8,13 +8,10 @@ use Rattle.rb_grammar.proofs.Scanning.{run_cons}
 use Rattle.rb_grammar.proofs.Lexing.{next_by_run}
 use Rattle.vcd_syntax.specs.Words.{vcd}
 use Rattle.vcd_reader.specs.Fronts.{StartsBy}
+use Rattle.plain_lemmas.proofs.Bools.{or-false as or_none}
 
 abbrev in_word : ℕ → Bool
 in_word b = not (is_blank b)
-
-or_none : (b : Bool) → (b || false) ≡ b
-or_none true = refl
-or_none false = refl
 
 is_run : (b : ℕ) → in_word b ≡ true → (w : List ℕ) → has_form vcd (b ∷ w) ≡ list_all in_word w
 unfolding vcd
@@ -43,3 +40,10 @@ first_run text (x ∷ xs) gap n l e some s b r =
       skips = subst (λ z. Skips false text z) e s;
       next = subst (λ z. IsNext vcd z (take n z) (drop n z)) e p.2;
     }
+
+-- two bytes before a blank
+pub two_long : (text : List ℕ) → 3 ≤ length text → in_word (get_or text 0 0) ≡ true → in_word (get_or text 1 0) ≡ true → is_blank (get_or text 2 0) ≡ true → 2 ≡ length (take_while in_word text)
+two_long [] l h f e = absurd (omega (arith, l))
+two_long (a ∷ []) l h f e = absurd (omega (arith, l))
+two_long (a ∷ b ∷ []) l h f e = absurd (omega (arith, l))
+two_long (a ∷ b ∷ c ∷ rest) l h f e = let end : in_word c ≡ false = ap not e in rw (h, f, end) refl

@@ -110,6 +110,7 @@ impl<'s> CodeSet<'s> {
     }
 
     /// The number of a code, from 0.
+    #[inline(always)]
     pub fn find(&self, code: &[u8]) -> Option<usize>
         ensures { result ≡ position (bytes_eq code.now) self.now }
     {

@@ -2,6 +2,7 @@
 #![tactic(auto)]
 
 mod code_set;
+mod exits;
 mod naming;
 mod numbers;
 mod pins;

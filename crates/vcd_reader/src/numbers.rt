@@ -56,14 +56,11 @@ fn same(cells: &[u32], wide: &[u128], number: u128, back: usize) -> Option<u32>
     }
 }
 
-// A cell for a number, that is a new wide one where it has to be.
-fn cell_of(wide: &mut Vec<u128>, number: u128) -> Result<u32, AllocError>
+// A new wide cell for a number.
+fn new_cell(wide: &mut Vec<u128>, number: u128) -> Result<u32, AllocError>
     ensures more { IsMore wide.old.items wide.new.items }
     ensures cell { IfOk result (λ cell. (is_cell (length wide.new.items) cell ≡ true) × (number_in wide.new.items cell ≡ number)) }
 {
-    if number < u128::from(WIDE) {
-        return Ok(number as u32);
-    }
     let at = wide.len();
     if at >= WIDE as usize {
         return Err(AllocError);
@@ -83,9 +80,12 @@ fn cell_for(
     ensures more { IsMore wide.old.items wide.new.items }
     ensures cell { IfOk result (λ cell. (is_cell (length wide.new.items) cell ≡ true) × (number_in wide.new.items cell ≡ number)) }
 {
+    if number < u128::from(WIDE) {
+        return Ok(number as u32);
+    }
     match same(cells, wide, number, back) {
         Some(cell) => Ok(cell),
-        None => cell_of(wide, number),
+        None => new_cell(wide, number),
     }
 }
 

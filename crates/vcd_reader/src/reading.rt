@@ -30,6 +30,7 @@ pub fn read(alloc: Global, bytes: &[u8]) -> Result<Waves, VcdError>
 }
 
 // The table of the bytes, or what is wrong with them.
+#[inline(never)]
 fn judged(alloc: Global, bytes: &[u8]) -> Result<Waves, VcdError>
     requires { length bytes.now < 2 ^ 32 - 1 }
     ensures table { IfOk result (λ w. IsTable bytes.now w.pins w.rows) }

@@ -1,10 +1,11 @@
 //! What a dump says, word by word.
 
-ghost use Rattle.std.specs.Prelude.{◌≡◌, drop};
+ghost use Rattle.std.specs.Prelude.{◌≡◌, ◌∷◌, [], drop};
 ghost use Rattle.std.specs.List.{list_all};
 ghost use Rattle.vcd_syntax.specs.Faulty.{is_known_bit};
 ghost use Rattle.vcd_reader.specs.Bits.{bit_value};
 
+use crate::exits::{are_known, is_change, is_number, is_taker};
 use crate::pins::pins_of;
 use crate::rows::{Came, Rows};
 use crate::variables::{Given, Variables};
@@ -33,15 +34,15 @@ fn tail(word: &[u8]) -> &[u8]
     }
 }
 
-fn are_known(bits: &[u8]) -> bool
-    ensures { result ≡ list_all is_known_bit bits.now }
+// The value of a bit, where it is 0 or 1. Neither is tested for by itself, since which comes next is chance.
+fn known_bit(bit: u8) -> Option<u128>
+    ensures { result ≡ bit_value (bit ∷ []) }
 {
-    for bit in bits {
-        if *bit != b'0' && *bit != b'1' {
-            return false;
-        }
+    if b'0' <= bit && bit <= b'1' {
+        Some(u128::from(bit - b'0'))
+    } else {
+        None
     }
-    true
 }
 
 /// The value of the bit that a word begins with, where it is 0 or 1.
@@ -49,14 +50,13 @@ fn bit_value(word: &[u8]) -> Option<u128>
     ensures { result ≡ bit_value word.now }
 {
     match word {
-        [] | [b'0', ..] => Some(0),
-        [b'1', ..] => Some(1),
-        _ => None,
+        [] => Some(0),
+        [bit, ..] => known_bit(*bit),
     }
 }
 
 impl<'s> Said<'s> {
-    ghost use Rattle.std.specs.Prelude.{◌≡◌, ◌≢◌, ◌<◌, ◌^◌, ◌∷◌, [], ℕ, List, length, OnOk, IfOk, IfErr};
+    ghost use Rattle.std.specs.Prelude.{◌≡◌, ◌≢◌, ◌<◌, ◌^◌, ◌∷◌, [], true, drop, ℕ, List, length, OnOk, IfOk, IfErr};
     ghost use Rattle.vcd_syntax.specs.Tokens.{Word as TextWord};
     ghost use Rattle.vcd_syntax.specs.Reading.{Fails, IsTable};
     ghost use Rattle.vcd_syntax.specs.declared.error.VcdError.{VcdError as Error};
@@ -133,6 +133,7 @@ impl<'s> Said<'s> {
         }
     }
 
+    #[inline(always)]
     fn scalar(&mut self, word: Word<'s>) -> Result<(), VcdError>
         requires { (k : Known) × IsReady kind_of.Scalar word.text.now self.old k }
         ensures on { OnOk result (Goes kind_of.Scalar self.old self.new word.entry.text.now) }
@@ -156,6 +157,15 @@ impl<'s> Said<'s> {
         Ok(())
     }
 
+    // Bits are no event before their code.
+    fn number(&mut self, word: Word<'s>)
+        requires { list_all is_known_bit (drop 1 word.text.now) ≡ true }
+        ensures { Goes kind_of.Bits self.old self.new word.entry.text.now }
+    {
+        let _ = word;
+    }
+
+    #[inline(always)]
     fn taker(&mut self, word: Word<'s>) -> Result<(), VcdError>
         requires { (k : Known) × IsReady kind_of.Taker word.text.now self.old k }
         ensures on { OnOk result (Goes kind_of.Taker self.old self.new word.entry.text.now) }
@@ -189,8 +199,8 @@ impl<'s> Said<'s> {
         }
     }
 
-    /// Takes the next word of a text.
-    pub fn step(&mut self, word: Word<'s>) -> Result<(), VcdError>
+    // Takes the next word of a text, whatever it is.
+    fn other_step(&mut self, word: Word<'s>) -> Result<(), VcdError>
         requires { (text : List ℕ) × (left : List TextWord) × IsSaid text (word_of word ∷ left) self.old }
         ensures on { OnOk result ((text : List ℕ) (left : List TextWord) → IsSaid text (word_of word.entry ∷ left) self.old → IsSaid text left self.new) }
         ensures fault { IfErr result (λ e. e ≢ VcdError.NoMemory
@@ -203,6 +213,35 @@ impl<'s> Said<'s> {
         self.state = to;
         self.last = word;
         Ok(())
+    }
+
+    /// Takes the next word of a text.
+    #[inline(always)]
+    pub fn step(&mut self, word: Word<'s>) -> Result<(), VcdError>
+        requires { (text : List ℕ) × (left : List TextWord) × IsSaid text (word_of word ∷ left) self.old }
+        ensures on { OnOk result ((text : List ℕ) (left : List TextWord) → IsSaid text (word_of word.entry ∷ left) self.old → IsSaid text left self.new) }
+        ensures fault { IfErr result (λ e. e ≢ VcdError.NoMemory
+            → (text : List ℕ) (left : List TextWord) → IsSaid text (word_of word.entry ∷ left) self.old → Fails text e) }
+    {
+        if is_change(self.state, word.text) {
+            self.scalar(word)?;
+            self.state = State::Entries;
+            self.last = word;
+            return Ok(());
+        }
+        if is_number(self.state, word.text) {
+            self.number(word);
+            self.state = State::Taker;
+            self.last = word;
+            return Ok(());
+        }
+        if is_taker(self.state, word.text) {
+            self.taker(word)?;
+            self.state = State::Entries;
+            self.last = word;
+            return Ok(());
+        }
+        self.other_step(word)
     }
 
     /// The table of a text that ends here, or its first problem.

@@ -33,6 +33,7 @@ fn fits(value: Option<u128>, width: u8, most: u8) -> bool
     ensures { result ≡ fits value width most }
 {
     match value {
+        Some(number) if width == 1 => most > 0 && number < 2,
         Some(number) => width <= most && is_within(number, width),
         None => false,
     }
@@ -85,6 +86,7 @@ impl<'s> Variables<'s> {
     }
 
     /// Gives a value to the variable of a code, if that has at most so many bits.
+    #[inline(always)]
     pub fn give(&mut self, code: &[u8], value: Option<u128>, most: u8) -> Given
         requires widths { length self.old.widths.items ≡ length self.old.codes }
         requires now { length self.old.now.items ≡ length self.old.codes }

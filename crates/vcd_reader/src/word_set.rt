@@ -41,6 +41,7 @@ impl<'s> WordSet<'s> {
     }
 
     /// The number of a word, from 0.
+    #[inline(never)]
     pub fn find(&self, word: &[u8]) -> Option<usize>
         ensures { result ≡ position (bytes_eq word.now) self.now }
     {

@@ -32,7 +32,12 @@ fn is_solid(b: u8) -> bool
 fn word_len(text: &[u8]) -> usize
     ensures { result ≡ length (take_while (λ b. not (is_blank b)) text.now) }
 {
-    text.iter().take_while(|b| is_solid(**b)).count()
+    match text {
+        [first, second, blank, ..] if is_blank(*blank) && is_solid(*first) && is_solid(*second) => {
+            2
+        }
+        _ => text.iter().take_while(|b| is_solid(**b)).count(),
+    }
 }
 
 // How many blanks stand at the front. Mostly it is one.
@@ -53,6 +58,7 @@ fn gap_len(text: &[u8]) -> usize
 }
 
 /// The first word of a text, None where it has blanks alone.
+#[inline(always)]
 fn first_word(text: &[u8]) -> Option<Front>
     ensures some { IfSome result (λ f. StartsBy text.now f.gap f.len) }
     ensures none { IfNone result (Skips false text.now []) }
@@ -69,6 +75,7 @@ fn first_word(text: &[u8]) -> Option<Front>
 }
 
 /// The first word of a text behind so many bytes, None where there are blanks alone. It takes no memory.
+#[inline(always)]
 pub(crate) fn word_behind(text: &[u8], at: usize) -> Option<Word<'_>>
     requires inside { at ≤ length text.now }
     requires short { length text.now < 2 ^ 32 - 1 }
