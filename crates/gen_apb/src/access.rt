@@ -11,8 +11,8 @@ ghost use Rattle.gen_apb.specs.Pins.{HasBusPins};
 
 use crate::pins::BusPins;
 use gen_decode::Decoded;
-use gen_scene::Inlet;
 use gen_ports::word_node;
+use gen_scene::Inlet;
 use net_gates::{both, opposite};
 use rb_base::NoMemory;
 use rb_model::Block;
