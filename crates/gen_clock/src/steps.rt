@@ -10,9 +10,8 @@ ghost use Rattle.gen_scene.specs.Fields.{HasField, high_value, low_value};
 ghost use Rattle.gen_scene.specs.Worth.{IsWorth};
 ghost use Rattle.gen_clock.specs.Moves.{IsFinished, IsMade};
 
-use gen_counters::counted;
+use gen_events::{counted, latch};
 use gen_fields::{FinishIds, LoadIds, finish, load};
-use gen_intr::latch;
 use gen_scene::Scene;
 use net_gates::present;
 use rb_base::NoMemory;

@@ -23,8 +23,8 @@ use Rattle.rb_model.specs.References.{AreWide, Each, mask_refs}
 use Rattle.rb_model.proofs.Eachs.{Each-at, Each-left, Each-right}
 use Rattle.block_plan.specs.Plan.{is_member, members_among}
 use Rattle.block_plan.specs.Table.{item_place}
-use Rattle.gen_intr.specs.declared.lines.Masked.{Masked}
-use Rattle.gen_intr.specs.Counting.{IsMasked, counts_at, under_mask}
+use Rattle.gen_events.specs.declared.lines.Masked.{Masked}
+use Rattle.gen_events.specs.Counting.{IsMasked, counts_at, under_mask}
 use Rattle.gen_scene.specs.declared.scene.Scene.{Scene}
 use Rattle.gen_scene.specs.Bases.{IsBase}
 use Rattle.gen_scene.specs.Fields.{HasNodes, item_node, mask_node}

@@ -1,7 +1,7 @@
 -- The lines of a register's interrupts.
 use Rattle.std.specs.Prelude.{◌≡◌, ℕ, Bool, true, false, ◌&&◌, if◌then◌else◌, nat_lt, Option, Some, None, ◌∷◌, slice_get}
 use Rattle.std.specs.Option.{option_map}
-use Rattle.gen_intr.specs.declared.lines.Masked.{Masked}
+use Rattle.gen_events.specs.declared.lines.Masked.{Masked}
 use Rattle.rtl_net.specs.Net.{Net}
 use Rattle.rb_model.specs.declared.kinds.RefItem.TheVariants as item
 use Rattle.rb_model.specs.declared.kinds.Mask.{Mask}

@@ -13,7 +13,7 @@ ghost use Rattle.gen_scene.specs.Worth.{IsWorth};
 use crate::base::field_at;
 use crate::scene::Scene;
 use block_plan::{has_line, line_mask, members_in};
-use gen_intr::{Masked, any};
+use gen_events::{Masked, any};
 use rb_base::NoMemory;
 use rb_model::{Field, Mask, RefItem};
 use rtl_net::{Id, Netlist};

@@ -14,7 +14,7 @@ ghost use Rattle.gen_scene.specs.Fields.{CanLevel, HasNodes};
 ghost use Rattle.gen_scene.specs.Worth.{IsWorth};
 
 use crate::scene::Scene;
-use gen_counters::{overflow, underflow};
+use gen_events::{overflow, underflow};
 use net_gates::{less, number, opposite, present, zero};
 use rb_base::NoMemory;
 use rb_model::{Class, Field, Level, RefItem};

@@ -1,4 +1,5 @@
 pub mod Agreement
+pub mod Apart
 pub mod Effects
 pub mod Front
 pub mod Items

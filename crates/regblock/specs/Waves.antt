@@ -5,7 +5,7 @@ use Rattle.rb_edge.specs.Shelf.{Files, Holds}
 use Rattle.report_text.specs.Printed.{printed_run}
 use Rattle.vcd_syntax.specs.Reading.{Fails, IsTable}
 use Rattle.vcd_syntax.specs.declared.error.VcdError.{VcdError}
-use Rattle.wave_run.specs.Dumped.{IsWave}
+use Rattle.wave_text.specs.Dumped.{IsWave}
 use Rattle.replies.specs.Text.{IsVcdLine}
 use Rattle.replies.specs.Ends.{Passage, TookAll}
 

@@ -7,8 +7,8 @@ use Rattle.v_printer.specs.TextOf.{IsTextOf}
 use Rattle.rtl_net.specs.Net.{Net}
 use Rattle.report_text.specs.Printed.{printed_run}
 use Rattle.vcd_reader.specs.Tables.{Table as Waves}
-use Rattle.wave_run.specs.Ready.{IsDumpOf}
-use Rattle.wave_run.specs.declared.wave_run.WaveRun.{WaveRun}
+use Rattle.wave_text.specs.Ready.{IsDumpOf}
+use Rattle.wave_text.specs.declared.wave_run.WaveRun.{WaveRun}
 use Rattle.replies.specs.declared.answer.Answer.{Answer}
 use Rattle.replies.specs.declared.answer.Reply.{Reply}
 use Rattle.replies.specs.declared.answer.Reply.TheVariants.{Text, Module, Dump, Table}

@@ -19,7 +19,7 @@ use Rattle.replies.specs.declared.status.Status.TheVariants.{Done, Refused, Usag
 use Rattle.replies.specs.Text.{cannot_read, too_long, verilog_line, stimulus_line, protocol_line, script_line, IsVcdLine, usage}
 use Rattle.replies.specs.Verdict.{IsDescribedWith, IsFirst}
 use Rattle.sim_run.specs.Simulated.{IsSimulated, IsProblem}
-use Rattle.wave_run.specs.Dumped.{IsWave}
+use Rattle.wave_text.specs.Dumped.{IsWave}
 use Rattle.vcd_syntax.specs.Reading.{Fails as DumpFails, IsTable}
 use Rattle.vcd_syntax.specs.declared.error.VcdError.{VcdError}
 use Rattle.report_text.specs.Printed.{printed_run}

@@ -3,7 +3,7 @@ use Rattle.std.specs.Prelude.{ℕ, List, [], ⊤}
 use Rattle.report_text.specs.Printed.{printed_run}
 use Rattle.v_printer.specs.Layout.{text_of}
 use Rattle.v_printer.specs.TextOf.{IsTextOf, IsWhole}
-use Rattle.wave_run.specs.Ready.{IsAtZeros, IsDumpOf}
+use Rattle.wave_text.specs.Ready.{IsAtZeros, IsDumpOf}
 use Rattle.replies.specs.declared.answer.Reply.{Reply}
 use Rattle.replies.specs.declared.answer.Reply.TheVariants.{Text, Module, Dump, Table}
 use Rattle.replies.specs.declared.status.Status.{Status}

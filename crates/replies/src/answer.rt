@@ -12,8 +12,7 @@ use rtl_net::Netlist;
 use std::alloc::Global;
 use v_printer::print;
 use vcd_reader::Waves;
-use wave_run::WaveRun;
-use wave_table::write_table;
+use wave_text::{WaveRun, write_table};
 
 /// What a run is to write, and how it is to end.
 #[derive(Drop)]

@@ -12,7 +12,7 @@ use rb_base::NoMemory;
 use rb_edge::Shelf;
 use sim_run::SimError;
 use std::alloc::Global;
-use wave_run::prepare;
+use wave_text::prepare;
 
 // What the bytes of a module and of a table give.
 fn dump_bytes(

@@ -2,7 +2,7 @@ use Rattle.std.proofs.Common.{◌≡◌, ◌∙◌, get_or, refl, sym, subst}
 use Rattle.std.specs.List.{list_any}
 use Rattle.rtl_net.specs.Value.{bit_of}
 use Rattle.block_plan.specs.Plan.{members_among}
-use Rattle.gen_intr.specs.Counting.{counts_at}
+use Rattle.gen_events.specs.Counting.{counts_at}
 use Rattle.gen_scene.specs.Lines.{raised}
 use Rattle.gen_scene.specs.Worth.{IsRead}
 use Rattle.gen_scene.proofs.Raising.{all_bits, bits_more, bits_same, member_counts, member_low, no_bits}

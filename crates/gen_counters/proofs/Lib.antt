@@ -1,2 +1,0 @@
-mod Saturating
-mod Wraps

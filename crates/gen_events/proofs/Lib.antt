@@ -1,0 +1,4 @@
+mod Bits
+mod Lists
+mod Saturating
+mod Wraps

@@ -1,0 +1,8 @@
+use Rattle.gen_events.proofs.Saturating.{saturated}
+use Rattle.gen_events.proofs.levels.capped.Goals as goal
+
+pub returns-in_ok-id-in-Some-clause-node : goal.returns-in_ok-id-in-Some-clause-node
+returns-in_ok-id-in-Some-clause-node c =
+    let level = rw c.in-Some.is at c.requires.high in
+    rw c.in-Some.is (saturated _ _ _ _ _ _ _ _ _ _ _ _ c.in_ok-over-in-Some.ensures.older c.in_ok-acts-in-Some.ensures.older c.in_ok-id-in-Some.ensures.older level
+    c.in_ok-over-in-Some.ensures.node c.in_ok-acts-in-Some.ensures.node c.in_ok-id-in-Some.ensures.node)

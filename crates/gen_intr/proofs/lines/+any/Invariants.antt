@@ -1,5 +1,0 @@
-use Rattle.std.proofs.Common.{length}
-use Rattle.gen_intr.proofs.lines.+any.Given as goal
-
-abbrev pub decreases-any : goal.decreases-any
-decreases-any l = length l.bits.now

@@ -1,3 +1,0 @@
-mod Few
-mod Rows
-mod Waves

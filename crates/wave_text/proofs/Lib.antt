@@ -1,0 +1,4 @@
+mod Commas
+mod Few
+mod Rows
+mod Waves

@@ -1,0 +1,10 @@
+use Rattle.std.proofs.Common.{ℕ, List, [], Ok, map, get_or}
+use Rattle.rb_edge.specs.declared.sink.Failed.{Failed}
+use Rattle.rb_edge.specs.Flows.{Flows}
+use Rattle.report_text.specs.Printed.{cell}
+use Rattle.wave_text.proofs.Commas.{IsFront}
+use Rattle.wave_text.proofs.lines.put_all_values.Given as goal
+
+abbrev pub invariant-loop-at : goal.invariant-loop-at
+invariant-loop-at g l = (text : List ℕ) × IsFront (map cell (get_or l.waves.rows l.row [])) l.at text
+    × Flows {U = Unit {0}} {E = Failed} (g.K.Sink.told l.fn.out) (g.K.Sink.told l.out) (g.K.Sink.faults l.fn.out) (g.K.Sink.faults l.out) l.fn.page l.page (Ok tt) text
