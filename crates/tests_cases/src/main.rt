@@ -1,4 +1,4 @@
-//! Cases of `run` in memory and looks into what no command shows, both read from lists in `data/`.
+//! Cases of `run` in memory and looks into what no command shows, both read from lists in `data/`, and netlists.
 //!
 //! A list has one thing a line: a word, and what it is about. Blank lines and those that begin with `#` say nothing,
 //! and `case TITLE` begins a case.
@@ -22,8 +22,11 @@ mod lines;
 mod lists;
 mod looks;
 mod names;
+mod netlist;
+mod nets;
 mod nodes;
 mod plans;
+mod printed;
 mod runs;
 mod settings;
 mod setup;
@@ -36,5 +39,6 @@ use std::io;
 
 fn main(rt: HostRuntime) -> io::Result<()> {
     cases::print_cases(rt)?;
-    looks::print_looks(rt)
+    looks::print_looks(rt)?;
+    nets::print_nets(rt)
 }

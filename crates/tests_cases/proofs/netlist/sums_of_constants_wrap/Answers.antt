@@ -3,7 +3,7 @@ use Rattle.rtl_net.specs.Net.{Net, CanWire, Stands}
 use Rattle.rtl_net.specs.declared.node.Id.{Id}
 use Rattle.rtl_net.specs.declared.node.NetExpr.TheVariants.{Add}
 use Rattle.rtl_net.proofs.Nets.{Stands-has, Stands-grows}
-use Rattle.tests_netlist.proofs.netlist.sums_of_constants_wrap.Goals as goal
+use Rattle.tests_cases.proofs.netlist.sums_of_constants_wrap.Goals as goal
 
 can_add : (net : Net) (a b : Id) (w : ℕ) → Stands net a w → Stands net b w → CanWire net (Add a b)
 can_add net a b w p q = (Stands-has net a w p, Stands-has net b w q, p.width ∙ sym q.width)

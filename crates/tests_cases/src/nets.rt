@@ -1,8 +1,4 @@
 //! Netlists built and printed: what holds of them, and the text of a module.
-#![tactic(auto)]
-
-mod netlist;
-mod printed;
 
 use crate::netlist::{one_expression_is_one_wire, seats_keep_their_order, sums_of_constants_wrap};
 use crate::printed::wires_are_assigned;
@@ -27,7 +23,8 @@ fn show_text(rt: HostRuntime, title: &str, printed: Result<Vec<u8>, NoMemory>) -
     }
 }
 
-fn main(rt: HostRuntime) -> io::Result<()> {
+/// Prints what holds of some netlists, and the module of one.
+pub(crate) fn print_nets(rt: HostRuntime) -> io::Result<()> {
     let alloc = rt.alloc();
     show(rt, "seats keep their order", seats_keep_their_order(alloc))?;
     show(

@@ -5,7 +5,7 @@ use Rattle.rtl_net.specs.Ports.{IsNew, IsFree, has_room, seat_names, seated}
 use Rattle.rtl_net.specs.declared.node.Seat.{Seat}
 use Rattle.rtl_net.specs.declared.node.Occupant.TheVariants as takes
 use Rattle.rtl_net.proofs.Nets.{Stands-has}
-use Rattle.tests_netlist.proofs.netlist.seats_keep_their_order.Goals as goal
+use Rattle.tests_cases.proofs.netlist.seats_keep_their_order.Goals as goal
 
 new_of : (net : Net) (name : List ℕ) (ss : List Seat) → net.seats ≡ ss → registers_of net.nodes ≡ [] → Lacks (seat_names ss) name → IsNew net name
 new_of net name ss s r l = record {

@@ -9,7 +9,7 @@ use Rattle.rtl_net.specs.declared.node.NetExpr.TheVariants.{Add}
 use Rattle.rtl_net.specs.declared.node.Occupant.TheVariants as takes
 use Rattle.rtl_net.proofs.Nets.{Stands-has, Stands-extends}
 use Rattle.v_printer.specs.TextOf.{IsWhole}
-use Rattle.tests_netlist.proofs.printed.adder.Goals as goal
+use Rattle.tests_cases.proofs.printed.adder.Goals as goal
 
 free_of : (net : Net) (name : List ℕ) (w : ℕ) (ss : List Seat) → net.seats ≡ ss → registers_of net.nodes ≡ [] → has_room ss name w ≡ true → IsFree net name w
 free_of net name w ss s r l = record {
