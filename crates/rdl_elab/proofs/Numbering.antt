@@ -5,9 +5,9 @@ use Rattle.std.proofs.lemmas.List.{length-map, map-append}
 use Rattle.rdl_tree.specs.declared.expr.Name.{Name}
 use Rattle.rdl_tree.specs.declared.node.Node.{Node, out-Node}
 use Rattle.rdl_values.specs.Elaborated.{number_named}
-use Rattle.rdl_failures.specs.Firsts.{AreFirsts, place_of}
-use Rattle.rdl_failures.specs.declared.firsts.Firsts.{Firsts}
-use Rattle.rdl_failures.proofs.Named.{IsPut, firsts_more}
+use Rattle.rdl_values.specs.Firsts.{AreFirsts, place_of}
+use Rattle.rdl_values.specs.declared.firsts.Firsts.{Firsts}
+use Rattle.rdl_values.proofs.Named.{IsPut, firsts_more}
 use Rattle.plain_lemmas.proofs.Lists.{position_from-least as place-from}
 use Rattle.rdl_elab.specs.Nodes.{name_of}
 

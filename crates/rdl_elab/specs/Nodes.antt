@@ -7,7 +7,7 @@ use Rattle.rdl_values.specs.Elaborated.{around_body}
 use Rattle.rdl_values.specs.Instances as instances
 use Rattle.rdl_values.specs.Instances.{Instance}
 use Rattle.rdl_values.specs.Seen.{around_of}
-use Rattle.rdl_failures.specs.Firsts.{AreFirsts}
+use Rattle.rdl_values.specs.Firsts.{AreFirsts}
 use Rattle.rdl_bodies.specs.Kept.{Grows}
 use Rattle.rdl_bodies.specs.Sited.{IsOpenAs}
 use Rattle.rdl_bodies.specs.declared.bodies.Bodies.{Bodies}

@@ -6,8 +6,8 @@ ghost use Rattle.rdl_tree.specs.declared.node.Node.{out-Node};
 use bumpalo::Bump;
 use bumpalo::collections::into_bump_slice;
 use rb_base::NoMemory;
-use rdl_failures::Firsts;
 use rdl_tree::{Name, Node};
+use rdl_values::Firsts;
 use std::alloc::Global;
 
 /// The nodes of a body so far, and the first place of each name among them.

@@ -1,4 +1,3 @@
 pub mod Around
-pub mod Named
 pub mod Noting
 pub mod Sets

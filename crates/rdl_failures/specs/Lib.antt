@@ -1,4 +1,3 @@
-pub mod Firsts
 pub mod Noted
 pub mod Shown
 pub mod Sorted

@@ -3,14 +3,12 @@
 
 mod error;
 mod failures;
-mod firsts;
 mod laws;
 mod listing;
 mod seen;
 
 pub use error::PhaseError;
 pub use failures::Failures;
-pub use firsts::Firsts;
 pub use laws::{collected_once, found_again, put_in_turn};
 pub use listing::listed;
 pub use seen::{number_seen, value_seen};

@@ -1,11 +1,16 @@
 -- Entries of an enumeration one by one.
 use Rattle.std.proofs.Common.{◌≡◌, ◌∙◌, ℕ, ◌+◌, ◌<◌, ◌==◌, Bool, true, false, ◌||◌, ◌&&◌, not, cond, if◌then◌else◌, arith, bytes_eq, List, [], ◌∷◌, ◌++◌, length, get_or, take, map, flat_map, find, Option, None, Some, is_some, option_map, refl, sym, ap, subst, append-nil}
+use Rattle.std.specs.BTreeMap.{is_at}
+use Rattle.std.specs.BTreeSet.{insert_key}
 use Rattle.std.specs.List.{list_any}
+use Rattle.std.specs.Ordering.{MatchOrdering, is_eq, match_ordering, nat_cmp}
+use Rattle.std.specs.declared.cmp.Ordering.{Ordering}
+use Rattle.std.specs.declared.cmp.Ordering.TheVariants.{Less, Equal, Greater}
+use Rattle.std.proofs.lemmas.Cmp.{ranked}
 use Rattle.std.specs.Option.{option_or}
 use Rattle.std.proofs.lemmas.List.{map-append, take_more}
 use Rattle.std.proofs.lemmas.List.Folds.{list_any-append}
 use Rattle.std.specs.Cmp.Lexicographic.{bytes_decides}
-use Rattle.plain_lemmas.proofs.Numbers.{eq-same as same_number}
 use Rattle.rdl_base.specs.declared.fault.Fault.{Fault}
 use Rattle.rdl_base.specs.declared.rule.Rule.TheVariants as rules
 use Rattle.rdl_tree.specs.declared.expr.Name.{Name}
@@ -15,10 +20,10 @@ use Rattle.rdl_values.specs.Enums.{judged, judged_from}
 use Rattle.rdl_values.specs.Faults.{at_, when}
 use Rattle.rdl_values.specs.Phase3.{clashes}
 use Rattle.rdl_values.specs.Values.{Around, EnumOf, entry_named}
-use Rattle.rdl_failures.specs.Firsts.{HasNames, place_of}
+use Rattle.rdl_values.specs.Firsts.{HasNames, place_of}
 use Rattle.rdl_failures.specs.Noted.{IsNoted}
-use Rattle.rdl_failures.specs.declared.firsts.Firsts.{Firsts}
-use Rattle.rdl_failures.proofs.Named.{IsPut, any-named, names_more}
+use Rattle.rdl_values.specs.declared.firsts.Firsts.{Firsts}
+use Rattle.rdl_values.proofs.Named.{IsPut, any-named, names_more}
 use Rattle.rdl_failures.proofs.Noting.{each_noted, standing-push}
 use Rattle.rdl_scopes.specs.Entries.{IsTableOf, by_text, clash_fails, pair}
 use Rattle.rdl_scopes.specs.declared.entries.Valued.{Valued}
@@ -35,27 +40,47 @@ judged_none around all = record { entries = refl; failure = refl }
 
 -- these are the numbers of the entries
 pub record HasNumbers (keys : List ℕ) (entries : List (Name × ℕ)) : Type 0 where
-  pub at : (k : ℕ) → list_any (λ x. k == x) keys ≡ list_any (λ e. e.1 == k) entries
+  pub at : (k : ℕ) → list_any (is_at (nat_cmp k)) keys ≡ list_any (λ e. e.1 == k) entries
 
-equal_turned : (a b : ℕ) → (a == b) ≡ (b == a)
-equal_turned a b = grind arith
-
-numbers_more : (keys : List ℕ) (xs : List (Name × ℕ)) (x : Name × ℕ) → HasNumbers keys xs → HasNumbers (if list_any (λ k. x.1 == k) keys then keys else keys ++ (x.1 ∷ [])) (xs ++ (x ∷ []))
-numbers_more keys xs x h = record { at = λ k. go k (list_any (λ j. x.1 == j) keys) refl ∙ sym (list_any-append (λ e. e.1 == k) xs (x ∷ [])) }
+is_at-eq : (k n : ℕ) → is_at (nat_cmp k) n ≡ (n == k)
+is_at-eq k n = go (nat_cmp k n) (ranked k n (nat_cmp k n) refl)
   where
-    with_own : (k : ℕ) (b : Bool) → (x.1 == k) ≡ b → (b ≡ true → list_any (λ e. e.1 == k) xs ≡ true) → list_any (λ e. e.1 == k) xs ≡ (list_any (λ e. e.1 == k) xs || ((x.1 == k) || false))
-    with_own k true e there = there refl ∙ sym (ap (λ c. c || ((x.1 == k) || false)) (there refl))
-    with_own k false e there = or-nothing (list_any (λ e. e.1 == k) xs) (x.1 == k) e
-      where
-        or-nothing : (c d : Bool) → d ≡ false → c ≡ (c || (d || false))
-        or-nothing true d q = refl
-        or-nothing false true q = cc
-        or-nothing false false q = refl
+    go : (o : Ordering) → MatchOrdering o (k < n) (k ≡ n) (n < k) → is_eq o ≡ (n == k)
+    go Less l = sym (grind (arith, l))
+    go Equal e = sym (grind (arith, e))
+    go Greater l = sym (grind (arith, l))
 
-    go : (k : ℕ) (b : Bool) → list_any (λ j. x.1 == j) keys ≡ b
-        → list_any (λ j. k == j) (if b then keys else keys ++ (x.1 ∷ [])) ≡ (list_any (λ e. e.1 == k) xs || ((x.1 == k) || false))
-    go k true e = h.at k ∙ with_own k (x.1 == k) refl (λ q. ap (λ j. list_any (λ e. e.1 == j) xs) (sym (same_number x.1 k q)) ∙ sym (h.at x.1) ∙ e)
-    go k false e = list_any-append (λ j. k == j) keys (x.1 ∷ []) ∙ ap (λ c. c || ((k == x.1) || false)) (h.at k) ∙ ap (λ c. list_any (λ e. e.1 == k) xs || (c || false)) (equal_turned k x.1)
+-- a key more, put where its order asks
+any_inserted : (f : ℕ → Bool) (keys : List ℕ) (n : ℕ) → list_any f (insert_key nat_cmp keys n) ≡ (list_any f keys || (f n || false))
+any_inserted f [] n = refl
+any_inserted f (x ∷ xs) n = go (nat_cmp n x) (ranked n x (nat_cmp n x) refl) (any_inserted f xs n)
+  where
+    before : (a b c : Bool) → (a || (b || c)) ≡ ((b || c) || (a || false))
+    before true true c = refl
+    before true false true = refl
+    before true false false = refl
+    before false true c = refl
+    before false false true = refl
+    before false false false = refl
+
+    same : (b c : Bool) → (b || c) ≡ ((b || c) || (b || false))
+    same true c = refl
+    same false true = refl
+    same false false = refl
+
+    behind : (b c d : Bool) → (b || (c || d)) ≡ ((b || c) || d)
+    behind true c d = refl
+    behind false c d = refl
+
+    go : (o : Ordering) → MatchOrdering o (n < x) (n ≡ x) (x < n) → list_any f (insert_key nat_cmp xs n) ≡ (list_any f xs || (f n || false)) → list_any f (match_ordering o (n ∷ x ∷ xs) (x ∷ xs) (x ∷ insert_key nat_cmp xs n)) ≡ ((f x || list_any f xs) || (f n || false))
+    go Less l rest = before (f n) (f x) (list_any f xs)
+    go Equal e rest = same (f x) (list_any f xs) ∙ ap (λ m. (f x || list_any f xs) || (f m || false)) (sym e)
+    go Greater l rest = ap (λ b. f x || b) rest ∙ behind (f x) (list_any f xs) (f n || false)
+
+numbers_more : (keys : List ℕ) (xs : List (Name × ℕ)) (x : Name × ℕ) → HasNumbers keys xs → HasNumbers (insert_key nat_cmp keys x.1) (xs ++ (x ∷ []))
+numbers_more keys xs x h = record {
+  at = λ k. any_inserted (is_at (nat_cmp k)) keys x.1 ∙ ap (λ b. b || (is_at (nat_cmp k) x.1 || false)) (h.at k) ∙ ap (λ b. list_any (λ e. e.1 == k) xs || (b || false)) (is_at-eq k x.1) ∙ sym (list_any-append (λ e. e.1 == k) xs (x ∷ []));
+}
 
 either : (f g : Name × ℕ → Bool) (xs : List (Name × ℕ)) → (list_any f xs || list_any g xs) ≡ list_any (λ e. f e || g e) xs
 either f g [] = refl
@@ -86,17 +111,17 @@ names_step es i d old new l h put =
     subst (HasNames new) (sym last) (names_more old new (map (λ e. e.0.text.now) (map pair (take i es))) x.name.text.now i h put)
 
 pub numbers_step : (es : List Valued) (i : ℕ) (d : Valued) (keys after : List ℕ) → i < length es → HasNumbers keys (map pair (take i es))
-    → after ≡ (if list_any (λ k. (get_or es i d).number == k) keys then keys else keys ++ ((get_or es i d).number ∷ [])) → HasNumbers after (map pair (take (i + 1) es))
+    → after ≡ insert_key nat_cmp keys (get_or es i d).number → HasNumbers after (map pair (take (i + 1) es))
 numbers_step es i d keys after l h e = subst (λ ks. HasNumbers ks (map pair (take (i + 1) es))) (sym e) (subst (HasNumbers _) (sym (pair_more es i d l)) (numbers_more keys (map pair (take i es)) (pair (get_or es i d)) h))
 
 pub clash_step : (es : List Valued) (i : ℕ) (d : Valued) (names : Firsts) (keys : List ℕ) (again fresh a b : Bool) (s t u : List Fault) → i < length es → HasNames names (map (λ e. e.0.text.now) (map pair (take i es)))
-    → HasNumbers keys (map pair (take i es)) → again ≡ is_some (place_of names (get_or es i d).name.text.now) → fresh ≡ not (list_any (λ k. (get_or es i d).number == k) keys)
+    → HasNumbers keys (map pair (take i es)) → again ≡ is_some (place_of names (get_or es i d).name.text.now) → fresh ≡ not (list_any (is_at (nat_cmp (get_or es i d).number)) keys)
     → IsNoted (clash_fails (map pair (take i es))) a s t → IsNoted (when (again || not fresh) (at_ rules.E14 (get_or es i d).name.place)) b t u → IsNoted (clash_fails (map pair (take (i + 1) es))) (a && b) s u
 clash_step es i d names keys again fresh a b s t u l h k e f before here =
     let x = get_or es i d in
     let xs = map pair (take i es) in
     let named : again ≡ list_any (λ e. bytes_eq e.0.text.now x.name.text.now) xs = e ∙ h.at x.name.text.now ∙ any-named (λ e. e.0.text.now) x.name.text.now xs in
-    let numbered : not fresh ≡ list_any (λ e. e.1 == x.number) xs = ap not f ∙ twice-not (list_any (λ k. x.number == k) keys) ∙ k.at x.number in
+    let numbered : not fresh ≡ list_any (λ e. e.1 == x.number) xs = ap not f ∙ twice-not (list_any (is_at (nat_cmp x.number)) keys) ∙ k.at x.number in
     let stands : (again || not fresh) ≡ clashes xs (pair x) = ap (λ c. c || not fresh) named ∙ ap (λ c. list_any (λ e. bytes_eq e.0.text.now x.name.text.now) xs || c) numbered ∙ either (λ e. bytes_eq e.0.text.now x.name.text.now) (λ e. e.1 == x.number) xs in
     subst (λ ys. IsNoted (clash_fails ys) (a && b) s u) (sym (pair_more es i d l)) (clash_push xs (pair x) a b s t u before (subst (λ c. IsNoted (when c (at_ rules.E14 x.name.place)) b t u) stands here))
   where

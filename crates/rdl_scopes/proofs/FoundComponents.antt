@@ -9,9 +9,9 @@ use Rattle.rdl_tree.specs.declared.item.Item.{Item}
 use Rattle.rdl_values.specs.Bodies.{component_of, found, if_named, is_component, is_named, standing, standing_from}
 use Rattle.rdl_values.specs.Values.{nearest}
 use Rattle.rdl_values.specs.Views.{item_is}
-use Rattle.rdl_failures.specs.Firsts.{place_of}
-use Rattle.rdl_failures.specs.declared.firsts.Firsts.{Firsts}
-use Rattle.rdl_failures.proofs.Named.{IsPut}
+use Rattle.rdl_values.specs.Firsts.{place_of}
+use Rattle.rdl_values.specs.declared.firsts.Firsts.{Firsts}
+use Rattle.rdl_values.proofs.Named.{IsPut}
 use Rattle.rdl_scopes.specs.Named.{Knows, component_named, first_of, has_component, name_in, text_of}
 
 abbrev is_start : ℕ → Bool

@@ -11,10 +11,10 @@ use Rattle.rdl_base.specs.declared.rule.Rule.TheVariants as rules
 use Rattle.rdl_tree.specs.declared.expr.Name.{Name}
 use Rattle.rdl_values.specs.Bodies.{same_name}
 use Rattle.rdl_values.specs.Faults.{at_, when}
-use Rattle.rdl_failures.specs.Firsts.{HasNames, place_of}
+use Rattle.rdl_values.specs.Firsts.{HasNames, place_of}
 use Rattle.rdl_failures.specs.Noted.{IsNoted}
-use Rattle.rdl_failures.specs.declared.firsts.Firsts.{Firsts}
-use Rattle.rdl_failures.proofs.Named.{IsPut, names_more}
+use Rattle.rdl_values.specs.declared.firsts.Firsts.{Firsts}
+use Rattle.rdl_values.proofs.Named.{IsPut, names_more}
 use Rattle.rdl_failures.proofs.Noting.{standing_noted}
 use Rattle.rdl_scopes.specs.Named.{fails_twice}
 

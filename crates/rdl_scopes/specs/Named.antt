@@ -9,8 +9,8 @@ use Rattle.rdl_tree.specs.declared.item.Item.{Item}
 use Rattle.rdl_values.specs.Bodies.{component_of, is_component, same_name, standing}
 use Rattle.rdl_values.specs.Faults.{at_, when}
 use Rattle.rdl_values.specs.Views.{item_is}
-use Rattle.rdl_failures.specs.Firsts.{place_of}
-use Rattle.rdl_failures.specs.declared.firsts.Firsts.{Firsts}
+use Rattle.rdl_values.specs.Firsts.{place_of}
+use Rattle.rdl_values.specs.declared.firsts.Firsts.{Firsts}
 use Rattle.rdl_scopes.specs.declared.components.Components.{Components}
 
 -- E2 at each name that stands before

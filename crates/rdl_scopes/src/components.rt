@@ -11,8 +11,9 @@ ghost use Rattle.rdl_scopes.specs.Named.{AreComponents, component_named, fails_t
 
 use rb_base::NoMemory;
 use rdl_base::Rule;
-use rdl_failures::{Failures, Firsts};
+use rdl_failures::Failures;
 use rdl_tree::{Def, Item, Name};
+use rdl_values::Firsts;
 use std::alloc::Global;
 
 // The name of a definition or an enumeration; both share one list of names.

@@ -9,13 +9,13 @@ ghost use Rattle.rdl_failures.specs.Noted.{IsNoted, with_all};
 ghost use Rattle.rdl_failures.specs.Shown.{IsShown};
 ghost use Rattle.rdl_scopes.specs.Entries.{IsTableOf, clash_fails, judged_in, pair};
 
-use indexmap::IndexSet;
 use rb_base::NoMemory;
 use rdl_base::{Fault, Rule};
-use rdl_failures::{Failures, Firsts, number_seen};
+use rdl_failures::{Failures, number_seen};
 use rdl_tree::{Entry, Name};
-use rdl_values::{Chain, EnumTable};
+use rdl_values::{Chain, EnumTable, Firsts};
 use std::alloc::Global;
+use std::collections::BTreeSet;
 
 /// An entry and its number.
 #[derive(Clone, Copy)]
@@ -103,11 +103,11 @@ fn note_clashes(
     ensures { IfOk result (λ clean. IsNoted (clash_fails (map pair entries.now)) clean failures.old failures.new) }
 {
     let mut names = Firsts::new(alloc);
-    let mut numbers: IndexSet<u64> = IndexSet::new(alloc);
+    let mut numbers: BTreeSet<u64> = BTreeSet::new(alloc);
     let mut clean = true;
     for (at, entry) in entries.iter().enumerate() {
         let again = names.put(entry.name.text, at)?;
-        let (_, fresh) = numbers.insert_full(entry.number)?;
+        let fresh = numbers.insert(entry.number)?;
         clean &= failures.note(again | !fresh, Rule::E14, entry.name.place)?;
     }
     Ok(clean)

@@ -18,10 +18,10 @@ use Rattle.rdl_values.specs.Uses.{Use}
 use Rattle.rdl_values.specs.Parameters.{Bound, argument, bound_from, given, is_bad_argument, is_bound, value_at}
 use Rattle.rdl_values.specs.Seen.{bound_of, outcome_of, val_of}
 use Rattle.rdl_values.specs.Values.{Outcome, Val, entry_named, fails, then}
-use Rattle.rdl_failures.specs.Firsts.{AreFirsts, HasNames, place_of}
+use Rattle.rdl_values.specs.Firsts.{AreFirsts, HasNames, place_of}
 use Rattle.rdl_failures.specs.Noted.{IsNoted, with_all}
-use Rattle.rdl_failures.specs.declared.firsts.Firsts.{Firsts}
-use Rattle.rdl_failures.proofs.Named.{IsPut, any-named, names_more}
+use Rattle.rdl_values.specs.declared.firsts.Firsts.{Firsts}
+use Rattle.rdl_values.proofs.Named.{IsPut, any-named, names_more}
 use Rattle.rdl_failures.proofs.Noting.{noted_as}
 use Rattle.rdl_uses.specs.Arguments.{AreArguments}
 use Rattle.rdl_uses.specs.Binding.{IsBinding}

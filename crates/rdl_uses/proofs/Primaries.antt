@@ -6,8 +6,8 @@ use Rattle.plain_lemmas.proofs.Bools.{or-false}
 use Rattle.rdl_tree.specs.declared.expr.Name.{Name}
 use Rattle.rdl_values.specs.NoNode.{has_primary, is_primary}
 use Rattle.rdl_values.specs.Uses.{Use, same_name}
-use Rattle.rdl_failures.specs.Firsts.{AreFirsts, place_of}
-use Rattle.rdl_failures.proofs.Named.{IsPut, firsts_more}
+use Rattle.rdl_values.specs.Firsts.{AreFirsts, place_of}
+use Rattle.rdl_values.proofs.Named.{IsPut, firsts_more}
 use Rattle.plain_lemmas.proofs.Lists.{position_from-least as place-from}
 use Rattle.rdl_uses.specs.Before.{AreEarlier, names_of_uses}
 use Rattle.rdl_uses.specs.declared.earlier.Earlier.{Earlier}

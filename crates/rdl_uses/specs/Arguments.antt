@@ -1,7 +1,7 @@
 -- What a table of arguments has.
 use Rattle.std.specs.Prelude.{◌≡◌, List}
 use Rattle.rdl_tree.specs.declared.item.Arg.{Arg}
-use Rattle.rdl_failures.specs.Firsts.{AreFirsts}
+use Rattle.rdl_values.specs.Firsts.{AreFirsts}
 use Rattle.rdl_uses.specs.Bound.{names_of_args}
 use Rattle.rdl_uses.specs.declared.arguments.Arguments.{Arguments}
 

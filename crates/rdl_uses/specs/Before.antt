@@ -2,7 +2,7 @@
 use Rattle.std.specs.Prelude.{◌≡◌, ℕ, List, map}
 use Rattle.rdl_values.specs.NoNode.{is_primary}
 use Rattle.rdl_values.specs.Uses.{Use}
-use Rattle.rdl_failures.specs.Firsts.{AreFirsts}
+use Rattle.rdl_values.specs.Firsts.{AreFirsts}
 use Rattle.rdl_uses.specs.declared.earlier.Earlier.{Earlier}
 
 abbrev pub names_of_uses : List Use → List (List ℕ)

@@ -8,7 +8,7 @@ use Rattle.rdl_values.specs.Chained.{chained}
 use Rattle.rdl_values.specs.declared.chain.Chain.{Chain}
 use Rattle.rdl_values.specs.Uses.{Use}
 use Rattle.rdl_values.specs.Values.{Outcome}
-use Rattle.rdl_failures.specs.Firsts.{HasNames}
+use Rattle.rdl_values.specs.Firsts.{HasNames}
 use Rattle.rdl_failures.specs.Shown.{IsAlike, IsShown}
 use Rattle.rdl_uses.specs.Arguments.{AreArguments}
 use Rattle.rdl_uses.specs.declared.binding.Binding.{Binding}

@@ -1,13 +1,14 @@
 //! The arguments of a use.
 
 ghost use Rattle.std.specs.Prelude.{◌≡◌, map, IfOk, option_map, slice_get};
-ghost use Rattle.rdl_failures.specs.Firsts.{HasNames};
+ghost use Rattle.rdl_values.specs.Firsts.{HasNames};
 ghost use Rattle.rdl_uses.specs.Bound.{names_of_params};
 
 use rb_base::NoMemory;
 use rdl_base::Rule;
-use rdl_failures::{Failures, Firsts};
+use rdl_failures::Failures;
 use rdl_tree::{Arg, Expr, Name, Param};
+use rdl_values::Firsts;
 use std::alloc::Global;
 
 // The names of parameters.

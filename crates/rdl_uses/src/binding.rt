@@ -12,9 +12,9 @@ use crate::arguments::Arguments;
 use crate::typing::{default_typed, typed};
 use rb_base::{NoMemory, Place};
 use rdl_base::{Fault, Rule};
-use rdl_failures::{Failures, Firsts};
+use rdl_failures::Failures;
 use rdl_tree::{Bound, Name, Param, Value};
-use rdl_values::{Chain, Table};
+use rdl_values::{Chain, Firsts, Table};
 use std::alloc::Global;
 
 /// The values of parameters, by name and in order.

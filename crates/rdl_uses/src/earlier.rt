@@ -3,8 +3,8 @@
 ghost use Rattle.std.specs.Prelude.{◌≡◌, unwrap_or, slice_get, false};
 
 use rb_base::NoMemory;
-use rdl_failures::Firsts;
 use rdl_tree::Name;
+use rdl_values::Firsts;
 use std::alloc::Global;
 
 /// The uses of a body before one: the first of each name, and whether it is a register that may be the primary of an alias.

@@ -4,6 +4,7 @@ pub mod Copied
 mod Count
 pub mod Given
 mod LookUps
+pub mod Named
 mod Nearest
 pub mod Numbered
 mod Paths

@@ -1,129 +1,164 @@
 -- Look-ups in tables are those of the definitions.
-use Rattle.std.proofs.Common.{◌≡◌, ℕ, Bool, true, false, cond, ◌&&◌, nat_lt, bytes_eq, List, [], ◌∷◌, ◌++◌, map, find, Option, None, Some, option_map, is_some, MatchOption, refl, sym, ap, ◌∙◌}
+use Rattle.std.proofs.Common.{◌≡◌, ◌∙◌, ℕ, suc, ◌+◌, ◌<◌, Bool, true, false, cond, ◌&&◌, ◌||◌, nat_lt, bytes_eq, List, [], ◌∷◌, ◌++◌, map, length, get_or, find, Option, None, Some, option_map, is_some, MatchOption, refl, sym, ap, subst, arith}
 use Rattle.std.specs.Cmp.Lexicographic.{bytes_decides}
-use Rattle.std.specs.List.{AllByRecursion, IsDistinct}
-use Rattle.std.specs.Map.{lookup, keys_of}
-use Rattle.std.specs.Option.{option_copied}
-use Rattle.std.proofs.lemmas.List.{map-append}
-use Rattle.indexmap.specs.IndexMap.{insert_entry}
-use Rattle.std.proofs.lemmas.Map.Keys.{IsDistinct-head, IsDistinct-tail}
+use Rattle.std.specs.List.{AllByRecursion, IsDistinct, list_any, position_from}
+use Rattle.std.proofs.lemmas.List.{length-map, map-append}
+use Rattle.std.proofs.lemmas.Cmp.{nat_list_eq_equiv}
+use Rattle.std.proofs.lemmas.Map.Keys.{IsDistinct-head, IsDistinct-push, IsDistinct-tail}
+use Rattle.std.specs.Bool.{then_some}
 use Rattle.std.specs.Borrow.{Bor}
-use Rattle.rdl_tree.specs.declared.value.Value.{Value}
 use Rattle.rdl_tree.specs.declared.expr.Name.{Name}
-use Rattle.rdl_values.specs.Seen.{val_of}
-use Rattle.rdl_values.specs.Table.{bound_by, entries_by, enums_by, is_enum_named}
+use Rattle.rdl_tree.specs.declared.value.Value.{Value}
+use Rattle.rdl_values.specs.Firsts.{AreFirsts, place_of}
+use Rattle.rdl_values.specs.declared.firsts.Firsts.{Firsts}
+use Rattle.rdl_values.specs.Table.{AreBodyNames, is_enum_named, keys_of}
 use Rattle.rdl_values.specs.Values.{EnumOf, entry_named}
+use Rattle.rdl_values.proofs.Named.{IsPut, any-named, firsts-some, firsts_more, firsts_none}
 use Rattle.plain_lemmas.proofs.Lists.{bytes_eq-swap as turned}
 
-pub lookup-named : {X Y : Type 0} (f : X → Y) (n : List ℕ) (es : List (Bor (List ℕ) × X)) → entry_named n (map (λ e. (e.0.now, f e.1)) es) ≡ option_map f (lookup (λ k. bytes_eq n k.now) es)
-lookup-named f n [] = refl
-lookup-named f n (e ∷ es) = go (bytes_eq n e.0.now) refl (lookup-named f n es)
+-- a place counted from one more
+later : (f : List ℕ → Bool) (i : ℕ) (names : List (List ℕ)) → position_from f (i + 1) names ≡ option_map suc (position_from f i names)
+later f i [] = refl
+later f i (n ∷ names) = go (f n) (later f (i + 1) names)
   where
-    go : (b : Bool) → bytes_eq n e.0.now ≡ b → entry_named n (map (λ e. (e.0.now, f e.1)) es) ≡ option_map f (lookup (λ k. bytes_eq n k.now) es) → entry_named n (map (λ e. (e.0.now, f e.1)) (e ∷ es)) ≡ option_map f (lookup (λ k. bytes_eq n k.now) (e ∷ es))
-    go true q k = let p : bytes_eq e.0.now n ≡ true = turned e.0.now n ∙ q in rw (p, q) refl
-    go false q k = let p : bytes_eq e.0.now n ≡ false = turned e.0.now n ∙ q in rw (p, q) k
+    go : (b : Bool) → position_from f (i + 1 + 1) names ≡ option_map suc (position_from f (i + 1) names)
+        → cond b (Some (i + 1)) (position_from f (i + 1 + 1) names) ≡ option_map suc (cond b (Some i) (position_from f (i + 1) names))
+    go true h = let more : i + 1 ≡ suc i = omega arith in ap Some more
+    go false h = h
 
-pub any-enum : (n : List ℕ) (es : List (Bor (List ℕ) × EnumOf)) → is_enum_named n (enums_by es) ≡ is_some (lookup (λ k. bytes_eq n k.now) es)
-any-enum n [] = refl
-any-enum n (e ∷ es) = go (bytes_eq n e.0.now) refl (any-enum n es)
+-- the first place of a name
+abbrev pub place_in : List ℕ → List (List ℕ) → Option ℕ
+place_in n names = position_from (λ m. bytes_eq m n) 0 names
+
+pub place_within : (n : List ℕ) (names : List (List ℕ)) (i : ℕ) → place_in n names ≡ Some i → i < length names
+place_within n [] i e = cc e
+place_within n (m ∷ names) i e = go (bytes_eq m n) (place_in n names) (place_within n names) (sym (ap (cond (bytes_eq m n) (Some 0)) (later (λ k. bytes_eq k n) 0 names)) ∙ e)
   where
-    go : (b : Bool) → bytes_eq n e.0.now ≡ b → is_enum_named n (enums_by es) ≡ is_some (lookup (λ k. bytes_eq n k.now) es) → is_enum_named n (enums_by (e ∷ es)) ≡ is_some (lookup (λ k. bytes_eq n k.now) (e ∷ es))
-    go true q k = let p : bytes_eq e.0.now n ≡ true = turned e.0.now n ∙ q in rw (p, q) refl
-    go false q k = let p : bytes_eq e.0.now n ≡ false = turned e.0.now n ∙ q in rw (p, q) k
+    go : (b : Bool) (o : Option ℕ) → ((k : ℕ) → o ≡ Some k → k < length names) → cond b (Some 0) (option_map suc o) ≡ Some i → i < suc (length names)
+    go true o rest q = let z : 0 ≡ i = cc in omega (arith, z)
+    go false None rest q = cc
+    go false (Some k) rest q = let z : suc k ≡ i = cc in omega (arith, z, rest k refl)
 
--- Of names that are all different at most one is meant.
-
-unnamed : (n : Name) (m : Bor (List ℕ)) (es : List (Bor (List ℕ) × EnumOf)) → bytes_eq n.text.now m.now ≡ true → AllByRecursion (λ k. bytes_eq m.now k.now ≡ false) (keys_of es) → find (λ e. bytes_eq e.name n.text.now && nat_lt e.place n.place.0) (enums_by es) ≡ None
-unnamed n m [] q h = refl
-unnamed n m (e ∷ es) q h =
-    let same : n.text.now ≡ m.now = (bytes_decides n.text.now m.now).0 q in
-    let other : bytes_eq e.0.now n.text.now ≡ false = turned e.0.now n.text.now ∙ ap (λ t. bytes_eq t e.0.now) same ∙ h.0 in
-    rw other (unnamed n m es q h.1)
-
--- the enumeration of a name, where it stands before the name
-abbrev pub if_before : Name → Option EnumOf → Option EnumOf
-if_before n None = None
-if_before n (Some e) = cond (nat_lt e.place n.place.0) (Some e) None
-
-abbrev pub called : Name → EnumOf → EnumOf
-called n e = record e { name = n.text.now }
-
-pub found-enum : (n : Name) (es : List (Bor (List ℕ) × EnumOf)) → IsDistinct (λ x y. bytes_eq x.now y.now) (keys_of es)
-    → find (λ e. bytes_eq e.name n.text.now && nat_lt e.place n.place.0) (enums_by es) ≡ if_before n (option_map (called n) (lookup (λ k. bytes_eq n.text.now k.now) es))
-found-enum n [] d = refl
-found-enum n (e ∷ es) d = go (bytes_eq n.text.now e.0.now) refl (found-enum n es (IsDistinct-tail _ e.0 (keys_of es) d))
+-- what a table has under a name, by the name's place
+pub named-at : {X Y : Type 0} (f : X → Y) (n : List ℕ) (es : List (Bor (List ℕ) × X)) (d : Bor (List ℕ) × X) → entry_named n (map (λ e. (e.0.now, f e.1)) es) ≡ option_map (λ i. f (get_or es i d).1) (place_in n (keys_of es))
+named-at f n [] d = refl
+named-at f n (e ∷ es) d = go (bytes_eq e.0.now n) refl (place_in n (keys_of es)) (named-at f n es d) ∙ ap (λ o. option_map (λ i. f (get_or (e ∷ es) i d).1) (cond (bytes_eq e.0.now n) (Some 0) o)) (sym (later (λ m. bytes_eq m n) 0 (keys_of es)))
   where
-    Goal : List (Bor (List ℕ) × EnumOf) → Type 0
-    Goal xs = find (λ e. bytes_eq e.name n.text.now && nat_lt e.place n.place.0) (enums_by xs) ≡ if_before n (option_map (called n) (lookup (λ k. bytes_eq n.text.now k.now) xs))
+    go : (b : Bool) → bytes_eq e.0.now n ≡ b → (o : Option ℕ) → entry_named n (map (λ e. (e.0.now, f e.1)) es) ≡ option_map (λ i. f (get_or es i d).1) o
+        → entry_named n (map (λ e. (e.0.now, f e.1)) (e ∷ es)) ≡ option_map (λ i. f (get_or (e ∷ es) i d).1) (cond b (Some 0) (option_map suc o))
+    go true q o h = rw q refl
+    go false q None h = rw q h
+    go false q (Some k) h = rw q h
 
-    here : (t : Bool) → nat_lt e.1.place n.place.0 ≡ t → bytes_eq n.text.now e.0.now ≡ true → Goal (e ∷ es)
-    here true q s =
-        let p : bytes_eq e.0.now n.text.now ≡ true = turned e.0.now n.text.now ∙ s in
-        let same : e.0.now ≡ n.text.now = sym ((bytes_decides n.text.now e.0.now).0 s) in
-        rw (p, s, q) (ap (λ t. Some (record e.1 { name = t })) same)
-    here false q s =
-        let p : bytes_eq e.0.now n.text.now ≡ true = turned e.0.now n.text.now ∙ s in
-        rw (p, s, q) (unnamed n e.0 es s (IsDistinct-head _ e.0 (keys_of es) d))
+pub named-none : {X Y : Type 0} (f : X → Y) (n : List ℕ) (es : List (Bor (List ℕ) × X)) → place_in n (keys_of es) ≡ None → entry_named n (map (λ e. (e.0.now, f e.1)) es) ≡ None
+named-none f n [] h = refl
+named-none f n (e ∷ es) h = named-at f n (e ∷ es) e ∙ ap (option_map (λ i. f (get_or (e ∷ es) i e).1)) h
 
-    go : (b : Bool) → bytes_eq n.text.now e.0.now ≡ b → Goal es → Goal (e ∷ es)
-    go true s k = here (nat_lt e.1.place n.place.0) refl s
-    go false s k = let p : bytes_eq e.0.now n.text.now ≡ false = turned e.0.now n.text.now ∙ s in rw (p, s) k
+pub named-some : {X Y : Type 0} (f : X → Y) (n : List ℕ) (es : List (Bor (List ℕ) × X)) (d : Bor (List ℕ) × X) (i : ℕ) → place_in n (keys_of es) ≡ Some i → entry_named n (map (λ e. (e.0.now, f e.1)) es) ≡ Some (f (get_or es i d).1)
+named-some f n es d i h = named-at f n es d ∙ ap (option_map (λ i. f (get_or es i d).1)) h
 
-pub value-of : (n : List ℕ) (es : List (Bor (List ℕ) × Value)) (o : Option Value) → o ≡ lookup (λ k. bytes_eq n k.now) es → MatchOption o (entry_named n (bound_by es) ≡ None) (λ v. entry_named n (bound_by es) ≡ Some (val_of v))
-value-of n es None e = lookup-named val_of n es ∙ ap (option_map val_of) (sym e)
-value-of n es (Some v) e = lookup-named val_of n es ∙ ap (option_map val_of) (sym e)
-
-pub number-of : (n : List ℕ) (es : List (Bor (List ℕ) × ℕ)) → lookup (λ k. bytes_eq n k.now) es ≡ entry_named n (entries_by es)
-number-of n es = same (lookup (λ k. bytes_eq n k.now) es) ∙ sym (lookup-named (λ k. k) n es)
+pub is-named : {X Y : Type 0} (f : X → Y) (n : List ℕ) (es : List (Bor (List ℕ) × X)) (t : Firsts) → AreFirsts t (keys_of es) → is_some (entry_named n (map (λ e. (e.0.now, f e.1)) es)) ≡ is_some (place_of t n)
+is-named {X = X} f n es t h = go es ∙ ap is_some (sym (h.at n))
   where
-    same : (o : Option ℕ) → o ≡ option_map (λ k. k) o
-    same None = refl
-    same (Some k) = refl
+    both : {A B : Type 0} (g : A → B) (o : Option A) → is_some (option_map g o) ≡ is_some o
+    both g None = refl
+    both g (Some x) = refl
 
--- Of the enumerations of a table, the one that a name means.
+    go : (es : List (Bor (List ℕ) × X)) → is_some (entry_named n (map (λ e. (e.0.now, f e.1)) es)) ≡ is_some (place_in n (keys_of es))
+    go [] = refl
+    go (e ∷ es) = ap is_some (named-at f n (e ∷ es) e) ∙ both (λ i. f (get_or (e ∷ es) i e).1) (place_in n (keys_of (e ∷ es)))
 
-pub before-none : (n : Name) (es : List (Bor (List ℕ) × EnumOf)) → IsDistinct (λ x y. bytes_eq x.now y.now) (keys_of es) → lookup (λ k. bytes_eq n.text.now k.now) es ≡ None → find (λ e. bytes_eq e.name n.text.now && nat_lt e.place n.place.0) (enums_by es) ≡ None
-before-none n es d h = found-enum n es d ∙ ap (λ o. if_before n (option_map (called n) o)) h
-
-pub before-some : (n : Name) (es : List (Bor (List ℕ) × EnumOf)) → IsDistinct (λ x y. bytes_eq x.now y.now) (keys_of es) → (e : EnumOf) → lookup (λ k. bytes_eq n.text.now k.now) es ≡ Some e → (b : Bool) → b ≡ nat_lt e.place n.place.0
-    → find (λ e. bytes_eq e.name n.text.now && nat_lt e.place n.place.0) (enums_by es) ≡ cond b (Some (called n e)) None
-before-some n es d e h b q = found-enum n es d ∙ ap (λ o. if_before n (option_map (called n) o)) h ∙ ap (λ b. cond b (Some (called n e)) None) (sym q)
-
--- Insertions.
-
-pub is-named : {X Y : Type 0} (f : X → Y) (n : List ℕ) (es : List (Bor (List ℕ) × X)) (o : Option (Bor X)) → option_copied o ≡ lookup (λ k. bytes_eq n k.now) es → is_some (entry_named n (map (λ e. (e.0.now, f e.1)) es)) ≡ is_some o
-is-named {X = X} f n es o e = ap is_some (lookup-named f n es ∙ ap (option_map f) (sym e)) ∙ both o
-  where
-    both : (o : Option (Bor X)) → is_some (option_map f (option_copied o)) ≡ is_some o
-    both None = refl
-    both (Some x) = refl
-
-none-copied : {X : Type 0} (o : Option (Bor X)) → is_some o ≡ false → option_copied o ≡ None
-none-copied None e = refl
-none-copied (Some x) e = cc
-
-inserted : {X : Type 0} (n : Bor (List ℕ)) (v : X) (es : List (Bor (List ℕ) × X)) → lookup (λ k. bytes_eq n.now k.now) es ≡ None → insert_entry (λ x y. bytes_eq x.now y.now) es n v ≡ es ++ ((n, v) ∷ [])
-inserted n v [] h = refl
-inserted {X = X} n v (e ∷ es) h = go (bytes_eq n.now e.0.now) refl (inserted n v es)
-  where
-    go : (b : Bool) → bytes_eq n.now e.0.now ≡ b → (lookup (λ k. bytes_eq n.now k.now) es ≡ None → insert_entry (λ x y. bytes_eq x.now y.now) es n v ≡ es ++ ((n, v) ∷ [])) → insert_entry (λ x y. bytes_eq x.now y.now) (e ∷ es) n v ≡ (e ∷ es) ++ ((n, v) ∷ [])
-    go true q k = let no : Some e.1 ≡ None = sym (rw q refl) ∙ h in cc
-    go false q k = let rest : lookup (λ k. bytes_eq n.now k.now) es ≡ None = sym (rw q refl) ∙ h in rw q (ap (λ xs. e ∷ xs) (k rest))
+-- What is put in.
 
 -- what is kept where the name is there, and what comes behind where it is not
 pub kept : {Y : Type 0} (b : Bool) (xs ys : List Y) → b ≡ true → xs ≡ cond b xs ys
 kept b xs ys e = rw e refl
 
-pub behind : {X Y : Type 0} (g : Bor (List ℕ) × X → Y) (n : Bor (List ℕ)) (v : X) (es fs : List (Bor (List ℕ) × X)) (o : Option (Bor X)) (b : Bool) → option_copied o ≡ lookup (λ k. bytes_eq n.now k.now) es → is_some o ≡ false → b ≡ is_some o
-    → fs ≡ insert_entry (λ x y. bytes_eq x.now y.now) es n v → map g fs ≡ cond b (map g es) (map g es ++ (g (n, v) ∷ []))
-behind g n v es fs o b e none q i =
-    let new = ap (map g) (i ∙ inserted n v es (sym e ∙ none-copied o none)) ∙ map-append g es ((n, v) ∷ []) in
-    let no : b ≡ false = q ∙ none in
-    rw no new
+pub behind : {X Y : Type 0} (g : X → Y) (x : X) (es fs : List X) (b : Bool) → b ≡ false → fs ≡ es ++ (x ∷ []) → map g fs ≡ cond b (map g es) (map g es ++ (g x ∷ []))
+behind g x es fs b fresh i = let new = ap (map g) i ∙ map-append g es (x ∷ []) in rw fresh new
 
-pub is-enum : (n : List ℕ) (es : List (Bor (List ℕ) × EnumOf)) (o : Option (Bor EnumOf)) → option_copied o ≡ lookup (λ k. bytes_eq n k.now) es → is_enum_named n (enums_by es) ≡ is_some o
-is-enum n es o e = any-enum n es ∙ ap is_some (sym e) ∙ both o
+pub firsts_pushed : {X : Type 0} (f : X → List ℕ) (old new : Firsts) (es fs : List X) (x : X) (at : ℕ) → AreFirsts old (map f es) → at ≡ length es → IsPut (f x) at old new → fs ≡ es ++ (x ∷ []) → AreFirsts new (map f fs)
+firsts_pushed f old new es fs x at h e put i =
+    subst (AreFirsts new) (sym (ap (map f) i ∙ map-append f es (x ∷ []))) (firsts_more old new (map f es) (f x) at h (e ∙ sym (length-map es f)) put)
+
+-- Of enumerations whose names differ at most one is meant.
+
+unnamed : (n : Name) (m : List ℕ) (es : List EnumOf) → m ≡ n.text.now → AllByRecursion (λ k. bytes_eq m k ≡ false) (map (λ e. e.name) es) → find (λ e. bytes_eq e.name n.text.now && nat_lt e.place n.place.0) es ≡ None
+unnamed n m [] q h = refl
+unnamed n m (e ∷ es) q h =
+    let other : bytes_eq e.name n.text.now ≡ false = ap (bytes_eq e.name) (sym q) ∙ turned e.name m ∙ h.0 in
+    rw other (unnamed n m es q h.1)
+
+abbrev pub called : Name → EnumOf → EnumOf
+called n e = record e { name = n.text.now }
+
+-- the enumeration at a place, where it stands before the name
+abbrev pub meant : Name → List EnumOf → EnumOf → Option ℕ → Option EnumOf
+meant n es d None = None
+meant n es d (Some i) = cond (nat_lt (get_or es i d).place n.place.0) (Some (called n (get_or es i d))) None
+
+meant-later : (n : Name) (e : EnumOf) (es : List EnumOf) (d : EnumOf) (o : Option ℕ) → meant n es d o ≡ meant n (e ∷ es) d (option_map suc o)
+meant-later n e es d None = refl
+meant-later n e es d (Some i) = refl
+
+pub found-enum : (n : Name) (es : List EnumOf) (d : EnumOf) → IsDistinct bytes_eq (map (λ e. e.name) es)
+    → find (λ e. bytes_eq e.name n.text.now && nat_lt e.place n.place.0) es ≡ meant n es d (place_in n.text.now (map (λ e. e.name) es))
+found-enum n [] d u = refl
+found-enum n (e ∷ es) d u = go (bytes_eq e.name n.text.now) refl (found-enum n es d (IsDistinct-tail _ e.name (map (λ e. e.name) es) u))
   where
-    both : (o : Option (Bor EnumOf)) → is_some (option_copied o) ≡ is_some o
-    both None = refl
-    both (Some x) = refl
+    names : List (List ℕ)
+    names = map (λ e. e.name) es
+
+    Goal : List EnumOf → Type 0
+    Goal xs = find (λ e. bytes_eq e.name n.text.now && nat_lt e.place n.place.0) xs ≡ meant n xs d (place_in n.text.now (map (λ e. e.name) xs))
+
+    here : (t : Bool) → nat_lt e.place n.place.0 ≡ t → bytes_eq e.name n.text.now ≡ true → Goal (e ∷ es)
+    here true q s = let same : e.name ≡ n.text.now = (bytes_decides e.name n.text.now).0 s in rw (s, q) (ap (λ t. Some (record e { name = t })) same)
+    here false q s = let same : e.name ≡ n.text.now = (bytes_decides e.name n.text.now).0 s in rw (s, q) (unnamed n e.name es same (IsDistinct-head _ e.name names u))
+
+    go : (b : Bool) → bytes_eq e.name n.text.now ≡ b → Goal es → Goal (e ∷ es)
+    go true s k = here (nat_lt e.place n.place.0) refl s
+    go false s k = rw s (k ∙ meant-later n e es d (place_in n.text.now names) ∙ ap (meant n (e ∷ es) d) (sym (later (λ m. bytes_eq m n.text.now) 0 names)))
+
+pub enum-none : (n : Name) (es : List EnumOf) → IsDistinct bytes_eq (map (λ e. e.name) es) → place_in n.text.now (map (λ e. e.name) es) ≡ None → find (λ e. bytes_eq e.name n.text.now && nat_lt e.place n.place.0) es ≡ None
+enum-none n [] u h = refl
+enum-none n (e ∷ es) u h = found-enum n (e ∷ es) e u ∙ ap (meant n (e ∷ es) e) h
+
+pub enum-some : (n : Name) (es : List EnumOf) (d : EnumOf) (i : ℕ) (b : Bool) → IsDistinct bytes_eq (map (λ e. e.name) es) → place_in n.text.now (map (λ e. e.name) es) ≡ Some i → b ≡ nat_lt (get_or es i d).place n.place.0
+    → find (λ e. bytes_eq e.name n.text.now && nat_lt e.place n.place.0) es ≡ cond b (Some (called n (get_or es i d))) None
+enum-some n es d i b u h q = found-enum n es d u ∙ ap (meant n es d) h ∙ ap (λ b. cond b (Some (called n (get_or es i d))) None) (sym q)
+
+pub is-enum : (n : List ℕ) (es : List EnumOf) (t : Firsts) → AreFirsts t (map (λ e. e.name) es) → is_enum_named n es ≡ is_some (place_of t n)
+is-enum n es t h = sym (firsts-some t (map (λ e. e.name) es) n h ∙ any-named (λ e. e.name) n es)
+
+any-turned : (n : List ℕ) (names : List (List ℕ)) → list_any (bytes_eq n) names ≡ list_any (λ m. bytes_eq m n) names
+any-turned n [] = refl
+any-turned n (m ∷ names) = ap (λ b. b || list_any (bytes_eq n) names) (turned n m) ∙ ap (λ b. bytes_eq m n || b) (any-turned n names)
+
+pub unique_pushed : (es fs : List EnumOf) (e : EnumOf) (t : Firsts) → AreFirsts t (map (λ e. e.name) es) → is_some (place_of t e.name) ≡ false → IsDistinct bytes_eq (map (λ e. e.name) es) → fs ≡ es ++ (e ∷ []) → IsDistinct bytes_eq (map (λ e. e.name) fs)
+unique_pushed es fs e t h fresh u i =
+    let absent : list_any (bytes_eq e.name) (map (λ e. e.name) es) ≡ false = any-turned e.name (map (λ e. e.name) es) ∙ sym (firsts-some t (map (λ e. e.name) es) e.name h) ∙ fresh in
+    subst (IsDistinct bytes_eq) (sym (ap (map (λ e. e.name)) i ∙ map-append (λ e. e.name) es (e ∷ []))) (IsDistinct-push nat_list_eq_equiv (map (λ e. e.name) es) e.name u absent)
+
+-- An enumeration that is handed out where it stands before the name.
+pub handed_out : (n : Name) (e : Bor EnumOf) (b : Bool) (o : Option (Bor EnumOf)) (w : Option EnumOf) → o ≡ then_some b e → w ≡ cond b (Some (called n e.now)) None
+    → MatchOption o (w ≡ None) (λ e. w ≡ Some (called n e.now))
+handed_out n e true o w h k = subst (λ o. MatchOption o (w ≡ None) (λ e. w ≡ Some (called n e.now))) (sym h) k
+handed_out n e false o w h k = subst (λ o. MatchOption o (w ≡ None) (λ e. w ≡ Some (called n e.now))) (sym h) k
+
+-- No names.
+
+unique_none : IsDistinct bytes_eq []
+unfolding IsDistinct
+unique_none = tt
+
+pub no_names : (t : Firsts) (bound : List (Bor (List ℕ) × Value)) (s : Firsts) (enums : List EnumOf) → ((n : List ℕ) → place_of t n ≡ None) → bound ≡ [] → ((n : List ℕ) → place_of s n ≡ None) → enums ≡ [] → AreBodyNames t bound s enums
+no_names t bound s enums h none k empty = subst (λ es. AreBodyNames t bound s es) (sym empty) (subst (λ es. AreBodyNames t es s []) (sym none) (record {
+  bound_at = firsts_none t h;
+  enums_at = firsts_none s k;
+  unique = unique_none;
+}))
+
+-- What is behind the others where its name is new.
+pub pushed : {X : Type 0} (x : X) (es fs : List X) (b : Bool) → b ≡ false → fs ≡ es ++ (x ∷ []) → fs ≡ cond b es (es ++ (x ∷ []))
+pushed x es fs b fresh i = rw fresh i

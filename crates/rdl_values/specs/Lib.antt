@@ -5,6 +5,7 @@ pub mod Elaborated
 pub mod Elaboration
 pub mod Enums
 pub mod Faults
+pub mod Firsts
 pub mod Given
 pub mod Instances
 pub mod Lineages

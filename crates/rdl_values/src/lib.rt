@@ -3,6 +3,7 @@
 
 mod chain;
 mod constants;
+mod firsts;
 mod laws;
 mod lookup;
 mod numbers;
@@ -13,6 +14,7 @@ mod wanted;
 
 pub use chain::{Chain, eval_along, number_along};
 pub use constants::{eval, eval_in};
+pub use firsts::Firsts;
 pub use laws::{
     clean_source, lists_merge, name_decides_the_top, nodes_are_given, nodes_are_numbered,
     none_fails, over_the_count, primaries_stand, rows_by_number, scopes_are_bodies, sorted_once,

@@ -1,6 +1,6 @@
 //! The names of a body by their texts: look-ups that don't go through them one by one.
 
-use indexmap::IndexMap;
+use crate::firsts::Firsts;
 use rb_base::NoMemory;
 use rdl_tree::{Name, Value};
 use std::alloc::Global;
@@ -10,16 +10,20 @@ use std::marker::Model;
 #[derive(Drop)]
 pub struct EnumTable<'a> {
     name: Name<'a>,
-    entries: IndexMap<&'a [u8], u64>,
+    places: Firsts<'a>,
+    entries: Vec<(&'a [u8], u64)>,
 }
 
 impl<'a> Model for EnumTable<'a> {
     ghost use Rattle.rdl_values.specs.Values.{EnumOf};
-    ghost use Rattle.rdl_values.specs.Table.{entries_by};
+    ghost use Rattle.rdl_values.specs.Firsts.{AreFirsts};
+    ghost use Rattle.rdl_values.specs.Table.{entries_by, keys_of};
 
     ghost Value = { EnumOf };
 
-    ghost view = { λ e. record { name = e.name.text.now; place = e.name.place.0; entries = entries_by e.entries.entries } };
+    ghost view = { λ e. record { name = e.name.text.now; place = e.name.place.0; entries = entries_by e.entries.items } };
+
+    ghost invariant = { λ e. AreFirsts e.places (keys_of e.entries.items) };
 }
 
 impl<'a> EnumTable<'a> {
@@ -32,7 +36,8 @@ impl<'a> EnumTable<'a> {
     {
         EnumTable {
             name,
-            entries: IndexMap::new(alloc),
+            places: Firsts::new(alloc),
+            entries: Vec::new(alloc),
         }
     }
 
@@ -43,10 +48,11 @@ impl<'a> EnumTable<'a> {
         ensures added { OnOk result (self.new.entries ≡ cond (is_some (entry_named name.now self.old.entries)) self.old.entries (self.old.entries ++ ((name.now, number) ∷ []))) }
         ensures unchanged { OnErr result (self.new.entries ≡ self.old.entries) }
     {
-        if self.entries.get(&name).is_some() {
-            return Ok(());
+        self.entries.reserve(1)?;
+        let again = self.places.put(name, self.entries.len())?;
+        if !again {
+            self.entries.push((name, number))?;
         }
-        self.entries.insert(name, number)?;
         Ok(())
     }
 
@@ -54,7 +60,8 @@ impl<'a> EnumTable<'a> {
     pub(crate) fn number(&self, name: &[u8]) -> Option<u64>
         ensures { result ≡ entry_named name.now self.now.entries }
     {
-        self.entries.get(&name).copied()
+        let at = self.places.find(name)?;
+        Some(self.entries[at].1)
     }
 
     // Whether it stands before a name.
@@ -68,17 +75,21 @@ impl<'a> EnumTable<'a> {
 /// The parameters of a body and its enumerations, by their names, of two of one name the first.
 #[derive(Drop)]
 pub struct Table<'a> {
-    bound: IndexMap<&'a [u8], Value<'a>>,
-    enums: IndexMap<&'a [u8], EnumTable<'a>>,
+    bound_places: Firsts<'a>,
+    bound: Vec<(&'a [u8], Value<'a>)>,
+    enum_places: Firsts<'a>,
+    enums: Vec<EnumTable<'a>>,
 }
 
 impl<'a> Model for Table<'a> {
     ghost use Rattle.rdl_values.specs.Values.{Names};
-    ghost use Rattle.rdl_values.specs.Table.{bound_by, enums_by};
+    ghost use Rattle.rdl_values.specs.Table.{AreBodyNames, bound_by};
 
     ghost Value = { Names };
 
-    ghost view = { λ t. record { bound = bound_by t.bound.entries; enums = enums_by t.enums.entries } };
+    ghost view = { λ t. record { bound = bound_by t.bound.items; enums = t.enums.items } };
+
+    ghost invariant = { λ t. AreBodyNames t.bound_places t.bound.items t.enum_places t.enums.items };
 }
 
 impl<'a> Table<'a> {
@@ -93,8 +104,10 @@ impl<'a> Table<'a> {
         ensures { result ≡ (record { bound = []; enums = [] }) }
     {
         Table {
-            bound: IndexMap::new(alloc),
-            enums: IndexMap::new(alloc),
+            bound_places: Firsts::new(alloc),
+            bound: Vec::new(alloc),
+            enum_places: Firsts::new(alloc),
+            enums: Vec::new(alloc),
         }
     }
 
@@ -104,10 +117,11 @@ impl<'a> Table<'a> {
         ensures added { OnOk result (self.new.bound ≡ cond (is_some (entry_named name.now self.old.bound)) self.old.bound (self.old.bound ++ ((name.now, val_of value.entry) ∷ []))) }
         ensures unchanged { OnErr result (self.new.bound ≡ self.old.bound) }
     {
-        if self.bound.get(&name).is_some() {
-            return Ok(());
+        self.bound.reserve(1)?;
+        let again = self.bound_places.put(name, self.bound.len())?;
+        if !again {
+            self.bound.push((name, value))?;
         }
-        self.bound.insert(name, value)?;
         Ok(())
     }
 
@@ -117,11 +131,11 @@ impl<'a> Table<'a> {
         ensures added { OnOk result (self.new.enums ≡ cond (is_enum_named of.entry.name self.old.enums) self.old.enums (self.old.enums ++ (of.entry ∷ []))) }
         ensures unchanged { OnErr result (self.new.enums ≡ self.old.enums) }
     {
-        let name = of.name.text;
-        if self.enums.get(&name).is_some() {
-            return Ok(());
+        self.enums.reserve(1)?;
+        let again = self.enum_places.put(of.name.text, self.enums.len())?;
+        if !again {
+            self.enums.push(of)?;
         }
-        self.enums.insert(name, of)?;
         Ok(())
     }
 
@@ -129,17 +143,15 @@ impl<'a> Table<'a> {
     pub(crate) fn value(&self, name: &[u8]) -> Option<Value<'a>>
         ensures { MatchOption result (entry_named name.now self.now.bound ≡ None) (λ v. entry_named name.now self.now.bound ≡ Some (val_of v)) }
     {
-        self.bound.get(&name).copied()
+        let at = self.bound_places.find(name)?;
+        Some(self.bound[at].1)
     }
 
     // The enumeration that the name means: of that name, and standing before it.
     pub(crate) fn enum_before(&self, name: &Name<'a>) -> Option<&EnumTable<'a>>
         ensures { MatchOption result (visible.enum_before name.now self.now ≡ None) (λ e. visible.enum_before name.now self.now ≡ Some (record e.now { name = name.now.text.now })) }
     {
-        let _each_once = self.enums.len();
-        match self.enums.get(&name.text) {
-            Some(of) if of.stands_before(name) => Some(of),
-            _ => None,
-        }
+        let of = &self.enums[self.enum_places.find(name.text)?];
+        of.stands_before(name).then_some(of)
     }
 }

@@ -8,6 +8,6 @@ loop-at-preserved c =
     let l = c.loop-at-test.true in
     record {
       known = names_step es i _ c.loop-at.names c.put.new.self l c.loop-at.invariant.known c.in_ok-again.ensures.put;
-      numbered = numbers_step es i _ c.loop-at.numbers.keys c.insert_full.new.self.keys l c.loop-at.invariant.numbered c.in_ok-fresh.ensures.keys;
+      numbered = numbers_step es i _ c.loop-at.numbers.keys c.insert.new.self.keys l c.loop-at.invariant.numbered c.in_ok-fresh.ensures.keys;
       noted = clash_step es i _ c.loop-at.names c.loop-at.numbers.keys c.in_ok-again.again c.in_ok-fresh.fresh _ _ _ _ _ l c.loop-at.invariant.known c.loop-at.invariant.numbered c.in_ok-again.ensures.again c.in_ok-fresh.ensures.added c.loop-at.invariant.noted c.in_ok-clean.ensures;
     }

@@ -1,5 +1,5 @@
 use Rattle.std.proofs.Common.{map, take}
-use Rattle.rdl_failures.specs.Firsts.{HasNames}
+use Rattle.rdl_values.specs.Firsts.{HasNames}
 use Rattle.rdl_failures.specs.Noted.{IsNoted}
 use Rattle.rdl_scopes.specs.Entries.{clash_fails, pair}
 use Rattle.rdl_scopes.proofs.Entered.{HasNumbers}

@@ -1,4 +1,4 @@
-use Rattle.rdl_failures.proofs.Named.{names_all, names_at}
+use Rattle.rdl_values.proofs.Named.{names_all, names_at}
 use Rattle.rdl_uses.proofs.arguments.names_of.Goals as goal
 
 pub loop-index-preserved : goal.loop-index-preserved

@@ -1,5 +1,5 @@
 use Rattle.std.proofs.Common.{take}
-use Rattle.rdl_failures.specs.Firsts.{HasNames}
+use Rattle.rdl_values.specs.Firsts.{HasNames}
 use Rattle.rdl_uses.specs.Bound.{names_of_params}
 use Rattle.rdl_uses.proofs.arguments.names_of.Given as goal
 

@@ -1,5 +1,5 @@
 use Rattle.std.proofs.Common.{◌∙◌, take, ap, refl, is_some}
-use Rattle.rdl_failures.proofs.Named.{firsts_all, firsts_at}
+use Rattle.rdl_values.proofs.Named.{firsts_all, firsts_at}
 use Rattle.rdl_failures.proofs.Noting.{standing_noted_all, standing_noted_at}
 use Rattle.rdl_uses.proofs.BoundValues.{bad_arg, bad_noted}
 use Rattle.rdl_uses.proofs.arguments.Arguments.judge.Goals as goal

@@ -1,5 +1,5 @@
 use Rattle.std.proofs.Common.{take}
-use Rattle.rdl_failures.specs.Firsts.{AreFirsts}
+use Rattle.rdl_values.specs.Firsts.{AreFirsts}
 use Rattle.rdl_failures.specs.Noted.{IsNoted}
 use Rattle.rdl_uses.specs.Bound.{bad_args, names_of_args}
 use Rattle.rdl_uses.proofs.arguments.Arguments.judge.Given as goal

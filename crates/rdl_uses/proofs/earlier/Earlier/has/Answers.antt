@@ -1,5 +1,5 @@
 use Rattle.std.proofs.Common.{◌∙◌, ap, is_some}
-use Rattle.rdl_failures.proofs.Named.{any-named, firsts-some}
+use Rattle.rdl_values.proofs.Named.{any-named, firsts-some}
 use Rattle.rdl_uses.specs.Before.{names_of_uses}
 use Rattle.rdl_uses.proofs.earlier.Earlier.has.Goals as goal
 

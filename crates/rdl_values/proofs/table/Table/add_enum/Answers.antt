@@ -1,21 +1,39 @@
-use Rattle.std.proofs.Common.{◌≡◌, ◌∙◌, [], ◌∷◌, ◌++◌, cond, sym, ap, subst}
-use Rattle.rdl_values.specs.Table.{enums_by, is_enum_named}
-use Rattle.rdl_values.specs.Values.{EnumOf}
-use Rattle.rdl_values.proofs.Tables.{behind, is-enum, kept}
+use Rattle.std.proofs.Common.{◌≡◌, ◌∙◌, [], ◌∷◌, ◌++◌, true, false, cond, is_some, length, sym, ap, subst}
+use Rattle.rdl_values.specs.Firsts.{place_of}
+use Rattle.rdl_values.specs.Table.{is_enum_named}
+use Rattle.rdl_values.proofs.Named.{IsPut}
+use Rattle.rdl_values.proofs.Tables.{firsts_pushed, is-enum, kept, pushed, unique_pushed}
 use Rattle.rdl_values.proofs.table.Table.add_enum.Goals as goal
 
-pub returns-then-is_some-clause-added : goal.returns-then-is_some-clause-added
-returns-then-is_some-clause-added c =
-    let n = c.of.inside.name.text.now in
-    let there = is-enum n c.self.inside.enums.entries c.get.result c.get.ensures.value ∙ sym c.is_some.ensures ∙ c.if-is_some.true in
-    let seen = subst (λ t. t.enums ≡ cond (is_enum_named n t.enums) t.enums (t.enums ++ (c.args.of ∷ []))) c.self.view_is (kept _ _ _ there) in
-    subst (λ m. c.args.self.now.enums ≡ cond (is_enum_named m c.args.self.now.enums) c.args.self.now.enums (c.args.self.now.enums ++ (c.args.of ∷ []))) (ap (λ e. e.name) c.of.view_is) seen
+pub invariant_of-self-in-Continue-branch-3 : goal.invariant_of-self-in-Continue-branch-3
+invariant_of-self-in-Continue-branch-3 c =
+    let e = c.args.of in
+    let es = c.self.inside.enums.items in
+    let named = ap (λ e. e.name) c.of.view_is in
+    let size : c.len.result ≡ length es = c.len.ensures ∙ c.reserve.new.self.ok.0 ∙ ap length c.reserve.ensures.items in
+    let items = c.in_ok-push.ensures.items ∙ ap (λ xs. xs ++ (e ∷ [])) c.reserve.ensures.items in
+    record {
+      bound_at = c.self.invariant.bound_at;
+      enums_at = firsts_pushed (λ e. e.name) c.self.inside.enum_places c.put.new.self es c.push.new.self.items e c.len.result c.self.invariant.enums_at size (subst (λ m. IsPut m c.len.result c.self.inside.enum_places c.put.new.self) named c.in_ok-again.ensures.put) items;
+      unique = unique_pushed es c.push.new.self.items e c.self.inside.enum_places c.self.invariant.enums_at (subst (λ m. is_some (place_of c.self.inside.enum_places m) ≡ false) named (sym c.in_ok-again.ensures.again ∙ c.if-not-again.true)) c.self.invariant.unique items;
+    }
 
-pub returns-clause-added : goal.returns-clause-added
-returns-clause-added c =
-    let n = c.of.inside.name.text in
-    let es = c.self.inside.enums.entries in
-    let named = is-enum n.now es c.get.result c.get.ensures.value in
-    let new = behind {X = EnumOf} (λ e. record e.1 { name = e.0.now }) n c.args.of es c.insert.new.self.entries c.get.result (is_enum_named n.now (enums_by es)) c.get.ensures.value (sym c.is_some.ensures ∙ c.if-is_some.false) named c.in_ok-insert.ensures.entries in
-    let seen = subst (λ t. enums_by c.insert.new.self.entries ≡ cond (is_enum_named n.now t.enums) t.enums (t.enums ++ (record c.args.of { name = n.now } ∷ []))) c.self.view_is new in
-    subst (λ m. enums_by c.insert.new.self.entries ≡ cond (is_enum_named m c.args.self.now.enums) c.args.self.now.enums (c.args.self.now.enums ++ (record c.args.of { name = m } ∷ []))) (ap (λ e. e.name) c.of.view_is) seen
+pub returns-in_ok-push-clause-added : goal.returns-in_ok-push-clause-added
+returns-in_ok-push-clause-added c =
+    let e = c.args.of in
+    let es = c.self.inside.enums.items in
+    let named = ap (λ e. e.name) c.of.view_is in
+    let fresh = subst (λ m. is_some (place_of c.self.inside.enum_places m) ≡ false) named (sym c.in_ok-again.ensures.again ∙ c.if-not-again.true) in
+    let none = is-enum e.name es c.self.inside.enum_places c.self.invariant.enums_at ∙ fresh in
+    let new = pushed e es c.push.new.self.items (is_enum_named e.name es) none (c.in_ok-push.ensures.items ∙ ap (λ xs. xs ++ (e ∷ [])) c.reserve.ensures.items) in
+    subst (λ t. c.push.new.self.items ≡ cond (is_enum_named e.name t.enums) t.enums (t.enums ++ (e ∷ []))) c.self.view_is new
+
+pub returns-else-not-again-clause-added : goal.returns-else-not-again-clause-added
+returns-else-not-again-clause-added c =
+    let e = c.args.of in
+    let es = c.self.inside.enums.items in
+    let named = ap (λ e. e.name) c.of.view_is in
+    let old = subst (λ m. is_some (place_of c.self.inside.enum_places m) ≡ true) named (sym c.in_ok-again.ensures.again ∙ c.if-not-again.false) in
+    let there = is-enum e.name es c.self.inside.enum_places c.self.invariant.enums_at ∙ old in
+    let same = c.reserve.ensures.items ∙ kept (is_enum_named e.name es) es (es ++ (e ∷ [])) there in
+    subst (λ t. c.reserve.new.self.items ≡ cond (is_enum_named e.name t.enums) t.enums (t.enums ++ (e ∷ []))) c.self.view_is same

@@ -4,8 +4,8 @@ use Rattle.std.specs.List.{list_any, position_from}
 use Rattle.std.specs.Option.{option_or}
 use Rattle.std.proofs.lemmas.List.{length-map, length-take-le, map-append, take_all, take_more}
 use Rattle.std.proofs.lemmas.List.Folds.{list_any-append}
-use Rattle.rdl_failures.specs.Firsts.{AreFirsts, HasNames, place_of}
-use Rattle.rdl_failures.specs.declared.firsts.Firsts.{Firsts}
+use Rattle.rdl_values.specs.Firsts.{AreFirsts, HasNames, place_of}
+use Rattle.rdl_values.specs.declared.firsts.Firsts.{Firsts}
 use Rattle.plain_lemmas.proofs.Lists.{bytes_eq-same as same_text}
 use Rattle.plain_lemmas.proofs.Options.{option_or-first as or-some, option_or-none as or-none, option_or-second as or-first}
 
