@@ -16,7 +16,8 @@ use Rattle.word_groups.specs.declared.entries.Entry.{Entry}
 use Rattle.word_groups.specs.declared.parts.Part.{Part}
 use Rattle.word_groups.specs.Arrays.{entries}
 use Rattle.word_groups.specs.Parts.{part_of, parts, resval, with_field, with_view}
-use Rattle.c_header.specs.Laws.{Has, IsApart}
+use Rattle.c_header.specs.Laws.{Has}
+use Rattle.c_header.proofs.Telling.{AreTold}
 use Rattle.c_header.specs.Macros.{Count, Macro, Number, Offset, Value, along, entry_macros, entry_name, from_macros, given, index_mark, macro, macros, part_macros, part_name, word_macros}
 use Rattle.c_header.specs.Names.{prefix}
 use Rattle.c_header.proofs.Capitals.{high, prefix-high}
@@ -182,7 +183,7 @@ kinds x y m n (s, h) (t, k) e =
     let split = last-split 95 y x k.word h.word k.lacks_gap h.lacks_gap (sym k.is ∙ e ∙ h.is) in
     let bad : true ≡ false = sym k.of_kind ∙ ap is_parts split.1 ∙ h.of_kind in cc bad
 
-module _ (b : Block) (s : IsSound b) (a : IsApart b) where
+module _ (b : Block) (s : IsSound b) (a : AreTold b) where
   abbrev us : List Entry
   us = entries b
 

@@ -16,7 +16,8 @@ use Rattle.word_groups.specs.Entries.{all_words, other_word, path_of, single, si
 use Rattle.word_groups.specs.Parts.{parts}
 use Rattle.word_groups.specs.Paths.{indices, names_of}
 use Rattle.v_design.specs.WellFormed.{distinct}
-use Rattle.c_header.specs.Laws.{Has, IsApart}
+use Rattle.c_header.specs.Laws.{Has}
+use Rattle.c_header.proofs.Telling.{AreTold}
 use Rattle.c_header.specs.Macros.{array_mark, entry_path}
 use Rattle.plain_lemmas.proofs.Bools.{and-left}
 use Rattle.plain_lemmas.proofs.Lists.{bytes_eq-itself, bytes_eq-same, cons-head, cons-tail, get-map_at, get-mapped, length-map, map-append, map-flat_map as map-flat, nil-cons, some-at}
@@ -70,7 +71,7 @@ one-register b s v w sv sw e =
 abbrev pub spot : Entry → List ℕ
 spot u = u.number ∷ u.path
 
-pub singles-apart : (b : Block) → IsSound b → IsApart b → Apart (map spot (singles b))
+pub singles-apart : (b : Block) → IsSound b → AreTold b → Apart (map spot (singles b))
 singles-apart b s a = apart-by (map spot (singles b)) (λ j k n e f.
     let u = get-mapped spot (singles b) j n e in
     let v = get-mapped spot (singles b) k n f in
@@ -192,7 +193,7 @@ none-few = omega arith
 abbrev pub IsSingle : Block → Entry → Type 0
 IsSingle b u = (w : Word) × Has (all_words b) w × (u ≡ single b w)
 
-module _ (b : Block) (a : IsApart b) where
+module _ (b : Block) (a : AreTold b) where
   single-made : (u : Entry) → IsSingle b u → IsMade b u
   single-made u is = subst (IsMade b) (sym is.2) (record { word = is.0; has = is.1; number = refl; parts_ = refl; lengths_ = none-few; strides_ = none-few })
 

@@ -15,4 +15,5 @@ mod Reached
 mod ResetReads
 mod SlotLaws
 mod Spellings
+mod Telling
 mod Words

@@ -10,7 +10,8 @@ use Rattle.word_groups.specs.declared.entries.Entry.{Entry}
 use Rattle.word_groups.specs.Arrays.{as_array, entries, entries_of, groups, is_array}
 use Rattle.word_groups.specs.Entries.{path_of, singles}
 use Rattle.word_groups.specs.Paths.{names_of}
-use Rattle.c_header.specs.Laws.{Has, IsApart, IsEntryOf}
+use Rattle.c_header.specs.Laws.{Has, IsEntryOf}
+use Rattle.c_header.proofs.Telling.{AreTold}
 use Rattle.c_header.specs.Macros.{stands_for_array}
 use Rattle.c_header.proofs.Keys.{IsGroup, IsSingle, all-keys, block-groups, entries-apart, entry_key, group_key, key_of_group, of-group}
 use Rattle.plain_lemmas.proofs.Lists.{get-map_at}
@@ -59,7 +60,7 @@ group-of b w e is = ap key_of_group (word-key b w e is) ∙ go (stands_for_array
     go true = refl
     go false = refl
 
-module _ (b : Block) (s : IsSound b) (a : IsApart b) where
+module _ (b : Block) (s : IsSound b) (a : AreTold b) where
   -- entries of one group stand for arrays, or none does
   alike : (g : List Entry) → IsGroup (IsSingle b) [] g → (d e : Entry) → Has (entries_of g) d → Has (entries_of g) e → stands_for_array d ≡ stands_for_array e
   alike [] h d e x y = cc x.1

@@ -45,10 +45,3 @@ pub record IsPartOf (b : Block) (s : Slot) (p : Part) : Type 0 where
 -- each field that keeps a value has its reset value, if it has one
 abbrev pub AreReset : Block → ItemValues → Type 0
 AreReset b v = (k : ℕ) (f : Field) (r : ℕ) → slice_get b.fields k ≡ Some f → is_wire f.class ≡ false → f.reset ≡ Some r → v (item.Field k) ≡ r
-
--- No two words have one register and one number there, no two parts of a word one name, and numbers of words and of indices are such as
--- decimal digits tell apart.
-pub record IsApart (b : Block) : Type 0 where
-  pub words : (j k : ℕ) (v w : Word) → slice_get (all_words b) j ≡ Some v → slice_get (all_words b) k ≡ Some w → v.reg ≡ w.reg → v.number ≡ w.number → j ≡ k
-  pub names : (w : Word) (j k : ℕ) (p q : Part) → Has (all_words b) w → slice_get (parts b w) j ≡ Some p → slice_get (parts b w) k ≡ Some q → p.name ≡ q.name → j ≡ k
-  pub few : (w : Word) → Has (all_words b) w → (w.number < 2 ^ 64) × (length (indices (path_of b w)) < 2 ^ 64)

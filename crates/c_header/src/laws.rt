@@ -8,6 +8,7 @@ ghost use Rattle.rb_model.specs.declared.block.Slot.{Slot};
 ghost use Rattle.rb_model.specs.declared.block.View.{View};
 ghost use Rattle.rb_model.specs.declared.block.Word.{Word};
 ghost use Rattle.rb_model.specs.declared.kinds.RefItem.TheVariants as item;
+ghost use Rattle.rb_model.specs.Apart.{IsApart};
 ghost use Rattle.rb_model.specs.Items.{ItemValues, Read};
 ghost use Rattle.rb_model.specs.Machine.{read_data};
 ghost use Rattle.rb_model.specs.Run.{word_at};
@@ -17,7 +18,7 @@ ghost use Rattle.word_groups.specs.declared.entries.Entry.{Entry};
 ghost use Rattle.word_groups.specs.declared.parts.Part.{Part};
 ghost use Rattle.word_groups.specs.Arrays.{entries};
 ghost use Rattle.word_groups.specs.Entries.{all_words, path_of};
-ghost use Rattle.c_header.specs.Laws.{AreReset, Has, IsApart, IsEntryOf, IsPartOf};
+ghost use Rattle.c_header.specs.Laws.{AreReset, Has, IsEntryOf, IsPartOf};
 ghost use Rattle.c_header.specs.Macros.{Offset, macros, value_at};
 ghost use Rattle.c_header.specs.Names.{prefix};
 ghost use Rattle.word_groups.specs.Parts.{parts, resval};
@@ -56,13 +57,12 @@ pub fn resets_read()
         → AreReset b v → resval (parts b w) ≡ Some n → read_data b v (Read i) ≡ n }
 {}
 
-/// No two macros of a header have one name, if no two words of the block have one register and number, no two parts of a word one name, and
-/// their numbers are few.
+/// No two macros of a header have one name.
 pub fn macros_differ()
     ensures { (b : Block) → IsSound b → IsApart b → IsTrue (distinct (map (λ m. m.name) (macros (prefix b.name) (entries b)))) }
 {}
 
-/// Each word has one entry alone, if the same holds.
+/// Each word has one entry alone.
 pub fn one_entry()
     ensures { (b : Block) → IsSound b → IsApart b → (w : Word) (j k : ℕ) (d e : Entry) → slice_get (entries b) j ≡ Some d → slice_get (entries b) k ≡ Some e
         → IsEntryOf b w d → IsEntryOf b w e → j ≡ k }

@@ -1,5 +1,6 @@
 mod After
 mod All
+mod ApartWords
 mod Classes
 mod Counted
 mod Distinct
@@ -16,6 +17,7 @@ pub mod Numbers
 mod Permuted
 mod Places
 mod Resets
+mod ShortPaths
 mod SoundFields
 mod SoundReferences
 pub mod SoundRegisters

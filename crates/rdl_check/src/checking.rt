@@ -1,6 +1,7 @@
 //! `check`.
 
-ghost use Rattle.std.specs.Prelude.{◌≡◌};
+ghost use Rattle.std.specs.Prelude.{◌≡◌, IfOk};
+ghost use Rattle.rb_model.specs.Apart.{IsApart};
 ghost use Rattle.rdl_rules.specs.Facts.{AreFacts};
 ghost use Rattle.rdl_rules.specs.Answers.{Answers6, IsReady};
 ghost use Rattle.rdl_check.specs.Trees.{HaveOneForm};
@@ -9,7 +10,7 @@ use crate::block::describe;
 use rb_base::NoMemory;
 use rb_model::Block;
 use rdl_addr::Map;
-use rdl_block_laws::blocks_are_sound;
+use rdl_block_laws::{blocks_are_sound, words_are_apart};
 use rdl_failures::PhaseError;
 use rdl_meaning_rules::meaning_failures;
 use rdl_nodes::rows;
@@ -34,9 +35,11 @@ pub fn check<'a>(
     requires facts { AreFacts elab.now settled.now.facts.items }
     requires map { map.now ≡ elab.now }
     requires refs { refs.now ≡ elab.now }
-    ensures { Answers6 elab.now result }
+    ensures answers { Answers6 elab.now result }
+    ensures apart { IfOk result IsApart }
 {
     blocks_are_sound();
+    words_are_apart();
     aliases_have_primaries();
     let Ok(failures) = meaning_failures(alloc, &settled.props, map, refs, &settled.facts, elab)
     else {

@@ -22,7 +22,7 @@ mod OneSlot
 mod Ordered
 pub mod Placed
 mod Primaries
-mod RegisterNames
+pub mod RegisterNames
 mod Same
 pub mod Sharing
 pub mod Shown
@@ -32,8 +32,8 @@ mod Spelled
 pub mod Standing
 pub mod Texts
 pub mod Together
-mod Top
-mod ViewNumbers
+pub mod Top
+pub mod ViewNumbers
 mod Views
 mod Widths
 pub mod WordNumbers

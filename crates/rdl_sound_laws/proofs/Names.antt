@@ -74,7 +74,7 @@ no_dollars : (bs : List ℕ) → list_all is_in_word bs ≡ true → list_all (�
 no_dollars [] h = refl
 no_dollars (b ∷ bs) h = ap (λ t. t && list_all (λ c. not (c == 36)) bs) (no_dollar b (and-left (is_in_word b) (list_all is_in_word bs) h)) ∙ no_dollars bs (and-right (is_in_word b) (list_all is_in_word bs) h)
 
-word_named : (w : List ℕ) → is_word w ≡ true → is_name w && list_all (λ c. not (c == 36)) w ≡ true
+pub word_named : (w : List ℕ) → is_word w ≡ true → is_name w && list_all (λ c. not (c == 36)) w ≡ true
 word_named [] h = cc
 word_named (b ∷ bs) h =
     let first = and-left (is_letter b) (list_all is_in_word bs) h in

@@ -48,13 +48,13 @@ given-path s c h field = by (is_empty (no_node s)) h
         element-path s k.0 (bound_of s.use_ k.0) (dims_of s.use_ k.0.def.kind) c k.2 (unit-dims s.use_ k.0) field
     by false g = absurd g
 
-child-path : (n c : Instance) → In (children n) c → kind_of c ≡ kind.Field → c.path ≡ path_in (parent_of (body n)) (record { name = c.use_.name.text.now; index = [] })
+pub child-path : (n c : Instance) → In (children n) c → kind_of c ≡ kind.Field → c.path ≡ path_in (parent_of (body n)) (record { name = c.use_.name.text.now; index = [] })
 child-path n c i field =
     let s = flat-in given_by (seen_in n) c i in
     let u = map-in (λ (u : List Use × Use). record { parent = parent_of (body n); above = n.above ++ (body n ∷ []); earlier = u.0; use_ = u.1 }) (standing (uses (body n))) s.0 s.1 in
     given-path s.0 c s.2 field ∙ ap (λ (x : Seen). path_in x.parent (record { name = c.use_.name.text.now; index = [] })) (sym u.2)
 
-field-kind : (n : Instance) → is_a kind.Field n ≡ true → kind_of n ≡ kind.Field
+pub field-kind : (n : Instance) → is_a kind.Field n ≡ true → kind_of n ≡ kind.Field
 field-kind n e = sym (same_true of_kind.the_type tt kind.Field (kind_of n) e)
 
 module _ (wanted : Option (List ℕ)) (s : Source) (r : Instance) (r_in : In (nodes wanted s) r) where

@@ -4,7 +4,7 @@ use Rattle.rdl_base.specs.declared.fault.Fault.{Fault}
 use Rattle.rb_model.specs.declared.block.Block.{Block}
 use Rattle.rdl_tree.specs.declared.node.Elab.{Elab}
 use Rattle.rdl_tree.specs.declared.item.Source.{Source}
-use Rattle.rdl_values.specs.Elaborated.{top_name}
+use Rattle.rdl_values.specs.Elaborated.{HasWords, top_name}
 use Rattle.rdl_values.specs.Elaboration.{Elaborates, IsClean}
 use Rattle.rdl_values.specs.Phase3.{fails3}
 use Rattle.rdl_values.specs.Top.{top_use_of}
@@ -15,10 +15,11 @@ use Rattle.rdl_tree.specs.InOrder.{IsInOrder}
 use Rattle.rdl_layers.specs.Answers.{IsSettled}
 use Rattle.rdl_addr.specs.Answers.{IsPlaced}
 use Rattle.rdl_refs.specs.Answers.{IsBound}
+use Rattle.rdl_check.specs.Trees.{HaveOneForm}
 use Rattle.rdl_rules.specs.Answers.{meaning_fails}
 use Rattle.rdl_rules.specs.declared.settled.Settled.{Settled}
 use Rattle.rdl_verdict.specs.Answers.{IsJudged, Judges, Refuses}
-use Rattle.rdl_verdict.specs.Steps.{FailsLate, HasAll, HasOne, IsClear}
+use Rattle.rdl_verdict.specs.Steps.{FailsLate, HasAll, HasNone, HasOne, IsClear, IsGrown}
 use Rattle.rdl_verdict.specs.Verdict.{IsVerdict, tree}
 use Rattle.rdl_verdict.specs.declared.error.JudgeError.{JudgeError}
 use Rattle.rdl_verdict.specs.declared.error.JudgeError.TheVariants as error
@@ -42,12 +43,12 @@ refused3 wanted text s reads (error.Faults list) h = record { verdict = tree s r
 refused3 wanted text s reads error.NoMemory h = tt
 
 -- a later phase
-refused-own : (wanted : Option (List ℕ)) (text : List ℕ) (e : Elab) → Reads text e.source.now.items.now → Elaborates wanted e.source.now e → top_use_of wanted e.source.now ≡ top_use_of (Some (top_name e)) e.source.now → (err : JudgeError) → FailsLate e err → Refuses wanted text err
+pub refused-own : (wanted : Option (List ℕ)) (text : List ℕ) (e : Elab) → Reads text e.source.now.items.now → Elaborates wanted e.source.now e → top_use_of wanted e.source.now ≡ top_use_of (Some (top_name e)) e.source.now → (err : JudgeError) → FailsLate e err → Refuses wanted text err
 refused-own wanted text e reads h same (error.Faults list) late = record { verdict = tree e.source.now reads (inr (h.clean, later wanted (Some (top_name e)) e.source.now same list.items late.first)); some = late.some }
 refused-own wanted text e reads h same error.NoMemory late = tt
 
 -- none
-judged-own : (wanted : Option (List ℕ)) (text : List ℕ) (e : Elab) (known : Settled) (b : Block) → known.props ≡ e → Reads text e.source.now.items.now → Elaborates wanted e.source.now e → top_use_of wanted e.source.now ≡ top_use_of (Some (top_name e)) e.source.now → IsClean e → IsClear e b → IsJudged wanted text (record { elab = e; settled = known; block = b })
+pub judged-own : (wanted : Option (List ℕ)) (text : List ℕ) (e : Elab) (known : Settled) (b : Block) → known.props ≡ e → Reads text e.source.now.items.now → Elaborates wanted e.source.now e → top_use_of wanted e.source.now ≡ top_use_of (Some (top_name e)) e.source.now → IsClean e → IsClear e b → IsJudged wanted text (record { elab = e; settled = known; block = b })
 judged-own wanted text e known b of reads h same clean x = record {
   clean = clean;
   props = of;
@@ -57,26 +58,32 @@ judged-own wanted text e known b of reads h same clean x = record {
     clean = inr (h.clean, later wanted (Some (top_name e)) e.source.now same [] (inr (x.settled, inr (second-alone e [] x.placed x.bound, inr (x.block.clean, refl)))));
     block = same-block wanted (Some (top_name e)) e.source.now same 0 b x.block.block;
     sound = x.block.sound;
+    apart = x.apart;
   };
 }
 
--- They are of the source that the tree is of.
+-- no failure at all
+pub none-fails : (wanted : Option (List ℕ)) (text : List ℕ) (e : Elab) → IsGrown wanted text e → HasNone e → IsVerdict wanted text []
+none-fails wanted text e g n = tree e.source.now g.reads (inr (g.tree.clean, later wanted (Some (top_name e)) e.source.now g.top [] (inr (n.settled, inr (second-alone e [] n.placed n.bound, inr (n.meaning, refl))))))
+
+-- The tree is of the source that was read.
 
 module _ (wanted : Option (List ℕ)) (text : List ℕ) (s : Source) (e : Elab) (h : Elaborates wanted s e) where
   pub here : s ≡ e.source.now
   here = sym h.tree.source
 
-  pub clean : Elaborates (Some (top_name e)) s e → IsInOrder s.items.now → IsClean e
-  clean own order = record {
-    elaborated = subst (λ x. Elaborates (Some (top_name e)) x e) here own;
-    in_order = subst (λ x. IsInOrder x.items.now) here order;
+  pub grown : Reads text s.items.now → top_use_of wanted s ≡ top_use_of (Some (top_name e)) s → Elaborates (Some (top_name e)) s e → IsInOrder s.items.now → HasWords (Some (top_name e)) e.source.now → HaveOneForm e → IsGrown wanted text e
+  grown reads same own order words forms = record {
+    reads = subst (λ x. Reads text x.items.now) here reads;
+    tree = subst (λ x. Elaborates wanted x e) here h;
+    top = subst (λ x. top_use_of wanted x ≡ top_use_of (Some (top_name e)) x) here same;
+    clean = record {
+      elaborated = subst (λ x. Elaborates (Some (top_name e)) x e) here own;
+      in_order = subst (λ x. IsInOrder x.items.now) here order;
+    };
+    words = words;
+    forms = forms;
   }
-
-  pub refused : Reads text s.items.now → top_use_of wanted s ≡ top_use_of (Some (top_name e)) s → (err : JudgeError) → FailsLate e err → Refuses wanted text err
-  refused reads same = refused-own wanted text e (subst (λ x. Reads text x.items.now) here reads) (subst (λ x. Elaborates wanted x e) here h) (subst (λ x. top_use_of wanted x ≡ top_use_of (Some (top_name e)) x) here same)
-
-  pub judged : (known : Settled) (b : Block) → known.props ≡ e → Reads text s.items.now → top_use_of wanted s ≡ top_use_of (Some (top_name e)) s → IsClean e → IsClear e b → IsJudged wanted text (record { elab = e; settled = known; block = b })
-  judged known b of reads same = judged-own wanted text e known b of (subst (λ x. Reads text x.items.now) here reads) (subst (λ x. Elaborates wanted x e) here h) (subst (λ x. top_use_of wanted x ≡ top_use_of (Some (top_name e)) x) here same)
 
 -- An error passed on says what it said.
 
@@ -84,7 +91,11 @@ pub passed-on : (wanted : Option (List ℕ)) (text : List ℕ) (r : Result Judge
 passed-on wanted text (Err x) err is h = subst (Refuses wanted text) (sym is) h
 passed-on wanted text (Ok j) err is h = absurd is
 
-pub late-on : (e : Elab) (r : Result Judged JudgeError) (err : JudgeError) → IsErrAnd r (λ x. x ≡ err) → FailsLate e err → IfErr r (FailsLate e)
+pub error-on : {A : Type 0} (wanted : Option (List ℕ)) (text : List ℕ) (r : Result A JudgeError) (err : JudgeError) → IsErrAnd r (λ x. x ≡ err) → Refuses wanted text err → IfErr r (Refuses wanted text)
+error-on wanted text (Err x) err is h = subst (Refuses wanted text) (sym is) h
+error-on wanted text (Ok y) err is h = tt
+
+pub late-on : {A : Type 0} (e : Elab) (r : Result A JudgeError) (err : JudgeError) → IsErrAnd r (λ x. x ≡ err) → FailsLate e err → IfErr r (FailsLate e)
 late-on e (Err x) err is h = subst (FailsLate e) (sym is) h
 late-on e (Ok j) err is h = tt
 

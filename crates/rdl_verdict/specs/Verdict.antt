@@ -5,6 +5,7 @@ use Rattle.rb_base.specs.declared.place.Place.{Place}
 use Rattle.rdl_base.specs.declared.rule.Rule.{Rule}
 use Rattle.rdl_base.specs.declared.rule.Rule.TheVariants.{S2}
 use Rattle.rb_model.specs.declared.block.Block.{Block}
+use Rattle.rb_model.specs.Apart.{IsApart}
 use Rattle.rb_model.specs.Sound.{IsSound}
 use Rattle.rdl_tree.specs.declared.item.Source.{Source}
 use Rattle.rdl_values.specs.Elaboration.{instances}
@@ -56,3 +57,4 @@ pub record IsDescribed (wanted : Option (List ℕ)) (text : List ℕ) (s : Sourc
   pub clean : FirstOf (tree_phases wanted s) []
   pub block : IsBlockOf wanted s 0 b
   pub sound : IsSound b
+  pub apart : IsApart b

@@ -1,4 +1,5 @@
 mod Dumps
 pub mod Rows
 mod Verdicts
+mod Waiting
 mod Writing

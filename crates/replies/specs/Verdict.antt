@@ -4,6 +4,7 @@ use Rattle.rdl_base.specs.declared.fault.Fault.{Fault}
 use Rattle.rb_base.specs.declared.place.Place.{Place}
 use Rattle.rdl_base.specs.declared.rule.Rule.{Rule}
 use Rattle.rb_model.specs.declared.block.Block.{Block}
+use Rattle.rb_model.specs.Apart.{IsApart}
 use Rattle.rb_model.specs.Sound.{IsSound}
 use Rattle.rdl_tree.specs.declared.item.Source.{Source}
 use Rattle.rdl_values.specs.Verdict.{FirstOf}
@@ -31,3 +32,4 @@ pub record IsDescribedWith (top : Option (List ℕ)) (source : List ℕ) (s : So
   pub clean : FirstOf (tree_phases top s) []
   pub block : IsBlockOf top s waits b
   pub sound : IsSound b
+  pub apart : IsApart b

@@ -1,5 +1,6 @@
 use Rattle.c_header.proofs.Differing.{all_differ}
+use Rattle.c_header.proofs.Telling.{told}
 use Rattle.c_header.proofs.laws.macros_differ.Goals as goal
 
 pub returns : goal.returns
-returns c = all_differ
+returns c = λ b s a. all_differ b s (told b s a)

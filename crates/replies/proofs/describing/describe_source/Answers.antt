@@ -6,6 +6,7 @@ use Rattle.replies.specs.Verdict.{IsDescribedWith}
 use Rattle.rdl_rules.specs.Waits.{with_waits}
 use Rattle.replies.specs.Answer.{texts_of}
 use Rattle.replies.proofs.Rows.{first_told}
+use Rattle.replies.proofs.Waiting.{waiting-apart}
 use Rattle.replies.proofs.describing.describe_source.Goals as goal
 
 few : (waits : Option ℕ) → IsWaits waits → waits_of waits ≤ 1
@@ -25,6 +26,7 @@ returns-in-Ok c =
       clean = found.clean;
       block = c.blocks_with_waits.ensures.block top tree j.block n found.block;
       sound = c.blocks_with_waits.ensures.sound j.block n (few c.args.waits c.requires.waits) found.sound;
+      apart = waiting-apart j.block n found.apart;
     } in
     (tree, subst (IsDescribedWith top source tree n) (sym c.waiting.ensures) described)
 

@@ -30,7 +30,7 @@ returns-then-is_empty c =
     let ok = narrow.ok.0 in
     let size : vec_len narrow ≡ length narrow.items = omega (arith, ok) in
     let none : narrow.items ≡ [] = none_there narrow.items (vec_len narrow) size (sym c.is_empty.ensures ∙ c.if-is_empty.true) in
-    let described : IsDescribedWith top source tree 0 j.block = record { reads = found.reads; clean = found.clean; block = found.block; sound = found.sound } in
+    let described : IsDescribedWith top source tree 0 j.block = record { reads = found.reads; clean = found.clean; block = found.block; sound = found.sound; apart = found.apart } in
     (tree, described, subst (λ list. accesses top tree list) none (c.in_ok-narrow-in-Ok.ensures top source c.in-Ok.ensures))
 
 pub returns-in-Ok : goal.returns-in-Ok

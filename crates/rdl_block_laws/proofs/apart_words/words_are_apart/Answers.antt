@@ -1,0 +1,5 @@
+use Rattle.rdl_block_laws.proofs.ApartWords.{all-apart}
+use Rattle.rdl_block_laws.proofs.apart_words.words_are_apart.Goals as goal
+
+pub returns : goal.returns
+returns c = all-apart
