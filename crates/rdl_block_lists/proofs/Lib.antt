@@ -2,4 +2,4 @@ mod Marking
 mod Meant
 mod Rooted
 mod Turned
-mod Viewing
+pub mod Viewing
