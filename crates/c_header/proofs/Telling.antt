@@ -1,5 +1,5 @@
 -- What tells the words of a block, and the parts of a word, apart.
-use Rattle.std.proofs.Common.{◌≡◌, ◌∙◌, ◌⊎◌, inl, inr, ℕ, zero, suc, ◌+◌, ◌<◌, ◌≤◌, ◌^◌, ◌==◌, Bool, true, false, not, ◌&&◌, cond, nat_lt, List, [], ◌∷◌, ◌++◌, append_assoc, filter, flat_map, fold, length, map, Option, None, Some, slice_get, refl, sym, ap, subst, arith}
+use Rattle.std.proofs.Common.{◌≡◌, ◌∙◌, ◌⊎◌, inl, inr, ℕ, zero, suc, ◌+◌, ◌<◌, ◌≤◌, ◌^◌, ◌==◌, Bool, true, false, not, ◌&&◌, cond, List, [], ◌∷◌, ◌++◌, append_assoc, filter, flat_map, fold, length, map, Option, None, Some, slice_get, refl, sym, ap, subst, arith}
 use Rattle.std.specs.Prelude.{IsTrue}
 use Rattle.std.specs.List.{enumerate_from, list_all, onto_first, slice_split}
 use Rattle.std.specs.Option.{option_map_or}
@@ -46,9 +46,9 @@ IsTagAt b p m = (k : ℕ) × (w : Word) × (p ≡ k ∷ []) × IsWordAt b k w ×
 
 numbers-apart : {X : Type 0} (n : ℕ) (xs : List X) → Apart (map (λ r. r.0 ∷ []) (enumerate_from n xs))
 numbers-apart n [] = tt
-numbers-apart n (x ∷ xs) = (above n (n + 1) xs (omega arith), numbers-apart (n + 1) xs)
+numbers-apart {X} n (x ∷ xs) = (above n (n + 1) xs (omega arith), numbers-apart (n + 1) xs)
   where
-    above : (n k : ℕ) (ys : List _) → n < k → Each (λ m. m ≡ n ∷ [] → ⊥) (map (λ r. r.0 ∷ []) (enumerate_from k ys))
+    above : (n k : ℕ) (ys : List X) → n < k → Each (λ m. m ≡ n ∷ [] → ⊥) (map (λ r. r.0 ∷ []) (enumerate_from k ys))
     above n k [] h = tt
     above n k (y ∷ ys) h = ((λ e. let same = cons-head k n [] [] e in omega (arith, h, same)), above n (k + 1) ys (omega (arith, h)))
 
@@ -167,7 +167,9 @@ parts-told b sound w a h j k p q at_j at_k e =
 
 -- how many pieces have a byte
 abbrev filled : List (List ℕ) → ℕ
-filled ps = length (filter (λ p. nat_lt 0 (length p)) ps)
+filled [] = 0
+filled ([] ∷ ps) = filled ps
+filled ((x ∷ p) ∷ ps) = suc (filled ps)
 
 filled-first : (x : ℕ) (ps : List (List ℕ)) → filled (onto_first x ps) ≤ suc (filled ps)
 filled-first x [] = omega arith
