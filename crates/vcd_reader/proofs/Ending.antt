@@ -60,7 +60,7 @@ close_all ms k (Some t) (Some i) old new g l m n h c e = let both : Some i ≡ N
 close_all ms k (Some t) None old new g l m n h c e = all_some ms k old new g (some_last (times k.events) t (sym l)) (c.1 ∙ n) h (subst (IsAdded old.values new.values (map (last_given k.events) k.codes)) e c.2)
 
 -- Rows without a variable that lacks a value are those of the text.
-pub closed_rows : (ms : List Token) (v : Variables) (k : Known) (old new : Rows) → Knows ms k → HoldsVariables v k → HoldsRows old k → Closes old new v.now.items → new.missing ≡ None → AreAll ms k new
+pub closed_rows : (ms : List Token) (v : Variables) (k : Known) (old new : Rows) → Knows ms k → HoldsVariables v k → HoldsRows old k → Closes old new v.now → new.missing ≡ None → AreAll ms k new
 closed_rows ms v k old new g p h c e = close_all ms k old.last old.missing old new g h.last refl h.times h.kept (subst (ClosesAt old.last old.missing old new) p.now c) e
 
 first_row : (cs : List (List ℕ)) (es : List Event) → length (times es) ≤ 1 → map (last_given es) cs ≡ known_row cs es 0
@@ -77,7 +77,7 @@ close_missing k (Some t) None old new i l m h c e =
     (some_last (times k.events) t (sym l), record { none = ap (λ z. slice_get z i) (sym row) ∙ a.0; before = λ j b f. a.1 j b (ap (λ z. slice_get z j) row ∙ f) })
 
 -- The first variable without a value is told.
-pub closed_missing : (v : Variables) (k : Known) (old new : Rows) (i : ℕ) → HoldsVariables v k → HoldsRows old k → Closes old new v.now.items → new.missing ≡ Some i → (0 < length (times k.events)) × IsFirstNone (known_row k.codes k.events 0) i
+pub closed_missing : (v : Variables) (k : Known) (old new : Rows) (i : ℕ) → HoldsVariables v k → HoldsRows old k → Closes old new v.now → new.missing ≡ Some i → (0 < length (times k.events)) × IsFirstNone (known_row k.codes k.events 0) i
 closed_missing v k old new i p h c e = close_missing k old.last old.missing old new i h.last refl h.kept (subst (ClosesAt old.last old.missing old new) p.now c) e
 
 -- The answers.
@@ -90,7 +90,7 @@ count_pins [] ws e = refl
 count_pins (n ∷ ns) [] e = absurd (omega (arith, e))
 count_pins (n ∷ ns) (w ∷ ws) e = ap suc (count_pins ns ws (omega (arith, e)))
 
-pub table_is : (text : List ℕ) (v : Variables) (k : Known) (place : ℕ) (old new : Rows) (ps : List Pin) → Reads text [] state.Entries k place → HoldsVariables v k → HoldsRows old k → Closes old new v.now.items → new.missing ≡ None
+pub table_is : (text : List ℕ) (v : Variables) (k : Known) (place : ℕ) (old new : Rows) (ps : List Pin) → Reads text [] state.Entries k place → HoldsVariables v k → HoldsRows old k → Closes old new v.now → new.missing ≡ None
     → ps ≡ pins_by v.names v.widths.items → (length new.values ≡ new.times * length ps) × IsTable text ps (cut (length ps) new.times new.values)
 table_is text v k place old new ps r h p c e is =
     let all = closed_rows r.ms v k old new r.knows h p c e in
@@ -106,14 +106,14 @@ table_is text v k place old new ps r h p c e is =
       },
     )
 
-pub pin_within : (text : List ℕ) (v : Variables) (k : Known) (s : State) (place : ℕ) (old new : Rows) (i : ℕ) → Reads text [] s k place → HoldsVariables v k → HoldsRows old k → Closes old new v.now.items → new.missing ≡ Some i → i < length text
+pub pin_within : (text : List ℕ) (v : Variables) (k : Known) (s : State) (place : ℕ) (old new : Rows) (i : ℕ) → Reads text [] s k place → HoldsVariables v k → HoldsRows old k → Closes old new v.now → new.missing ≡ Some i → i < length text
 pin_within text v k s place old new i r h p c e =
     let m = closed_missing v k old new i h p c e in
     let below = get-within (known_row k.codes k.events 0) i None m.1.none in
     let few = few_codes text [] s k place r in
     omega (arith, below, few, length-map k.codes (last_given (before_time 1 k.events)))
 
-pub lacks : (text : List ℕ) (v : Variables) (k : Known) (place : ℕ) (old new : Rows) (i : ℕ) → Reads text [] state.Entries k place → HoldsVariables v k → HoldsRows old k → Closes old new v.now.items → new.missing ≡ Some i → Lacks text i
+pub lacks : (text : List ℕ) (v : Variables) (k : Known) (place : ℕ) (old new : Rows) (i : ℕ) → Reads text [] state.Entries k place → HoldsVariables v k → HoldsRows old k → Closes old new v.now → new.missing ≡ Some i → Lacks text i
 lacks text v k place old new i r h p c e =
     let m = closed_missing v k old new i h p c e in
     let row : known_row k.codes k.events 0 ≡ values_at r.ms 0 = ap (λ z. map (last_given (before_time 1 z)) k.codes) (sym r.knows.events) ∙ ap (map (last_given (before_time 1 (events r.ms)))) (sym r.knows.codes) in

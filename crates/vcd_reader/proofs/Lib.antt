@@ -10,5 +10,6 @@ pub mod Runs
 pub mod Sets
 pub mod Stepping
 pub mod Taking
+pub mod Values
 pub mod Walking
 pub mod Within

@@ -1,13 +1,13 @@
 -- The numbers of short codes at their places.
 use Rattle.std.specs.List.{list_all, list_any, position, position_or_len}
 use Rattle.std.specs.Str.{bytes_eq}
-use Rattle.std.proofs.Common.{◌≡◌, ℕ, ◌+◌, ◌<◌, ◌≤◌, Bool, true, false, nat_lt, eqb, cond, if◌then◌else◌, Some, None, List, [], ◌∷◌, ◌++◌, length, get_or, refl, ap, sym, ◌∙◌, subst, arith, inl, inr, ◌⊎◌, length-append}
+use Rattle.std.proofs.Common.{◌≡◌, ℕ, ◌+◌, ◌<◌, ◌≤◌, Bool, true, false, nat_lt, eqb, cond, if◌then◌else◌, Option, Some, None, IfSome, List, [], ◌∷◌, ◌++◌, length, get_or, refl, ap, sym, ◌∙◌, subst, arith, inl, inr, ◌⊎◌, length-append}
 use Rattle.std.proofs.lemmas.List.Folds.{position_or_len_push}
 use Rattle.std.proofs.lemmas.Bool.Decides.{nat_tests}
 use Rattle.plain_lemmas.proofs.Bools.{and-both, or-neither, not-of_false}
 use Rattle.plain_lemmas.proofs.Lists.{bytes_eq-itself}
 use Rattle.v_design.specs.Lexemes.{among}
-use Rattle.vcd_syntax.specs.Words.{is_code_byte}
+use Rattle.vcd_syntax.specs.Words.{is_code, is_code_byte}
 use Rattle.vcd_reader.specs.Codes.{code_key, ArePlaces, IsNoted}
 use Rattle.vcd_reader.proofs.Sets.{any_is}
 
@@ -87,3 +87,10 @@ grown old new codes after code again number h noted is there f a =
 
 pub kept : (places : List ℕ) (codes after : List (List ℕ)) (code : List ℕ) (again : Bool) → ArePlaces places codes → again ≡ true → after ≡ (if again then codes else codes ++ (code ∷ [])) → ArePlaces places after
 kept places codes after code again h t a = subst (ArePlaces places) (sym (a ∙ ap (λ b. if b then codes else codes ++ (code ∷ [])) t)) h
+
+-- what a table has of a short code is its number
+pub found : (places : List ℕ) (codes seen : List (List ℕ)) (code : List ℕ) (o : Option ℕ) → ArePlaces places codes → codes ≡ seen → IfSome o (λ n. is_code code ≡ true) → IfSome o (λ n. get_or places (code_key code) 0 ≡ n + 1) → IfSome o (λ n. position (bytes_eq code) seen ≡ Some n)
+found places codes seen code None h e is there = tt
+found places codes seen code (Some n) h e is there =
+    let all = and-both (nat_lt 0 (length code)) (list_all is_code_byte code) is in
+    sym (ap (position (bytes_eq code)) e) ∙ h code n all.1 there

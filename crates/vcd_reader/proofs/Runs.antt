@@ -40,10 +40,3 @@ first_run text (x ∷ xs) gap n l e some s b r =
       skips = subst (λ z. Skips false text z) e s;
       next = subst (λ z. IsNext vcd z (take n z) (drop n z)) e p.2;
     }
-
--- two bytes before a blank
-pub two_long : (text : List ℕ) → 3 ≤ length text → in_word (get_or text 0 0) ≡ true → in_word (get_or text 1 0) ≡ true → is_blank (get_or text 2 0) ≡ true → 2 ≡ length (take_while in_word text)
-two_long [] l h f e = absurd (omega (arith, l))
-two_long (a ∷ []) l h f e = absurd (omega (arith, l))
-two_long (a ∷ b ∷ []) l h f e = absurd (omega (arith, l))
-two_long (a ∷ b ∷ c ∷ rest) l h f e = let end : in_word c ≡ false = ap not e in rw (h, f, end) refl

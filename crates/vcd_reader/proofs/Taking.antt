@@ -95,7 +95,7 @@ code_goes v after r w again k h p g none a e =
         codes = a.codes ∙ (ap (λ b. if b then v.codes else v.codes ++ (w ∷ [])) e ∙ ap (λ z. z ++ (w ∷ [])) h.codes);
         names = a.names ∙ h.names;
         widths = a.widths ∙ h.widths;
-        now = a.now ∙ (ap (λ b. if b then v.now.items else v.now.items ++ (None ∷ [])) e ∙ (ap (λ z. z ++ (None ∷ [])) h.now ∙ sym (declared k.events k.codes w g new)));
+        now = a.now ∙ (ap (λ b. if b then v.now else v.now ++ (None ∷ [])) e ∙ (ap (λ z. z ++ (None ∷ [])) h.now ∙ sym (declared k.events k.codes w g new)));
         fit = h.fit;
       },
       record {
@@ -144,12 +144,12 @@ came_at last n d m false = cases (is_above last d)
     cases false = refl
 
 -- how a time comes, by what is kept
-kept_came : (v : Variables) (r : Rows) (k : Known) (d n : ℕ) → HoldsVariables v k → HoldsRows r k → n ≡ length v.now.items → came_by r.last r.times (within 64 d) n ≡ came_by (last_or None (times k.events)) (length (times k.events)) (within 64 d) (length k.codes)
+kept_came : (v : Variables) (r : Rows) (k : Known) (d n : ℕ) → HoldsVariables v k → HoldsRows r k → n ≡ length v.now → came_by r.last r.times (within 64 d) n ≡ came_by (last_or None (times k.events)) (length (times k.events)) (within 64 d) (length k.codes)
 kept_came v r k d n h p e =
     let many : n ≡ length k.codes = e ∙ (ap length h.now ∙ length-map k.codes (last_given k.events)) in
     ap (λ z. came_by z r.times (within 64 d) n) p.last ∙ (ap (λ z. came_by (last_or None (times k.events)) z (within 64 d) n) p.times ∙ ap (came_by (last_or None (times k.events)) (length (times k.events)) (within 64 d)) many)
 
-pub time_verdict : (v : Variables) (r : Rows) (k : Known) (w : List ℕ) (n : ℕ) (c : Came) → HoldsVariables v k → HoldsRows r k → n ≡ length v.now.items → c ≡ came_by r.last r.times (within 64 (decimal_value (drop 1 w))) n → judge kind.Time w k ≡ came_verdict c
+pub time_verdict : (v : Variables) (r : Rows) (k : Known) (w : List ℕ) (n : ℕ) (c : Came) → HoldsVariables v k → HoldsRows r k → n ≡ length v.now → c ≡ came_by r.last r.times (within 64 (decimal_value (drop 1 w))) n → judge kind.Time w k ≡ came_verdict c
 time_verdict v r k w n c h p e f =
     let d = decimal_value (drop 1 w) in
     came_at (last_or None (times k.events)) (length (times k.events)) d (length k.codes) (nat_lt d (2 ^ 64)) ∙ ap came_verdict (sym (f ∙ kept_came v r k d n h p e))
@@ -171,7 +171,7 @@ last_end : (o : Option ℕ) (ts : List ℕ) (t : ℕ) → last_or o (ts ++ (t �
 last_end o [] t = refl
 last_end o (s ∷ ts) t = last_end (Some s) ts t
 
-pub time_goes : (v : Variables) (r after : Rows) (w : List ℕ) (n t : ℕ) (k : Known) → HoldsVariables v k → HoldsRows r k → n ≡ length v.now.items → Next t ≡ came_by r.last r.times (within 64 (decimal_value (drop 1 w))) n → OneTimeMore r after v.now.items t → IsTaken kind.Time w k v after
+pub time_goes : (v : Variables) (r after : Rows) (w : List ℕ) (n t : ℕ) (k : Known) → HoldsVariables v k → HoldsRows r k → n ≡ length v.now → Next t ≡ came_by r.last r.times (within 64 (decimal_value (drop 1 w))) n → OneTimeMore r after v.now t → IsTaken kind.Time w k v after
 time_goes v r after w n t k h p e f o =
     let d = decimal_value (drop 1 w) in
     let same : t ≡ d = (next_is r.last r.times d n t f).0 in

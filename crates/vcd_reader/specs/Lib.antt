@@ -1,6 +1,7 @@
 pub mod Bits
 pub mod Codes
 pub mod Fronts
+pub mod LastValues
 pub mod Numbers
 pub mod Reading
 pub mod Rows

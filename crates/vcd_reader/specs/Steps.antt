@@ -28,7 +28,7 @@ pub record HoldsVariables (v : Variables) (k : Known) : Type 0 where
   pub codes : v.codes ≡ k.codes
   pub names : v.names ≡ k.names
   pub widths : v.widths.items ≡ k.widths
-  pub now : v.now.items ≡ map (last_given k.events) k.codes
+  pub now : v.now ≡ map (last_given k.events) k.codes
   pub fit : AllByRecursion (λ w. (1 ≤ w) × (w ≤ 128)) k.widths
 
 -- the values of variables at a time

@@ -23,12 +23,12 @@ given_by v code value most = given_at v (position (bytes_eq code) v.codes) value
 
 -- the last values, where the variable of this number takes one
 abbrev pub now_with : Variables → Option ℕ → Option ℕ → List (Option ℕ)
-now_with v None value = v.now.items
-now_with v (Some i) value = slice_set v.now.items i value
+now_with v None value = v.now
+now_with v (Some i) value = slice_set v.now i value
 
 -- the variables after a change: only the value that was taken is another
 abbrev pub Gives : Variables → Variables → List ℕ → Option ℕ → Given → Type 0
-Gives old new code value Taken = (new.codes ≡ old.codes) × (new.names ≡ old.names) × (new.widths ≡ old.widths) × (new.now.items ≡ now_with old (position (bytes_eq code) old.codes) value)
+Gives old new code value Taken = (new.codes ≡ old.codes) × (new.names ≡ old.names) × (new.widths ≡ old.widths) × (new.now ≡ now_with old (position (bytes_eq code) old.codes) value)
 Gives old new code value _ = new ≡ old
 
 -- the variables with one width more
@@ -36,7 +36,7 @@ pub record AddsWidth (old new : Variables) (width : ℕ) : Type 0 where
   pub codes : new.codes ≡ old.codes
   pub names : new.names ≡ old.names
   pub widths : new.widths.items ≡ old.widths.items ++ width ∷ []
-  pub now : new.now.items ≡ old.now.items
+  pub now : new.now ≡ old.now
 
 -- the variables with one code more, if it is new
 pub record AddsCode (old new : Variables) (code : List ℕ) (again : Bool) : Type 0 where
@@ -44,7 +44,7 @@ pub record AddsCode (old new : Variables) (code : List ℕ) (again : Bool) : Typ
   pub codes : new.codes ≡ (if again then old.codes else old.codes ++ code ∷ [])
   pub names : new.names ≡ old.names
   pub widths : new.widths.items ≡ old.widths.items
-  pub now : new.now.items ≡ (if again then old.now.items else old.now.items ++ None ∷ [])
+  pub now : new.now ≡ (if again then old.now else old.now ++ None ∷ [])
 
 -- the variables with one name more, if it is new
 pub record AddsName (old new : Variables) (name : List ℕ) (again : Bool) : Type 0 where
@@ -52,4 +52,4 @@ pub record AddsName (old new : Variables) (name : List ℕ) (again : Bool) : Typ
   pub codes : new.codes ≡ old.codes
   pub names : new.names ≡ (if again then old.names else old.names ++ name ∷ [])
   pub widths : new.widths.items ≡ old.widths.items
-  pub now : new.now.items ≡ old.now.items
+  pub now : new.now ≡ old.now

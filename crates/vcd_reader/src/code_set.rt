@@ -2,7 +2,7 @@
 
 ghost use Rattle.std.specs.Prelude.{◌≡◌, ℕ, ◌+◌, ◌<◌, ◌^◌, true, IfSome, OnOk, length, slice_index_or};
 ghost use Rattle.std.specs.List.{list_all};
-ghost use Rattle.vcd_syntax.specs.Words.{is_code_byte};
+ghost use Rattle.vcd_syntax.specs.Words.{is_code, is_code_byte};
 ghost use Rattle.vcd_reader.specs.Codes.{IsNoted, code_key};
 
 use crate::word_set::WordSet;
@@ -22,7 +22,8 @@ fn digit_of(byte: u8) -> Option<usize>
 
 // The number that a code of one to three bytes writes in base 95, the least digit first.
 fn key_of(code: &[u8]) -> Option<usize>
-    ensures { IfSome result (λ k. (list_all is_code_byte code.now ≡ true) × (k ≡ code_key code.now) × (k < 2 ^ 32)) }
+    ensures code { IfSome result (λ k. is_code code.now ≡ true) }
+    ensures key { IfSome result (λ k. (k ≡ code_key code.now) × (k < 2 ^ 32)) }
 {
     match code {
         [a] => digit_of(*a),
@@ -34,7 +35,8 @@ fn key_of(code: &[u8]) -> Option<usize>
 
 // The number of a short code, where the table has it.
 fn find_short(places: &[u32], code: &[u8]) -> Option<usize>
-    ensures { IfSome result (λ n. (list_all is_code_byte code.now ≡ true) × (slice_index_or places.now (code_key code.now) 0 ≡ n + 1)) }
+    ensures code { IfSome result (λ n. is_code code.now ≡ true) }
+    ensures place { IfSome result (λ n. slice_index_or places.now (code_key code.now) 0 ≡ n + 1) }
 {
     let key = key_of(code)?;
     let place = *places.get(key)?;
@@ -94,10 +96,11 @@ impl<'s> Model for CodeSet<'s> {
 }
 
 impl<'s> CodeSet<'s> {
-    ghost use Rattle.std.specs.Prelude.{◌≡◌, ◌++◌, ◌∷◌, [], IfOk, if◌then◌else◌};
+    ghost use Rattle.std.specs.Prelude.{◌≡◌, ◌++◌, ◌∷◌, [], true, Some, IfSome, IfOk, if◌then◌else◌};
     ghost use Rattle.std.specs.List.{position};
     ghost use Rattle.std.specs.Str.{bytes_eq};
     ghost use Rattle.v_design.specs.Lexemes.{among};
+    ghost use Rattle.vcd_syntax.specs.Words.{is_code};
 
     /// No codes yet.
     pub fn new(alloc: Global) -> Self
@@ -109,14 +112,34 @@ impl<'s> CodeSet<'s> {
         }
     }
 
-    /// The number of a code, from 0.
+    /// The number of a code of at most three bytes, from 0, where the table has it.
     #[inline(always)]
+    pub fn find_short(&self, code: &[u8]) -> Option<usize>
+        ensures code { IfSome result (λ n. is_code code.now ≡ true) }
+        ensures number { IfSome result (λ n. position (bytes_eq code.now) self.now ≡ Some n) }
+    {
+        find_short(&self.places, code)
+    }
+
+    /// The number of a code, from 0.
     pub fn find(&self, code: &[u8]) -> Option<usize>
         ensures { result ≡ position (bytes_eq code.now) self.now }
     {
-        match find_short(&self.places, code) {
+        match self.find_short(code) {
             Some(number) => Some(number),
             None => self.codes.find(code),
+        }
+    }
+
+    /// The number of a code, from 0, which may have been found before.
+    #[inline(always)]
+    pub fn number_of(&self, code: &[u8], found: Option<usize>) -> Option<usize>
+        requires { IfSome found (λ n. position (bytes_eq code.now) self.now ≡ Some n) }
+        ensures { result ≡ position (bytes_eq code.now) self.now }
+    {
+        match found {
+            Some(number) => Some(number),
+            None => self.find(code),
         }
     }
 

@@ -2,60 +2,27 @@
 
 ghost use Rattle.std.specs.Prelude.{◌≡◌, true, Some, drop};
 ghost use Rattle.std.specs.List.{list_all};
-ghost use Rattle.vcd_syntax.specs.Words as words;
+ghost use Rattle.vcd_syntax.specs.Words.{is_code};
 ghost use Rattle.vcd_syntax.specs.Exits.{exit_by};
 ghost use Rattle.vcd_syntax.specs.Faulty.{is_known_bit};
 
 use vcd_syntax::{Kind, State};
 
-fn are_code_bytes(bytes: &[u8]) -> bool
-    ensures { result ≡ list_all words.is_code_byte bytes.now }
-{
-    for byte in bytes {
-        if *byte < 33 || 126 < *byte {
-            return false;
-        }
-    }
-    true
-}
-
-fn is_code(word: &[u8]) -> bool
-    ensures { result ≡ words.is_code word.now }
-{
-    !word.is_empty() && are_code_bytes(word)
-}
-
-fn is_bit(b: u8) -> bool
-    ensures { result ≡ words.is_bit b }
-{
-    b == b'0' || b == b'1' || matches!(b, b'x' | b'X' | b'z' | b'Z')
-}
-
-fn is_scalar(word: &[u8]) -> bool
-    ensures { result ≡ words.is_scalar word.now }
+fn begins_with_bit(word: &[u8]) -> bool
+    ensures { result ≡ true → is_code (drop 1 word.now) ≡ true → exit_by State.Entries word.now ≡ Some (Kind.Scalar, State.Entries) }
 {
     match word {
-        [bit, code @ ..] => is_bit(*bit) && is_code(code),
+        [bit, ..] => *bit == b'0' || *bit == b'1',
         [] => false,
     }
 }
 
-/// Whether a word is a bit and the code of a variable, behind the definitions.
+/// Whether a word is a bit, 0 or 1, and the code of a variable, behind the definitions, if the rest of it is a code.
 pub(crate) fn is_change(state: State, word: &[u8]) -> bool
-    ensures { result ≡ true → exit_by state word.now ≡ Some (Kind.Scalar, State.Entries) }
+    ensures { result ≡ true → is_code (drop 1 word.now) ≡ true → exit_by state word.now ≡ Some (Kind.Scalar, State.Entries) }
 {
     match state {
-        State::Entries => is_scalar(word),
-        _ => false,
-    }
-}
-
-/// Whether a word is the code of the variable that takes bits, behind the definitions.
-pub(crate) fn is_taker(state: State, word: &[u8]) -> bool
-    ensures { result ≡ true → exit_by state word.now ≡ Some (Kind.Taker, State.Entries) }
-{
-    match state {
-        State::Taker => is_code(word),
+        State::Entries => begins_with_bit(word),
         _ => false,
     }
 }

@@ -3,6 +3,7 @@
 
 mod code_set;
 mod exits;
+mod last_values;
 mod naming;
 mod numbers;
 mod pins;

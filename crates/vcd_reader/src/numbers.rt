@@ -7,7 +7,7 @@ use std::alloc::{AllocError, Global};
 use std::marker::Model;
 
 /// The least number that has no cell of its own: 2^31.
-const WIDE: u32 = 2_147_483_648;
+pub(crate) const WIDE: u32 = 2_147_483_648;
 
 /// Numbers below 2^128, by their places. Contracts see the list of the numbers.
 ///

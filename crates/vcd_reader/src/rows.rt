@@ -3,6 +3,7 @@
 ghost use Rattle.std.specs.Prelude.{◌≡◌, IfOk};
 ghost use Rattle.vcd_reader.specs.Rows.{IsAdded};
 
+use crate::last_values::LastValues;
 use crate::numbers::Numbers;
 use std::alloc::{AllocError, Global};
 
@@ -35,12 +36,13 @@ pub(crate) struct Rows {
 }
 
 /// Adds the values of a row, or answers the number of the first that is none.
-fn push_row(values: &mut Numbers, now: &[Option<u128>]) -> Result<Option<usize>, AllocError>
+fn push_row(values: &mut Numbers, now: &LastValues) -> Result<Option<usize>, AllocError>
     ensures { IfOk result (IsAdded values.old values.new now.now) }
 {
-    for (at, value) in now.iter().enumerate() {
-        match value {
-            Some(value) => values.push(*value, now.len())?,
+    let width = now.len();
+    for at in 0..width {
+        match now.get(at) {
+            Some(value) => values.push(value, width)?,
             None => return Ok(Some(at)),
         }
     }
@@ -95,7 +97,7 @@ impl Rows {
     }
 
     /// Adds the row of the last time, if there is one and no variable was without a value.
-    pub fn close(&mut self, now: &[Option<u128>]) -> Result<(), AllocError>
+    pub fn close(&mut self, now: &LastValues) -> Result<(), AllocError>
         ensures { OnOk result (Closes self.old self.new now.now) }
     {
         if self.last.is_some() && self.missing.is_none() {
@@ -105,7 +107,7 @@ impl Rows {
     }
 
     /// Adds the row of the last time, which ends with the next one.
-    pub fn come(&mut self, time: u64, now: &[Option<u128>]) -> Result<(), AllocError>
+    pub fn come(&mut self, time: u64, now: &LastValues) -> Result<(), AllocError>
         requires { self.old.times < 1000000 }
         ensures { OnOk result (Comes self.old self.new now.now time) }
     {

@@ -5,7 +5,7 @@ ghost use Rattle.std.specs.List.{list_all};
 ghost use Rattle.vcd_syntax.specs.Faulty.{is_known_bit};
 ghost use Rattle.vcd_reader.specs.Bits.{bit_value};
 
-use crate::exits::{are_known, is_change, is_number, is_taker};
+use crate::exits::{are_known, is_change, is_number};
 use crate::pins::pins_of;
 use crate::rows::{Came, Rows};
 use crate::variables::{Given, Variables};
@@ -56,7 +56,10 @@ fn bit_value(word: &[u8]) -> Option<u128>
 }
 
 impl<'s> Said<'s> {
-    ghost use Rattle.std.specs.Prelude.{◌≡◌, ◌≢◌, ◌<◌, ◌^◌, ◌∷◌, [], true, drop, ℕ, List, length, OnOk, IfOk, IfErr};
+    ghost use Rattle.std.specs.Prelude.{◌≡◌, ◌≢◌, ◌<◌, ◌^◌, ◌∷◌, [], true, drop, ℕ, List, Some, length, OnOk, IfSome, IfOk, IfErr};
+    ghost use Rattle.std.specs.List.{position};
+    ghost use Rattle.std.specs.Str.{bytes_eq};
+    ghost use Rattle.vcd_syntax.specs.Exits.{exit_by};
     ghost use Rattle.vcd_syntax.specs.Tokens.{Word as TextWord};
     ghost use Rattle.vcd_syntax.specs.Reading.{Fails, IsTable};
     ghost use Rattle.vcd_syntax.specs.declared.error.VcdError.{VcdError as Error};
@@ -134,13 +137,14 @@ impl<'s> Said<'s> {
     }
 
     #[inline(always)]
-    fn scalar(&mut self, word: Word<'s>) -> Result<(), VcdError>
-        requires { (k : Known) × IsReady kind_of.Scalar word.text.now self.old k }
+    fn scalar(&mut self, word: Word<'s>, found: Option<usize>) -> Result<(), VcdError>
+        requires ready { (k : Known) × IsReady kind_of.Scalar word.text.now self.old k }
+        requires found { IfSome found (λ n. position (bytes_eq (drop 1 word.text.now)) self.old.variables.codes ≡ Some n) }
         ensures on { OnOk result (Goes kind_of.Scalar self.old self.new word.entry.text.now) }
         ensures fault { IfErr result (Errs kind_of.Scalar self.old word.entry) }
     {
         let value = bit_value(word.text);
-        match self.variables.give(tail(word.text), value, 1) {
+        match self.variables.give(tail(word.text), found, value, 1) {
             Given::Taken => Ok(()),
             Given::Unknown => Err(VcdError::Code { place: word.place }),
             Given::Unfit => Err(VcdError::Value { place: word.place }),
@@ -166,13 +170,14 @@ impl<'s> Said<'s> {
     }
 
     #[inline(always)]
-    fn taker(&mut self, word: Word<'s>) -> Result<(), VcdError>
-        requires { (k : Known) × IsReady kind_of.Taker word.text.now self.old k }
+    fn taker(&mut self, word: Word<'s>, found: Option<usize>) -> Result<(), VcdError>
+        requires ready { (k : Known) × IsReady kind_of.Taker word.text.now self.old k }
+        requires found { IfSome found (λ n. position (bytes_eq word.text.now) self.old.variables.codes ≡ Some n) }
         ensures on { OnOk result (Goes kind_of.Taker self.old self.new word.entry.text.now) }
         ensures fault { IfErr result (Errs kind_of.Taker self.old word.entry) }
     {
         let value = binary(tail(self.last.text));
-        match self.variables.give(word.text, value, 128) {
+        match self.variables.give(word.text, found, value, 128) {
             Given::Taken => Ok(()),
             Given::Unknown => Err(VcdError::Code { place: word.place }),
             Given::Unfit => Err(VcdError::Value {
@@ -192,14 +197,40 @@ impl<'s> Said<'s> {
             Kind::Code => self.code(word),
             Kind::Name => self.name(word),
             Kind::Time => self.time(word),
-            Kind::Scalar => self.scalar(word),
+            Kind::Scalar => self.scalar(word, None),
             Kind::Bits => self.bits(word),
-            Kind::Taker => self.taker(word),
+            Kind::Taker => self.taker(word, None),
             _ => Ok(()),
         }
     }
 
+    // The number of the variable of a short code to which a word gives a bit, behind the definitions.
+    #[inline(always)]
+    fn changed(&self, word: &[u8]) -> Option<usize>
+        ensures leads { IfSome result (λ n. exit_by self.now.state word.now ≡ Some (Kind.Scalar, State.Entries)) }
+        ensures number { IfSome result (λ n. position (bytes_eq (drop 1 word.now)) self.now.variables.codes ≡ Some n) }
+    {
+        if is_change(self.state, word) {
+            self.variables.codes.find_short(tail(word))
+        } else {
+            None
+        }
+    }
+
+    // The number of the variable whose short code, behind its bits, a word is.
+    #[inline(always)]
+    fn taken(&self, word: &[u8]) -> Option<usize>
+        ensures leads { IfSome result (λ n. exit_by self.now.state word.now ≡ Some (Kind.Taker, State.Entries)) }
+        ensures number { IfSome result (λ n. position (bytes_eq word.now) self.now.variables.codes ≡ Some n) }
+    {
+        match self.state {
+            State::Taker => self.variables.codes.find_short(word),
+            _ => None,
+        }
+    }
+
     // Takes the next word of a text, whatever it is.
+    #[inline(never)]
     fn other_step(&mut self, word: Word<'s>) -> Result<(), VcdError>
         requires { (text : List ℕ) × (left : List TextWord) × IsSaid text (word_of word ∷ left) self.old }
         ensures on { OnOk result ((text : List ℕ) (left : List TextWord) → IsSaid text (word_of word.entry ∷ left) self.old → IsSaid text left self.new) }
@@ -223,8 +254,8 @@ impl<'s> Said<'s> {
         ensures fault { IfErr result (λ e. e ≢ VcdError.NoMemory
             → (text : List ℕ) (left : List TextWord) → IsSaid text (word_of word.entry ∷ left) self.old → Fails text e) }
     {
-        if is_change(self.state, word.text) {
-            self.scalar(word)?;
+        if let Some(number) = self.changed(word.text) {
+            self.scalar(word, Some(number))?;
             self.state = State::Entries;
             self.last = word;
             return Ok(());
@@ -235,8 +266,8 @@ impl<'s> Said<'s> {
             self.last = word;
             return Ok(());
         }
-        if is_taker(self.state, word.text) {
-            self.taker(word)?;
+        if let Some(number) = self.taken(word.text) {
+            self.taker(word, Some(number))?;
             self.state = State::Entries;
             self.last = word;
             return Ok(());

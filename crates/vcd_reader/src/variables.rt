@@ -4,6 +4,7 @@ ghost use Rattle.std.specs.Prelude.{◌≡◌};
 ghost use Rattle.vcd_reader.specs.Variables.{fits};
 
 use crate::code_set::CodeSet;
+use crate::last_values::LastValues;
 use crate::word_set::WordSet;
 use std::alloc::{AllocError, Global};
 use stim_csv::is_within;
@@ -25,7 +26,7 @@ pub(crate) struct Variables<'s> {
     pub codes: CodeSet<'s>,
     pub names: WordSet<'s>,
     pub widths: Vec<u8>,
-    pub now: Vec<Option<u128>>,
+    pub now: LastValues,
 }
 
 /// A value below 2^128 fits a variable, which has so many bits at most.
@@ -40,7 +41,9 @@ fn fits(value: Option<u128>, width: u8, most: u8) -> bool
 }
 
 impl<'s> Variables<'s> {
-    ghost use Rattle.std.specs.Prelude.{◌≡◌, ◌++◌, ◌∷◌, [], length, IfOk, OnOk};
+    ghost use Rattle.std.specs.Prelude.{◌≡◌, ◌++◌, ◌∷◌, [], Some, length, IfSome, IfOk, OnOk};
+    ghost use Rattle.std.specs.List.{position};
+    ghost use Rattle.std.specs.Str.{bytes_eq};
     ghost use Rattle.vcd_reader.specs.Variables.{given_by, Gives, AddsCode, AddsName, AddsWidth};
 
     /// No variable yet.
@@ -48,13 +51,13 @@ impl<'s> Variables<'s> {
         ensures codes { result.codes ≡ [] }
         ensures names { result.names ≡ [] }
         ensures widths { result.widths.items ≡ [] }
-        ensures now { result.now.items ≡ [] }
+        ensures now { result.now ≡ [] }
     {
         Variables {
             codes: CodeSet::new(alloc),
             names: WordSet::new(alloc),
             widths: Vec::new(alloc),
-            now: Vec::new(alloc),
+            now: LastValues::new(alloc),
         }
     }
 
@@ -72,7 +75,7 @@ impl<'s> Variables<'s> {
     {
         let again = self.codes.add(code)?;
         if !again {
-            self.now.push(None)?;
+            self.now.push_none()?;
         }
         Ok(again)
     }
@@ -85,21 +88,28 @@ impl<'s> Variables<'s> {
         Ok(again)
     }
 
-    /// Gives a value to the variable of a code, if that has at most so many bits.
+    /// Gives a value to the variable of a code, if that has at most so many bits. Its number may have been found before.
     #[inline(always)]
-    pub fn give(&mut self, code: &[u8], value: Option<u128>, most: u8) -> Given
+    pub fn give(
+        &mut self,
+        code: &[u8],
+        found: Option<usize>,
+        value: Option<u128>,
+        most: u8,
+    ) -> Given
         requires widths { length self.old.widths.items ≡ length self.old.codes }
-        requires now { length self.old.now.items ≡ length self.old.codes }
+        requires now { length self.old.now ≡ length self.old.codes }
+        requires found { IfSome found (λ n. position (bytes_eq code.now) self.old.codes ≡ Some n) }
         ensures given { result ≡ given_by self.old code.now value most }
         ensures gives { Gives self.old self.new code.now value result }
     {
-        let Some(at) = self.codes.find(code) else {
+        let Some(at) = self.codes.number_of(code, found) else {
             return Given::Unknown;
         };
         if !fits(value, self.widths[at], most) {
             return Given::Unfit;
         }
-        self.now[at] = value;
+        self.now.set(at, value);
         Given::Taken
     }
 }

@@ -29,14 +29,27 @@ fn is_solid(b: u8) -> bool
     b' ' < b || !is_blank(b)
 }
 
+// The length of the first word of a text, however long it is.
+#[inline(never)]
+fn long_word_len(text: &[u8]) -> usize
+    ensures { result ≡ length (take_while (λ b. not (is_blank b)) text.now) }
+{
+    text.iter().take_while(|b| is_solid(**b)).count()
+}
+
+// The length of the first word of a text: that of most changes is 2 to 4.
+#[inline(always)]
 fn word_len(text: &[u8]) -> usize
     ensures { result ≡ length (take_while (λ b. not (is_blank b)) text.now) }
 {
     match text {
-        [first, second, blank, ..] if is_blank(*blank) && is_solid(*first) && is_solid(*second) => {
-            2
+        [a, b, end, ..] if is_solid(*a) && is_solid(*b) && is_blank(*end) => 2,
+        [a, b, c, end, ..] if is_solid(*a) && is_solid(*b) && is_solid(*c) && is_blank(*end) => 3,
+        [a, b, c, d, end, ..]
+            if is_solid(*a) && is_solid(*b) && is_solid(*c) && is_solid(*d) && is_blank(*end) => {
+            4
         }
-        _ => text.iter().take_while(|b| is_solid(**b)).count(),
+        _ => long_word_len(text),
     }
 }
 

@@ -1,10 +1,9 @@
 use Rattle.std.specs.Prelude.{Option}
-use Rattle.std.proofs.Common.{◌≡◌, ℕ, List, drop, ap, ◌∙◌, subst}
+use Rattle.std.proofs.Common.{◌≡◌, ℕ, List, drop, ap, ◌∙◌}
 use Rattle.vcd_syntax.specs.Words.{decimal_value}
 use Rattle.vcd_syntax.specs.Numbers.{within}
 use Rattle.vcd_reader.specs.declared.rows.Came.{Came}
-use Rattle.vcd_reader.specs.Rows.{Comes, came_by}
-use Rattle.vcd_reader.proofs.Lists.{vec_long}
+use Rattle.vcd_reader.specs.Rows.{came_by}
 use Rattle.vcd_reader.proofs.Taking.{time_goes}
 use Rattle.vcd_reader.proofs.said.Said.time.Goals as goal
 
@@ -15,6 +14,6 @@ pub returns-in_ok-come-in-Next-clause-on : goal.returns-in_ok-come-in-Next-claus
 returns-in_ok-come-in-Next-clause-on c = λ k h.
     let r = c.args.self.now.rows in
     let v = c.args.self.now.variables in
-    time_goes v r c.come.new.self c.args.word.text.now c.len.result c.in-Next.time k h.variables h.rows (vec_long c.len.result v.now c.len.ensures)
+    time_goes v r c.come.new.self c.args.word.text.now c.len.result c.in-Next.time k h.variables h.rows c.len.ensures
     (came_as r.last r.times c.len.result c.decimal-time.result c.tail.result.now c.args.word.text.now _ c.in-Next.ensures c.decimal-time.ensures c.tail.ensures)
-    (subst (λ z. Comes r c.come.new.self z c.in-Next.time) c.deref.ensures.value c.in_ok-come-in-Next.ensures)
+    c.in_ok-come-in-Next.ensures
