@@ -4,9 +4,11 @@ use Rattle.std.specs.Prelude.{AllPairs, IsTrue}
 use Rattle.std.specs.List.{join_with_byte, list_all}
 use Rattle.std.specs.List.Sorted.{IsStrictlyIncreasing}
 use Rattle.std.proofs.Math.Nat.{div-le_self}
+use Rattle.std.proofs.lemmas.List.Elements.{recursion_from_All}
 use Rattle.std.proofs.lemmas.Option.{get_or_from_slice_get}
 use Rattle.plain_lemmas.proofs.Bools.{and-right}
 use Rattle.plain_lemmas.proofs.Lists.{get-map_at, get-within, get_or-below}
+use Rattle.v_design.specs.Lexemes.{is_name}
 use Rattle.rb_model.specs.declared.block.Block.{Block}
 use Rattle.rb_model.specs.declared.block.Reg.{Reg}
 use Rattle.rb_model.specs.declared.block.Slot.{Slot}
@@ -15,18 +17,19 @@ use Rattle.rb_model.specs.Apart.{HaveOtherViews, IsApart, IsNamedIn, IsWordAt, W
 use Rattle.rb_model.specs.References.{Each}
 use Rattle.rb_model.specs.Sound.{IsSound}
 use Rattle.rdl_tree.specs.declared.item.Kind.TheVariants as kind
+use Rattle.rdl_tree.specs.declared.item.Source.{Source}
 use Rattle.rdl_tree.specs.declared.node.Elab.{Elab}
 use Rattle.rdl_tree.specs.Kinds.{same_kind}
 use Rattle.rdl_tree.specs.Words.{IsWordName}
 use Rattle.rdl_values.specs.Elaborated.{nodes_of, top_name}
-use Rattle.rdl_values.specs.Instances.{Instance, children, kind_of, top_of}
+use Rattle.rdl_values.specs.Instances.{Instance, children, kind_of, most_names, nodes, signals, top_of, with_below}
 use Rattle.rdl_values.specs.Lineages.{lineages_of}
 use Rattle.rdl_values.specs.Paths.{Path, Step, below_top, in_node, joined, path_in, path_text, words_of}
 use Rattle.rdl_values.specs.Verdict.{IsListOf}
 use Rattle.rdl_values.proofs.Given.{tops-given}
 use Rattle.rdl_layers.specs.Fields.{fields_of, is_a}
 use Rattle.rdl_nodes.proofs.Apart.{pairs}
-use Rattle.rdl_nodes.proofs.Members.{In, each-in, in-map, place-in}
+use Rattle.rdl_nodes.proofs.Members.{In, each-in, in-flat, in-map, in-right, place-in}
 use Rattle.rdl_addr.specs.Bits.{bits_of}
 use Rattle.rdl_addr.specs.Layout.{Placed}
 use Rattle.rdl_addr.specs.Rules as addr
@@ -39,7 +42,7 @@ use Rattle.rdl_rules.specs.Numbers.{Numbered, numbered, numbered_from, registers
 use Rattle.rdl_rules.specs.Words.{slots_from, word_of}
 use Rattle.rdl_sound_laws.proofs.Closed.{one-node}
 use Rattle.rdl_sound_laws.proofs.Meeting.{numbered-in}
-use Rattle.rdl_sound_laws.proofs.Names.{IsRegister, all_registers, top_in, word_named}
+use Rattle.rdl_sound_laws.proofs.Names.{IsRegister, all_registers, word_named}
 use Rattle.rdl_sound_laws.proofs.Placed.{access, same-registers, stands, width}
 use Rattle.rdl_sound_laws.proofs.RegisterNames.{child-path, field-in-nodes, field-kind}
 use Rattle.rdl_sound_laws.proofs.Shown.{SlotIn, WordIn, bits-node, each-of, slot-from, word-from}
@@ -97,6 +100,10 @@ one-place xs i j x rising at_i at_j =
         let rise = get_or-below xs rising k l less (get-within xs l x at_l) in
         omega (arith, here, there, rise)
 
+top-node : (wanted : Option (List ℕ)) (s : Source) (t : Instance) → In (top_of wanted s) t → In (nodes wanted s) t
+unfolding nodes
+top-node wanted s t h = in-right (signals s) (flat_map (with_below most_names) (top_of wanted s)) t (in-flat (with_below most_names) (top_of wanted s) t t h (inl refl))
+
 module _ (e : Elab) (ready : IsReady e) (clean : IsListOf (meaning_fails e) []) (b : Block) (is : IsBlockOf (Some (top_name e)) e.source.now 0 b) (sound : IsSound b) where
   abbrev all : List Placed
   all = addr.registers (Some (top_name e)) e.source.now
@@ -114,7 +121,7 @@ module _ (e : Elab) (ready : IsReady e) (clean : IsListOf (meaning_fails e) []) 
           let top : In (top_of (Some (top_name e)) e.source.now) t = subst (λ xs. In xs t) (sym e_) (inl refl) in
           let own = each-in (λ n. n.path ≡ below_top []) (top_of (Some (top_name e)) e.source.now) t (tops-given (Some (top_name e)) e.source.now) top in
           let map_ = each-in (λ n. kind_of n ≡ kind.Addrmap) (top_of (Some (top_name e)) e.source.now) t (top-map (Some (top_name e)) e.source.now) top in
-          let same = one-node (Some (top_name e)) e.source.now r t (filter-in (is_a kind.Reg) (nodes_of e) r h) (top_in (Some (top_name e)) e.source.now t top) (path ∙ sym own) in
+          let same = one-node (Some (top_name e)) e.source.now r t (filter-in (is_a kind.Reg) (nodes_of e) r h) (top-node (Some (top_name e)) e.source.now t top) (path ∙ sym own) in
           let reg : is_a kind.Reg t ≡ true = ap (is_a kind.Reg) (sym same) ∙ filter-true (is_a kind.Reg) (nodes_of e) r h in
           let bad : false ≡ true = ap (same_kind kind.Reg) (sym map_) ∙ reg in cc bad
 
@@ -143,7 +150,9 @@ module _ (e : Elab) (ready : IsReady e) (clean : IsListOf (meaning_fails e) []) 
       })
     where
       word-named : In (nodes_of e) g.bits.node → IsTrue (list_all (λ c. not (c == 36)) g.bits.node.use_.name.text.now)
-      word-named i = and-right _ _ (word_named g.bits.node.use_.name.text.now (word-name g.bits.node i))
+      word-named i =
+          let word = g.bits.node.use_.name.text.now in
+          and-right (is_name word) (list_all (λ c. not (c == 36)) word) (word_named word (word-name g.bits.node i))
 
   of-word : (w : Word) → WordIn all w → WordIsApart b w
   of-word w h =
@@ -153,7 +162,8 @@ module _ (e : Elab) (ready : IsReady e) (clean : IsListOf (meaning_fails e) []) 
       let in_all = numbered-in 0 0 all h.of h.listed in
       let reg : In (registers (nodes_of e)) n = subst (λ ns. In ns n) (same-registers (Some (top_name e)) e.source.now) (in-map (λ (p : Placed). p.node) all h.of.register in_all) in
       let at = listed-from 0 0 all h.of h.listed in
-      let number : h.of.number ≡ at.0 = at.1 in
+      let behind = at.1 in
+      let number : h.of.number ≡ at.0 = omega (arith, behind) in
       let node : slice_get (registers (nodes_of e)) h.of.number ≡ Some n = ap (slice_get (registers (nodes_of e))) number ∙ ap (λ ns. slice_get ns at.0) (sym (same-registers (Some (top_name e)) e.source.now)) ∙ get-map_at (λ (p : Placed). p.node) all at.0 h.of.register at.2 in
       let most = (stands e ready.settled ready.placed h.of.register in_all).widths_.most in
       let under = h.below in

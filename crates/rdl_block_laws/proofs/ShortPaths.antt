@@ -1,5 +1,5 @@
 -- The path of a register is shorter than that of any of its fields, which has 900 bytes at most.
-use Rattle.std.proofs.Common.{◌≡◌, ◌∙◌, inl, inr, ℕ, zero, suc, ◌+◌, ◌<◌, ◌≤◌, Bool, true, false, cond, nat_lt, List, [], ◌∷◌, ◌++◌, append_assoc, flat_map, length, map, Option, Some, None, Ok, Err, refl, sym, ap, subst, arith}
+use Rattle.std.proofs.Common.{◌≡◌, ◌∙◌, inl, inr, ℕ, zero, suc, ◌+◌, ◌<◌, ◌≤◌, Bool, true, false, not, cond, nat_lt, List, [], ◌∷◌, ◌++◌, append_assoc, flat_map, length, map, Option, Some, None, Ok, Err, refl, sym, ap, subst, arith}
 use Rattle.std.specs.Prelude.{option_to_list}
 use Rattle.std.specs.List.{join_with_byte}
 use Rattle.std.proofs.lemmas.Bool.{ltb-false}
@@ -12,10 +12,10 @@ use Rattle.rdl_values.specs.Bodies.{Body, Closure, Path}
 use Rattle.rdl_values.specs.Elaborated.{nodes_of}
 use Rattle.rdl_values.specs.Faults.{at_, failures, when}
 use Rattle.rdl_values.specs.Instances.{Instance, body, children, elements, given_by, is_empty, kind_of, rows, seen_in}
-use Rattle.rdl_values.specs.NoNode.{bad_alias, depth_in, may_hold, most_names, name_twice, no_node, of_closure, of_type}
+use Rattle.rdl_values.specs.NoNode.{bad_alias, may_hold, most_names, name_twice, no_node, of_closure, of_type}
 use Rattle.rdl_values.specs.Parameters.{Bound, bad_arguments, bound_of}
 use Rattle.rdl_values.specs.Parts.{bad_array, bad_parts, dims_of, is_long, last_step, long_path}
-use Rattle.rdl_values.specs.Paths.{Step, in_node, joined, path_text, steps_in, steps_of, words_of}
+use Rattle.rdl_values.specs.Paths.{Step, depth_in, in_node, joined, path_text, steps_in, steps_of, words_of}
 use Rattle.rdl_values.specs.Uses.{Seen, Use, parent_of, seen, uses}
 use Rattle.rdl_values.specs.Values.{Outcome}
 use Rattle.rdl_values.specs.Verdict.{IsListOf}
