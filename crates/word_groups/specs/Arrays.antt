@@ -1,5 +1,5 @@
 -- Which words are those of an array's elements, and how far apart they stand.
-use Rattle.std.specs.Prelude.{ℕ, ◌+◌, ◌-◌, ◌*◌, ◌==◌, Bool, false, ◌&&◌, cond, max, min, nat_lt, List, [], ◌∷◌, ◌++◌, bytes_eq, count_by, flat_map, fold, get_or, length, map}
+use Rattle.std.specs.Prelude.{ℕ, ◌+◌, ◌-◌, ◌*◌, ◌==◌, Bool, false, ◌&&◌, cond, max, min, nat_lt, List, [], ◌∷◌, ◌++◌, Option, None, Some, bytes_eq, count_by, flat_map, fold, get_or, length, map}
 use Rattle.std.specs.List.{enumerate_from, list_all}
 use Rattle.rb_model.specs.declared.block.Block.{Block}
 use Rattle.word_groups.specs.declared.entries.Entry.{Entry}
@@ -63,10 +63,18 @@ is_array first us = nat_lt 0 (length first.indices) && list_all (is_element firs
 abbrev pub as_array : Entry → List Entry → Entry
 as_array first us = record first { lengths = lengths_of first us; strides = strides_of first us }
 
+-- one for all, where they are an array's
+abbrev pub array_of : List Entry → Option Entry
+array_of [] = None
+array_of (u ∷ us) = cond (is_array u (u ∷ us)) (Some (as_array u (u ∷ us))) None
+
 -- one for an array, else one for each word
 abbrev pub entries_of : List Entry → List Entry
 entries_of [] = []
 entries_of (u ∷ us) = cond (is_array u (u ∷ us)) (as_array u (u ∷ us) ∷ []) (u ∷ us)
 
+abbrev pub groups_of : Block → List (List Entry)
+groups_of b = groups (singles b)
+
 abbrev pub entries : Block → List Entry
-entries b = flat_map entries_of (groups (singles b))
+entries b = flat_map entries_of (groups_of b)

@@ -13,6 +13,7 @@ path_of b w = option_map_or (λ r. r.path) (slice_get b.regs w.reg) []
 
 abbrev pub single : Block → Word → Entry
 single b w = record {
+  reg = w.reg;
   path = path_of b w;
   indices = indices (path_of b w);
   number = w.number;

@@ -52,6 +52,7 @@ shows s v f = cond v.reads (option_map (λ r. r * 2 ^ s.low) (part_reset s f)) (
 
 abbrev pub part : Slot → View → Field → Part
 part s v f = record {
+  view = s.view;
   name = last_name v.path;
   low = s.low;
   from = s.from;

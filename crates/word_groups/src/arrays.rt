@@ -262,18 +262,39 @@ fn as_array(
     Ok(entry)
 }
 
+/// One entry for all words of a group, where they are the like words of all elements of an array. The only error is want of memory.
+pub fn array_of(alloc: Global, group: &[Entry]) -> Result<Option<Entry>, NoMemory>
+    ensures { IfOk result (λ r. r ≡ arrays.array_of group.now) }
+{
+    let Some(first) = group.first() else {
+        return Ok(None);
+    };
+    let strides = strides_of(alloc, first, group)?;
+    if !is_array(first, &strides, group) {
+        return Ok(None);
+    }
+    Ok(Some(as_array(alloc, first, strides, group)?))
+}
+
 fn push_entries(alloc: Global, into: &mut Vec<Entry>, group: &[Entry]) -> Result<(), NoMemory>
     ensures { OnOk result (into.new.items ≡ into.old.items ++ arrays.entries_of group.now) }
 {
-    let Some(first) = group.first() else {
-        return Ok(());
-    };
-    let strides = strides_of(alloc, first, group)?;
-    if is_array(first, &strides, group) {
-        into.push(as_array(alloc, first, strides, group)?)?;
-        return Ok(());
+    match array_of(alloc, group)? {
+        Some(entry) => {
+            into.push(entry)?;
+            Ok(())
+        }
+        None => push_copies(alloc, into, group),
     }
-    push_copies(alloc, into, group)
+}
+
+/// The words of a block in groups: those of one number, of registers whose paths differ in indices alone. The only error is want of memory.
+pub fn groups_of(alloc: Global, block: &Block) -> Result<Vec<Group>, NoMemory>
+    requires { IsSound block.now }
+    ensures { IfOk result (λ r. r.items ≡ arrays.groups_of block.now) }
+{
+    let words = singles(alloc, block)?;
+    groups(alloc, &words)
 }
 
 /// The entries of a block: of an array one, and else one for each word. The only error is want of memory.
@@ -282,8 +303,7 @@ pub fn entries_of(alloc: Global, block: &Block) -> Result<Vec<Entry>, NoMemory>
     ensures { IfOk result (λ r. r.items ≡ arrays.entries block.now) }
 {
     let mut entries = Vec::new(alloc);
-    let words = singles(alloc, block)?;
-    let groups = groups(alloc, &words)?;
+    let groups = groups_of(alloc, block)?;
     for group in &groups {
         push_entries(alloc, &mut entries, &group.items)?;
     }

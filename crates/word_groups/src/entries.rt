@@ -16,6 +16,8 @@ use std::alloc::Global;
 /// A word, or the like words of all elements of an array, of which this one is the first.
 #[derive(Drop)]
 pub struct Entry {
+    /// The number of its register in [`Block::regs`](rb_model::Block::regs).
+    pub reg: u32,
     /// Its register's path.
     pub path: Text,
     /// The indices in that path.
@@ -60,6 +62,7 @@ fn single(alloc: Global, block: &Block, word: &Word) -> Result<Entry, NoMemory>
     let path = path_of(alloc, block, word)?;
     let indices = indices(alloc, &path.bytes)?;
     Ok(Entry {
+        reg: word.reg,
         path,
         indices,
         number: word.number,
@@ -127,10 +130,11 @@ pub(crate) fn singles(alloc: Global, block: &Block) -> Result<Vec<Entry>, NoMemo
 }
 
 /// An entry of its own, the same as this. The only error is want of memory.
-pub(crate) fn copy_of_entry(alloc: Global, entry: &Entry) -> Result<Entry, NoMemory>
+pub fn copy_of_entry(alloc: Global, entry: &Entry) -> Result<Entry, NoMemory>
     ensures { IfOk result (λ r. r ≡ entry.now) }
 {
     Ok(Entry {
+        reg: entry.reg,
         path: copy_of(alloc, &entry.path)?,
         indices: copy_of_numbers(alloc, &entry.indices)?,
         number: entry.number,

@@ -8,9 +8,9 @@ mod parts;
 mod paths;
 mod places;
 
-pub use arrays::{Group, entries_of};
-pub use entries::Entry;
+pub use arrays::{Group, array_of, entries_of, groups_of};
+pub use entries::{Entry, copy_of_entry};
 pub use numbers::Numbers;
-pub use parts::{Part, Parts, resval};
-pub use paths::{push_names, push_shown};
+pub use parts::{Part, Parts, copy_of_part, resval};
+pub use paths::{is_index, names_and_indices, push_names, push_shown};
 pub use places::Places;

@@ -14,6 +14,8 @@ use std::marker::Model;
 /// Bits of a word that are bits of a field: `bits` of them, in the word from `low` on, in the field from `from` on.
 #[derive(Drop)]
 pub struct Part {
+    /// The number of its view in [`Block::views`](rb_model::Block::views).
+    pub view: u32,
     /// The field's name.
     pub name: Text,
     /// The lowest of the bits, counted in the word.
@@ -170,6 +172,7 @@ fn part_in(alloc: Global, slot: &Slot, view: &View, field: &Field) -> Result<Par
     ensures { IfOk result (λ r. r ≡ part slot.now view.now field.now) }
 {
     Ok(Part {
+        view: slot.view,
         name: last_name(alloc, &view.path.bytes)?,
         low: slot.low,
         from: slot.from,
@@ -232,10 +235,12 @@ pub(crate) fn parts_of(alloc: Global, block: &Block, word: &Word) -> Result<Part
     Ok(Parts { items })
 }
 
-fn copy_of_part(alloc: Global, part: &Part) -> Result<Part, NoMemory>
+/// A part of its own, the same as this. The only error is want of memory.
+pub fn copy_of_part(alloc: Global, part: &Part) -> Result<Part, NoMemory>
     ensures { IfOk result (λ r. r ≡ part.now) }
 {
     Ok(Part {
+        view: part.view,
         name: copy_of(alloc, &part.name)?,
         low: part.low,
         from: part.from,

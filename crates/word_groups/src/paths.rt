@@ -10,7 +10,7 @@ use rb_base::{NoMemory, Text};
 use std::alloc::Global;
 
 /// What stands before, between and behind the `$` of a path. The only error is want of memory.
-pub(crate) fn names_and_indices(alloc: Global, path: &[u8]) -> Result<Vec<Text>, NoMemory>
+pub fn names_and_indices(alloc: Global, path: &[u8]) -> Result<Vec<Text>, NoMemory>
     ensures { IfOk result (λ r. r.items ≡ paths.names_and_indices path.now) }
 {
     let mut pieces = Vec::new(alloc);
@@ -30,7 +30,7 @@ pub(crate) fn names_and_indices(alloc: Global, path: &[u8]) -> Result<Vec<Text>,
 }
 
 /// Whether a piece of a path is an index, and else a name.
-fn is_index(piece: &[u8]) -> bool
+pub fn is_index(piece: &[u8]) -> bool
     ensures { result ≡ paths.is_index piece.now }
 {
     if piece.is_empty() {
