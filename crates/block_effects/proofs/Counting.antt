@@ -1,7 +1,7 @@
 -- Counting in one direction, where the other isn't at work.
-use Rattle.std.proofs.Common.{◌≡◌, ◌∙◌, ℕ, ◌+◌, ◌-◌, ◌%◌, ◌^◌, ◌<◌, Bool, true, false, ◌&&◌, if◌then◌else◌, nat_lt, Option, None, Some, unwrap_or, add-zero, refl, sym, ap, arith}
+use Rattle.std.proofs.Common.{◌≡◌, ◌∙◌, ℕ, ◌+◌, ◌-◌, ◌%◌, ◌^◌, ◌<◌, true, if◌then◌else◌, nat_lt, Option, None, Some, unwrap_or, add-zero, ap, arith}
 use Rattle.std.proofs.Math.Nat.{add-mod_right, mod-eq_of_lt}
-use Rattle.rb_model.specs.Effects.{counted, is_over, is_under}
+use Rattle.rb_model.specs.Effects.{counted, is_under}
 use Rattle.plain_lemmas.proofs.Bools.{and-both_true}
 use Rattle.plain_lemmas.proofs.Numbers.{below-nat_lt}
 

@@ -1,10 +1,9 @@
 -- What hardware does is what is said.
-use Rattle.std.proofs.Common.{◌≡◌, ◌∙◌, ◌≢◌, ℕ, zero, suc, ◌+◌, ◌%◌, ◌^◌, ◌<◌, ◌==◌, Bool, true, false, not, ◌&&◌, cond, if◌then◌else◌, bit_or, List, [], ◌∷◌, ◌++◌, codes, map, slice_get, nat_le, Option, None, Some, unwrap_or, refl, sym, ap, subst}
+use Rattle.std.proofs.Common.{◌≡◌, ◌∙◌, ℕ, suc, Bool, true, false, not, ◌&&◌, cond, if◌then◌else◌, List, [], ◌∷◌, ◌++◌, codes, map, slice_get, nat_le, Option, None, Some, refl, ap}
 use Rattle.std.specs.Int.{bit_at}
 use Rattle.std.specs.List.{AllByRecursion}
 use Rattle.std.specs.Option.{option_map, option_map_or}
 use Rattle.rb_base.specs.Bits.{ones}
-use Rattle.rb_base.specs.declared.trigger.Trigger.{Trigger}
 use Rattle.v_design.specs.Expr.{bit_of}
 use Rattle.rb_model.specs.declared.kinds.Class.{Class}
 use Rattle.rb_model.specs.declared.kinds.Class.TheVariants.{Storage, Wire, Constant}
@@ -21,19 +20,17 @@ use Rattle.rb_model.specs.declared.kinds.Mask.TheVariants as mask
 use Rattle.rb_model.specs.declared.kinds.Part.{Part}
 use Rattle.rb_model.specs.declared.kinds.RefItem.TheVariants as item
 use Rattle.rb_model.specs.declared.kinds.Shown.{Shown}
-use Rattle.rb_model.specs.declared.block.Block.{Block}
 use Rattle.rb_model.specs.declared.block.Field.{Field}
 use Rattle.rb_model.specs.declared.block.Slot.{Slot}
 use Rattle.rb_model.specs.declared.block.View.{View}
-use Rattle.rb_model.specs.Effects.{counted, counting, events, is_gated, is_open, latched, loaded, loads}
-use Rattle.rb_model.specs.Items.{Now, ItemValues, class_value, down, fed, is_interrupt, is_on, level_value, source_value, step, up}
+use Rattle.rb_model.specs.Effects.{counted, counting, events, is_open, latched, loaded, loads}
+use Rattle.rb_model.specs.Items.{Now, ItemValues, class_value, down, fed, is_interrupt, is_on, level_value, step, up}
 use Rattle.rb_model.specs.Kept.{when}
 use Rattle.rb_model.specs.Machine.{counts, hardware, software}
 use Rattle.rb_model.specs.SoundField.{is_fed, is_wire}
-use Rattle.block_effects.specs.declared.kinds.Effect.{Effect}
 use Rattle.block_effects.specs.declared.kinds.Effect.TheVariants as effect
 use Rattle.block_effects.specs.Effects.{change_effects, count_effects, down_effects, hardware_effects, input_effects, interrupt_effect, is_constant, is_loaded, is_number, load_effect, load_effects, output_effects, source_effects, stop_down, stop_up, threshold_effects, up_effects}
-use Rattle.block_effects.specs.Says.{Says, SaysOfDown, SaysOfLatch, SaysOfUp, event_bit}
+use Rattle.block_effects.specs.Says.{Says, SaysOfLatch}
 use Rattle.block_effects.proofs.Bits.{counting-bit, event-bit, masked-bit, set-bit}
 use Rattle.block_effects.proofs.Counting.{stops_down, stops_up, wraps_down, wraps_up}
 use Rattle.block_effects.proofs.Sayings.{when_says}

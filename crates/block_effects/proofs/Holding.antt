@@ -1,16 +1,13 @@
 -- What software's accesses and the resets do is what is said.
-use Rattle.std.proofs.Common.{◌≡◌, ◌∙◌, ℕ, zero, suc, ◌+◌, ◌^◌, ◌<◌, ◌==◌, Bool, true, false, not, ◌&&◌, cond, if◌then◌else◌, is_some, List, [], ◌∷◌, ◌++◌, map, slice_get, Option, None, Some, unwrap_or, refl, sym, ap}
-use Rattle.std.specs.Int.{bit_at}
+use Rattle.std.proofs.Common.{◌≡◌, ◌∙◌, ℕ, ◌==◌, Bool, true, false, not, ◌&&◌, cond, is_some, [], ◌∷◌, ◌++◌, refl, ap}
 use Rattle.std.specs.List.{AllByRecursion}
 use Rattle.rb_model.specs.declared.kinds.OnRead.{OnRead}
 use Rattle.rb_model.specs.declared.kinds.OnRead.TheVariants as on_read
-use Rattle.rb_model.specs.declared.kinds.Shown.{Shown}
 use Rattle.rb_model.specs.declared.block.Field.{Field}
 use Rattle.rb_model.specs.declared.block.Slot.{Slot}
 use Rattle.rb_model.specs.declared.block.View.{View}
-use Rattle.rb_model.specs.Effects.{acts, after_read, has_read_effect, is_gated, is_open}
+use Rattle.rb_model.specs.Effects.{after_read, has_read_effect, is_gated, is_open}
 use Rattle.rb_model.specs.Kept.{when}
-use Rattle.block_effects.specs.declared.kinds.Effect.{Effect}
 use Rattle.block_effects.specs.declared.kinds.Effect.TheVariants as effect
 use Rattle.block_effects.specs.Effects.{access_effects, behind_effects, bits_effect, effects, has_write_effect, hardware_effects, is_whole, reset_effects}
 use Rattle.block_effects.specs.Says.{Says, value_read}

@@ -1,5 +1,5 @@
 -- Which bits of a word a read and a write have of which fields.
-use Rattle.std.proofs.Common.{◌≡◌, ◌∙◌, ◌⊎◌, inl, inr, ℕ, zero, suc, ◌+◌, ◌-◌, ◌*◌, ◌/◌, ◌%◌, ◌^◌, ◌<◌, ◌≤◌, ◌==◌, Bool, true, false, not, ◌&&◌, ◌||◌, IsTrue, cond, if◌then◌else◌, bit_or, fold, get_or, max, nat_le, nat_lt, List, [], ◌∷◌, length, slice_get, Option, None, Some, add-zero, refl, sym, ap, subst, arith}
+use Rattle.std.proofs.Common.{◌≡◌, ◌∙◌, ◌⊎◌, inl, inr, ℕ, zero, suc, ◌+◌, ◌-◌, ◌*◌, ◌/◌, ◌%◌, ◌^◌, ◌<◌, ◌≤◌, ◌==◌, Bool, true, false, not, ◌&&◌, IsTrue, cond, if◌then◌else◌, bit_or, fold, get_or, max, nat_le, nat_lt, List, [], ◌∷◌, slice_get, Some, add-zero, refl, sym, ap, subst, arith}
 use Rattle.std.specs.Int.{bit_at}
 use Rattle.std.specs.List.{AllPairs, list_any}
 use Rattle.std.specs.Option.{option_map_or}
@@ -20,7 +20,7 @@ use Rattle.rb_model.specs.Machine.{read_data, slot_bits, slot_value, slot_writte
 use Rattle.rb_model.specs.References.{Each}
 use Rattle.rb_model.specs.Sound.{SlotIsSound, StandTogether, WordIsSound, share_bit, view_passes}
 use Rattle.block_effects.specs.Lanes.{covers, shows_at}
-use Rattle.plain_lemmas.proofs.Bools.{and-both, and-both_true, or-left_false, or-right_false, or-true_right}
+use Rattle.plain_lemmas.proofs.Bools.{and-both, and-both_true, or-left_false, or-right_false}
 use Rattle.plain_lemmas.proofs.Lists.{any-get, get-at, get-within}
 use Rattle.plain_lemmas.proofs.Numbers.{at-most, below-nat_lt, less, most}
 

@@ -1,12 +1,11 @@
 -- What a reset does to a field's value is what is said.
-use Rattle.std.proofs.Common.{◌≡◌, ◌∙◌, ℕ, ◌==◌, Bool, true, false, not, ◌&&◌, if◌then◌else◌, slice_get, Option, Some, unwrap_or, refl, sym, ap}
+use Rattle.std.proofs.Common.{◌≡◌, ◌∙◌, ℕ, ◌==◌, Bool, true, false, not, ◌&&◌, if◌then◌else◌, slice_get, Option, Some, unwrap_or, refl, ap}
 use Rattle.std.specs.Option.{option_map_or}
 use Rattle.v_design.specs.Expr.{Values}
 use Rattle.rb_model.specs.declared.block.Block.{Block}
 use Rattle.rb_model.specs.declared.block.Field.{Field}
-use Rattle.rb_model.specs.Items.{Now, ItemValues}
-use Rattle.rb_model.specs.Kept.{Map, Val}
-use Rattle.rb_model.specs.Machine.{held, is_asserted, moved, next, reset_pin}
+use Rattle.rb_model.specs.Kept.{Val}
+use Rattle.rb_model.specs.Machine.{is_asserted, moved}
 use Rattle.block_effects.specs.Says.{IsAtReset, SaysOfReset}
 use Rattle.plain_lemmas.proofs.Bools.{and-false}
 use Rattle.plain_lemmas.proofs.Numbers.{eq-itself}

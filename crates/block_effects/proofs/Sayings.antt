@@ -1,5 +1,5 @@
 -- What holds of an effect that is listed where a test passes.
-use Rattle.std.proofs.Common.{◌≡◌, Bool, true, false, ◌||◌, List, [], ◌∷◌, refl, sym, ap, ◌∙◌}
+use Rattle.std.proofs.Common.{◌≡◌, Bool, true, false, ◌||◌, refl, sym, ap, ◌∙◌}
 use Rattle.std.specs.List.{AllByRecursion, list_any}
 use Rattle.rb_model.specs.Kept.{when}
 use Rattle.block_effects.specs.declared.kinds.Effect.{Effect}

@@ -7,11 +7,8 @@ use Rattle.rb_model.specs.declared.kinds.Count.{Count}
 use Rattle.rb_model.specs.declared.kinds.Feed.{Feed}
 use Rattle.rb_model.specs.declared.kinds.Feed.TheVariants as feed
 use Rattle.rb_model.specs.declared.kinds.Gate.{Gate}
-use Rattle.rb_model.specs.declared.kinds.Gate.TheVariants as gate
 use Rattle.rb_model.specs.declared.kinds.Level.{Level}
 use Rattle.rb_model.specs.declared.kinds.Level.TheVariants as level
-use Rattle.rb_model.specs.declared.kinds.OnRead.{OnRead}
-use Rattle.rb_model.specs.declared.kinds.OnRead.TheVariants as on_read
 use Rattle.rb_model.specs.declared.kinds.OnWrite.{OnWrite}
 use Rattle.rb_model.specs.declared.kinds.OnWrite.TheVariants as on_write
 use Rattle.rb_model.specs.declared.kinds.Part.{Part}

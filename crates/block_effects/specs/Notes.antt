@@ -1,5 +1,5 @@
 -- What a source says of a part of a block.
-use Rattle.std.specs.Prelude.{◌≡◌, ℕ, List, Option}
+use Rattle.std.specs.Prelude.{ℕ, List, Option}
 
 -- the bytes between the quotes of its `name` and `desc`
 pub record Said : Type 0 where

@@ -1,11 +1,10 @@
 -- What each effect says, over the register machine (SystemRDL 2.0, clause 9).
-use Rattle.std.specs.Prelude.{◌≡◌, ◌≢◌, ℕ, ◌+◌, ◌-◌, ◌%◌, ◌^◌, ◌<◌, ◌≤◌, ◌==◌, Bool, true, false, cond, if◌then◌else◌, unwrap_or, List, ◌++◌, codes, slice_get, Some, nat_le}
+use Rattle.std.specs.Prelude.{◌≡◌, ◌≢◌, ℕ, ◌+◌, ◌-◌, ◌%◌, ◌^◌, ◌<◌, ◌==◌, Bool, true, false, cond, if◌then◌else◌, unwrap_or, ◌++◌, codes, slice_get, Some, nat_le}
 use Rattle.std.specs.Int.{bit_at}
 use Rattle.rb_base.specs.Bits.{ones}
 use Rattle.rb_base.specs.declared.trigger.Trigger.{Trigger}
 use Rattle.rb_base.specs.declared.trigger.Trigger.TheVariants as trigger
 use Rattle.v_design.specs.Expr.{Values, bit_of}
-use Rattle.rb_model.specs.declared.kinds.Gate.{Gate}
 use Rattle.rb_model.specs.declared.kinds.Latch.{Latch}
 use Rattle.rb_model.specs.declared.kinds.Latch.TheVariants as latch
 use Rattle.rb_model.specs.declared.kinds.Mask.{Mask}
@@ -15,7 +14,6 @@ use Rattle.rb_model.specs.declared.kinds.OnRead.TheVariants as on_read
 use Rattle.rb_model.specs.declared.kinds.OnWrite.{OnWrite}
 use Rattle.rb_model.specs.declared.kinds.OnWrite.TheVariants as on_write
 use Rattle.rb_model.specs.declared.kinds.Part.{Part}
-use Rattle.rb_model.specs.declared.kinds.RefItem.{RefItem}
 use Rattle.rb_model.specs.declared.kinds.RefItem.TheVariants as item
 use Rattle.rb_model.specs.declared.kinds.ResetBy.{ResetBy}
 use Rattle.rb_model.specs.declared.block.Block.{Block}

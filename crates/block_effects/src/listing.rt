@@ -1,6 +1,6 @@
 //! The effects of a field, in the order of a manual's sentences.
 
-ghost use Rattle.std.specs.Prelude.{◌≡◌, ◌<◌, ◌≤◌, ◌+◌, ◌-◌, ◌++◌, ◌^◌, IfOk, OnOk, map};
+ghost use Rattle.std.specs.Prelude.{◌≡◌, ◌<◌, ◌≤◌, ◌+◌, ◌++◌, IfOk, OnOk, map};
 ghost use Rattle.block_effects.specs.Effects as spec;
 ghost use Rattle.block_effects.specs.declared.kinds.Effect.TheVariants as effect;
 ghost use Rattle.rb_model.specs.Kept.{when};

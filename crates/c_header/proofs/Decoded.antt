@@ -8,7 +8,7 @@ use Rattle.word_groups.specs.declared.entries.Entry.{Entry}
 use Rattle.word_groups.specs.declared.parts.Part.{Part}
 use Rattle.word_groups.specs.Arrays.{as_array, distance, entries, entries_of, groups, has_key, is_array, is_element, key, length_at, placed, stride_at, strides_of}
 use Rattle.word_groups.specs.Entries.{all_words, path_of, single, singles}
-use Rattle.c_header.specs.Laws.{AreBelow, Has, IsEntryOf}
+use Rattle.c_header.specs.Laws.{AreBelow, Has, IsEntryOf, without_view}
 use Rattle.word_groups.specs.Parts.{are_like, have_like_access, have_like_bits, have_like_names, is_like, same_bool, same_reset}
 use Rattle.word_groups.specs.Paths.{indices, is_index, names_and_indices, names_of, number_of, with_digit}
 use Rattle.plain_lemmas.proofs.Bools.{and-left, and-right}
@@ -88,7 +88,7 @@ all_come gs [] u h = cc h.1
 all_come gs (v ∷ us) u (zero, e) = let same : v ≡ u = cc e in subst (λ (w : Entry). GroupIn (fold placed (placed gs v) us) w) same (all_stay (placed gs v) us v (comes gs v))
 all_come gs (v ∷ us) u (suc n, e) = all_come (placed gs v) us u (n, e)
 
--- Alike parts are one
+-- Alike parts are one but for their views
 
 bool-same : (a b : Bool) → same_bool a b ≡ true → a ≡ b
 bool-same true true e = refl
@@ -102,7 +102,7 @@ reset-same None (Some n) e = cc e
 reset-same (Some m) None e = cc e
 reset-same (Some m) (Some n) e = ap Some (eq-same m n e)
 
-like-same : (p q : Part) → is_like p q ≡ true → p ≡ q
+like-same : (p q : Part) → is_like p q ≡ true → without_view p ≡ without_view q
 like-same p q h =
     let numbers = and-left (have_like_bits p q && have_like_access p q) (have_like_names p q) h in
     let texts = and-right (have_like_bits p q && have_like_access p q) (have_like_names p q) h in
@@ -122,9 +122,9 @@ like-same p q h =
     let bits = eq-same p.bits q.bits (and-right (p.low == q.low && p.from == q.from) (p.bits == q.bits) lows) in
     let from = eq-same p.from q.from (and-right (p.low == q.low) (p.from == q.from) starts) in
     let low = eq-same p.low q.low (and-left (p.low == q.low) (p.from == q.from) starts) in
-    λ i. record { name = name i; low = low i; from = from i; bits = bits i; mask = mask i; whole = whole i; reads = reads i; access = access i; reset = reset i; shows = shows i }
+    λ i. record { view = 0; name = name i; low = low i; from = from i; bits = bits i; mask = mask i; whole = whole i; reads = reads i; access = access i; reset = reset i; shows = shows i }
 
-pub likes-same : (ps qs : List Part) → are_like ps qs ≡ true → ps ≡ qs
+pub likes-same : (ps qs : List Part) → are_like ps qs ≡ true → map without_view ps ≡ map without_view qs
 likes-same [] [] h = refl
 likes-same [] (q ∷ qs) h = cc h
 likes-same (p ∷ ps) [] h = cc h

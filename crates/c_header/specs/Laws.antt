@@ -1,5 +1,5 @@
 -- What a header says of the words of a block.
-use Rattle.std.specs.Prelude.{◌≡◌, ℕ, ◌-◌, ◌*◌, ◌^◌, ◌<◌, false, IsTrue, List, [], ◌∷◌, Some, length, slice_get}
+use Rattle.std.specs.Prelude.{◌≡◌, ℕ, ◌-◌, ◌*◌, ◌^◌, ◌<◌, false, IsTrue, List, [], ◌∷◌, Some, length, map, slice_get}
 use Rattle.rb_model.specs.declared.block.Block.{Block}
 use Rattle.rb_model.specs.declared.block.Field.{Field}
 use Rattle.rb_model.specs.declared.block.Slot.{Slot}
@@ -24,6 +24,10 @@ AreBelow is [] = Unit {0}
 AreBelow [] (n ∷ ns) = Unit {0}
 AreBelow (i ∷ is) (n ∷ ns) = (i < n) × AreBelow is ns
 
+-- A part but for the number of its view, which no macro tells: an array's parts have those of its first element.
+abbrev pub without_view : Part → Part
+without_view p = record p { view = 0 }
+
 -- The entry says of the word, at the indices of its register, where it stands, how wide it is and what it shows.
 pub record IsEntryOf (b : Block) (w : Word) (e : Entry) : Type 0 where
   pub names : names_of e.path ≡ names_of (path_of b w)
@@ -31,7 +35,7 @@ pub record IsEntryOf (b : Block) (w : Word) (e : Entry) : Type 0 where
   pub offset : value_at (Offset e.address e.strides) (indices (path_of b w)) ≡ w.address
   pub counts : AreBelow (indices (path_of b w)) e.lengths
   pub width : e.bytes * 8 ≡ w.width
-  pub parts : e.parts ≡ parts b w
+  pub parts : map without_view e.parts ≡ map without_view (parts b w)
   pub alone : e.strides ≡ [] → e.path ≡ path_of b w
 
 -- The part says of the slot where its bits stand, in the word and in the field.
