@@ -1,5 +1,5 @@
 -- What hardware does is what is said.
-use Rattle.std.proofs.Common.{◌≡◌, ◌∙◌, ℕ, suc, Bool, true, false, not, ◌&&◌, cond, if◌then◌else◌, List, [], ◌∷◌, ◌++◌, codes, map, slice_get, nat_le, Option, None, Some, refl, ap}
+use Rattle.std.proofs.Common.{◌≡◌, ◌∙◌, ◌≢◌, ℕ, suc, ◌==◌, Bool, true, false, not, ◌&&◌, cond, if◌then◌else◌, List, [], ◌∷◌, ◌++◌, codes, map, slice_get, nat_le, Option, None, Some, refl, ap}
 use Rattle.std.specs.Int.{bit_at}
 use Rattle.std.specs.List.{AllByRecursion}
 use Rattle.std.specs.Option.{option_map, option_map_or}
@@ -23,14 +23,14 @@ use Rattle.rb_model.specs.declared.kinds.Shown.{Shown}
 use Rattle.rb_model.specs.declared.block.Field.{Field}
 use Rattle.rb_model.specs.declared.block.Slot.{Slot}
 use Rattle.rb_model.specs.declared.block.View.{View}
-use Rattle.rb_model.specs.Effects.{counted, counting, events, is_open, latched, loaded, loads}
-use Rattle.rb_model.specs.Items.{Now, ItemValues, class_value, down, fed, is_interrupt, is_on, level_value, step, up}
-use Rattle.rb_model.specs.Kept.{when}
+use Rattle.rb_model.specs.Effects.{counted, counting, events, is_open, latched, loaded, loads, masked, set_or_cleared}
+use Rattle.rb_model.specs.Items.{Now, ItemValues, class_value, down, fed, gated, is_interrupt, is_on, level_value, mask_value, source_value, step, up}
+use Rattle.rb_model.specs.Kept.{Last, when}
 use Rattle.rb_model.specs.Machine.{counts, hardware, software}
 use Rattle.rb_model.specs.SoundField.{is_fed, is_wire}
 use Rattle.block_effects.specs.declared.kinds.Effect.TheVariants as effect
 use Rattle.block_effects.specs.Effects.{change_effects, count_effects, down_effects, hardware_effects, input_effects, interrupt_effect, is_constant, is_loaded, is_number, load_effect, load_effects, output_effects, source_effects, stop_down, stop_up, threshold_effects, up_effects}
-use Rattle.block_effects.specs.Says.{Says, SaysOfLatch}
+use Rattle.block_effects.specs.Says.{Says, SaysOfClear, SaysOfKeep, SaysOfLatch, SaysOfSet}
 use Rattle.block_effects.proofs.Bits.{counting-bit, event-bit, masked-bit, set-bit}
 use Rattle.block_effects.proofs.Counting.{stops_down, stops_up, wraps_down, wraps_up}
 use Rattle.block_effects.proofs.Sayings.{when_says}
@@ -140,6 +140,29 @@ count_says s v f (Some c) e = each-append (Says s v f) (up_effects c.up c.high +
 
 -- Changes and outputs
 
+-- the value before it is set or cleared
+abbrev latest : Now → ItemValues → ℕ → Field → ℕ → ℕ
+latest n u k f x = latched f.latch f.width (counts n u f (loaded f x (source_value n u f) (gated n u f.gate (codes "we$") (codes "wel$") f.path))) (source_value n u f) (n.kept (Last k))
+
+all_set : (w v set clear : ℕ) → set ≡ 1 → clear ≢ 1 → set_or_cleared w v set clear ≡ ones w
+all_set w v set clear h free = ap (λ c. if c then 0 else (if set == 1 then ones w else v)) (not-number clear 1 free) ∙ ap (λ n. if n == 1 then ones w else v) h
+
+all_cleared : (w v set clear : ℕ) → clear ≡ 1 → set_or_cleared w v set clear ≡ 0
+all_cleared w v set clear h = ap (λ n. if n == 1 then 0 else (if set == 1 then ones w else v)) h
+
+set_says : (f : Field) → SaysOfSet f.set f
+set_says f n u k x h free = ap (λ v. masked f.keep f.width x v (mask_value u f.keep))
+    (all_set f.width (latest n u k f x) (fed n u f.set (codes "hwset$" ++ f.path)) (fed n u f.clear (codes "hwclr$" ++ f.path)) h free)
+
+clear_says : (f : Field) → SaysOfClear f.clear f
+clear_says f n u k x h = ap (λ v. masked f.keep f.width x v (mask_value u f.keep))
+    (all_cleared f.width (latest n u k f x) (fed n u f.set (codes "hwset$" ++ f.path)) (fed n u f.clear (codes "hwclr$" ++ f.path)) h)
+
+keep_says : (f : Field) → SaysOfKeep f.keep f
+keep_says f n u k x i h g hidden =
+    let v = set_or_cleared f.width (latest n u k f x) (fed n u f.set (codes "hwset$" ++ f.path)) (fed n u f.clear (codes "hwclr$" ++ f.path)) in
+    masked-bit f.keep f.width x v (mask_value u f.keep) i h g ∙ ap (λ c. cond c (bit_at v i) (bit_at x i)) hidden
+
 change_says : (s : Slot) (v : View) (f : Field) → AllByRecursion (Says s v f) (change_effects f)
 change_says s v f =
     let P = Says s v f in
@@ -147,9 +170,9 @@ change_says s v f =
     let clears = when (is_fed f.clear) (effect.ClearedWhile f.clear) in
     each-append P (sets ++ clears) (when (is_on f.keep) (effect.Keeps f.keep))
     (each-append P sets clears
-    (when_says P (is_fed f.set) (effect.SetWhile f.set) (λ h. (refl, λ w x. refl)))
-    (when_says P (is_fed f.clear) (effect.ClearedWhile f.clear) (λ h. (refl, λ w x set. refl))))
-    (when_says P (is_on f.keep) (effect.Keeps f.keep) (λ h. (refl, λ old u x k g l. masked-bit f.keep f.width old u x k g l)))
+    (when_says P (is_fed f.set) (effect.SetWhile f.set) (λ h. set_says f))
+    (when_says P (is_fed f.clear) (effect.ClearedWhile f.clear) (λ h. clear_says f)))
+    (when_says P (is_on f.keep) (effect.Keeps f.keep) (λ h. keep_says f))
 
 interrupt_says : (s : Slot) (v : View) (f : Field) (m : Mask) → f.enable ≡ m → Says s v f (cond (is_on m) (effect.Interrupts m) effect.AllInterrupt)
 interrupt_says s v f mask.Off e = λ x y. ap (λ m. counting m f.width x y) e

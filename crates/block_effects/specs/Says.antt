@@ -5,6 +5,7 @@ use Rattle.rb_base.specs.Bits.{ones}
 use Rattle.rb_base.specs.declared.trigger.Trigger.{Trigger}
 use Rattle.rb_base.specs.declared.trigger.Trigger.TheVariants as trigger
 use Rattle.v_design.specs.Expr.{Values, bit_of}
+use Rattle.rb_model.specs.declared.kinds.Feed.{Feed}
 use Rattle.rb_model.specs.declared.kinds.Latch.{Latch}
 use Rattle.rb_model.specs.declared.kinds.Latch.TheVariants as latch
 use Rattle.rb_model.specs.declared.kinds.Mask.{Mask}
@@ -20,8 +21,8 @@ use Rattle.rb_model.specs.declared.block.Block.{Block}
 use Rattle.rb_model.specs.declared.block.Field.{Field}
 use Rattle.rb_model.specs.declared.block.Slot.{Slot}
 use Rattle.rb_model.specs.declared.block.View.{View}
-use Rattle.rb_model.specs.Effects.{acts, after_read, counting, is_open, latched, loaded, masked, set_or_cleared, written}
-use Rattle.rb_model.specs.Items.{Now, ItemValues, amount_value, class_value, down, fed, level_value, made, source_value, up}
+use Rattle.rb_model.specs.Effects.{acts, after_read, counting, is_open, latched, loaded, masked, written}
+use Rattle.rb_model.specs.Items.{Now, ItemValues, amount_value, class_value, down, fed, level_value, made, mask_value, source_value, up}
 use Rattle.rb_model.specs.Kept.{Map, Val}
 use Rattle.rb_model.specs.Machine.{changed, counts, hardware, held, next, reset_pin, software}
 use Rattle.block_effects.specs.declared.kinds.Effect.{Effect}
@@ -68,15 +69,20 @@ SaysOfLatch (latch.Whole e) f = ((x input last : ℕ) → x ≢ 0 → latched f.
     → bit_at (latched f.latch f.width 0 input last) k ≡ cond (event_bit e (bit_at input k) (bit_at last k)) 1 0)
 SaysOfLatch latch.Plain f = (x input last : ℕ) → latched f.latch f.width x input last ≡ x
 
+-- a mask whose bit is x lets a bit through
+abbrev pub lets : Mask → ℕ → Bool
+lets mask.Off x = true
+lets (mask.Enable i) x = x == 1
+lets (mask.Mask i) x = x == 0
+
 -- of two bits the first where the mask's bit x lets it through, else the second
 abbrev pub masked_bit : Mask → (x first second : ℕ) → ℕ
-masked_bit mask.Off x first second = first
-masked_bit (mask.Enable i) x first second = cond (x == 1) first second
-masked_bit (mask.Mask i) x first second = cond (x == 0) first second
+masked_bit m x first second = cond (lets m x) first second
 
+-- a bit that the mask doesn't let through stays at an edge
 abbrev pub SaysOfKeep : Mask → Field → Type 0
-SaysOfKeep m f = (old v x k : ℕ) → x < 2 ^ f.width → k < f.width
-    → bit_at (masked f.keep f.width old v x) k ≡ masked_bit m (bit_at x k) (bit_at v k) (bit_at old k)
+SaysOfKeep m f = (n : Now) (u : ItemValues) (k x i : ℕ) → mask_value u m < 2 ^ f.width → i < f.width → lets m (bit_at (mask_value u m) i) ≡ false
+    → bit_at (hardware n u k f x) i ≡ bit_at x i
 
 -- which bits of an interrupt count under a mask
 abbrev pub SaysOfCounting : (is said : Mask) → (w : ℕ) → Type 0
@@ -92,6 +98,16 @@ SaysOfUp p f = (n : Now) (v : ItemValues)
 abbrev pub SaysOfDown : Part → Field → Type 0
 SaysOfDown p f = (n : Now) (v : ItemValues)
     → down n v f ≡ if fed n v p.pulse (codes "decr$" ++ f.path) == 0 then 0 else amount_value n v p.amount (codes "decrvalue$" ++ f.path)
+
+-- Setting and clearing all bits that the mask of the field lets through
+
+abbrev pub SaysOfSet : Feed → Field → Type 0
+SaysOfSet from f = (n : Now) (u : ItemValues) (k x : ℕ) → fed n u from (codes "hwset$" ++ f.path) ≡ 1 → fed n u f.clear (codes "hwclr$" ++ f.path) ≢ 1
+    → hardware n u k f x ≡ masked f.keep f.width x (ones f.width) (mask_value u f.keep)
+
+abbrev pub SaysOfClear : Feed → Field → Type 0
+SaysOfClear from f = (n : Now) (u : ItemValues) (k x : ℕ) → fed n u from (codes "hwclr$" ++ f.path) ≡ 1
+    → hardware n u k f x ≡ masked f.keep f.width x 0 (mask_value u f.keep)
 
 -- Resets
 
@@ -131,9 +147,9 @@ Says s v f (effect.UpperThreshold l) = (b : Block) (n : Now) (u : ItemValues) (k
     → made b n u (item.IncrThreshold k) ≡ bit_of (nat_le (level_value u l) (u (item.Field k)))
 Says s v f (effect.LowerThreshold l) = (b : Block) (n : Now) (u : ItemValues) (k : ℕ) → slice_get b.fields k ≡ Some f
     → made b n u (item.DecrThreshold k) ≡ bit_of (nat_le (u (item.Field k)) (level_value u l))
-Says s v f (effect.SetWhile i) = (f.set ≡ i) × ((w x : ℕ) → set_or_cleared w x 1 0 ≡ ones w)
-Says s v f (effect.ClearedWhile i) = (f.clear ≡ i) × ((w x set : ℕ) → set_or_cleared w x set 1 ≡ 0)
-Says s v f (effect.Keeps m) = (f.keep ≡ m) × SaysOfKeep m f
+Says s v f (effect.SetWhile from) = SaysOfSet from f
+Says s v f (effect.ClearedWhile from) = SaysOfClear from f
+Says s v f (effect.Keeps m) = SaysOfKeep m f
 Says s v f (effect.Interrupts m) = (f.enable ≡ m) × SaysOfCounting f.enable m f.width
 Says s v f effect.AllInterrupt = (x y : ℕ) → counting f.enable f.width x y ≡ x
 Says s v f (effect.Halts m) = (f.halt ≡ m) × SaysOfCounting f.halt m f.width
