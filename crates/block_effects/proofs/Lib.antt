@@ -1,0 +1,8 @@
+mod Absent
+mod Bits
+mod Counting
+mod Holding
+mod Hardware
+mod Lanes
+mod Resets
+mod Sayings

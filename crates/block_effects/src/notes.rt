@@ -1,0 +1,36 @@
+//! What a source says of the parts of a block.
+
+use std::marker::Model;
+
+/// The `name` and `desc` of a part: the bytes between the quotes, with their backslashes.
+#[derive(Drop)]
+pub struct Note<'a> {
+    pub name: Option<&'a [u8]>,
+    pub desc: Option<&'a [u8]>,
+}
+
+impl<'a> Model for Note<'a> {
+    ghost use Rattle.std.specs.Prelude.{option_copied};
+    ghost use Rattle.block_effects.specs.Notes.{Said};
+
+    ghost Value = { Said };
+
+    ghost view = { λ n. record { name = option_copied n.name; desc = option_copied n.desc } };
+}
+
+/// The notes of a block: of its top, and of its registers, views and signals by their numbers.
+#[derive(Drop)]
+pub struct Notes<'a> {
+    pub top: Note<'a>,
+    pub regs: Vec<Note<'a>>,
+    pub views: Vec<Note<'a>>,
+    pub signals: Vec<Note<'a>>,
+}
+
+impl<'a> Model for Notes<'a> {
+    ghost use Rattle.block_effects.specs.Notes.{AllSaid};
+
+    ghost Value = { AllSaid };
+
+    ghost view = { λ n. record { top = n.top; regs = n.regs.items; views = n.views.items; signals = n.signals.items } };
+}
