@@ -10,4 +10,8 @@ returns-in-Ok-describe c =
     let none = subst (IsListOf (meaning_fails e)) (nothing c.in-Ok.failures.items c.in-Ok.failures.len c.in-Ok.failures.ok.0 (sym c.is_empty.ensures ∙ c.if-not-is_empty.false)) c.in-Ok.ensures in
     let primaries = c.aliases_have_primaries.ensures e c.in-Ok-rows.rows.items c.requires.ready.clean c.in-Ok-rows.ensures in
     let block = c.in-Ok-describe.ensures in
-    record { clean = none; block = block; sound = c.blocks_are_sound.ensures e c.in-Ok-describe.block c.requires.ready c.requires.forms none primaries block }
+    let sound = c.blocks_are_sound.ensures e c.in-Ok-describe.block c.requires.ready c.requires.forms none primaries block in
+    record {
+      answers = record { clean = none; block = block; sound = sound };
+      apart = c.words_are_apart.ensures e c.in-Ok-describe.block c.requires.ready none block sound;
+    }
