@@ -19,7 +19,7 @@ use Rattle.rdl_check.specs.Trees.{HaveOneForm}
 use Rattle.rdl_rules.specs.Answers.{meaning_fails}
 use Rattle.rdl_rules.specs.declared.settled.Settled.{Settled}
 use Rattle.rdl_verdict.specs.Answers.{IsJudged, Judges, Refuses}
-use Rattle.rdl_verdict.specs.Steps.{FailsLate, HasAll, HasNone, HasOne, IsClear, IsGrown}
+use Rattle.rdl_verdict.specs.Steps.{FailsLate, HasAll, HasOne, IsClear, IsGrown}
 use Rattle.rdl_verdict.specs.Verdict.{IsVerdict, tree}
 use Rattle.rdl_verdict.specs.declared.error.JudgeError.{JudgeError}
 use Rattle.rdl_verdict.specs.declared.error.JudgeError.TheVariants as error
@@ -61,10 +61,6 @@ judged-own wanted text e known b of reads h same clean x = record {
     apart = x.apart;
   };
 }
-
--- no failure at all
-pub none-fails : (wanted : Option (List ℕ)) (text : List ℕ) (e : Elab) → IsGrown wanted text e → HasNone e → IsVerdict wanted text []
-none-fails wanted text e g n = tree e.source.now g.reads (inr (g.tree.clean, later wanted (Some (top_name e)) e.source.now g.top [] (inr (n.settled, inr (second-alone e [] n.placed n.bound, inr (n.meaning, refl))))))
 
 -- The tree is of the source that was read.
 

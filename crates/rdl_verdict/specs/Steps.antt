@@ -50,13 +50,6 @@ pub record IsGrown (wanted : Option (List ℕ)) (text : List ℕ) (e : Elab) : T
   pub words : HasWords (Some (top_name e)) e.source.now
   pub forms : HaveOneForm e
 
--- No later phase has a failure.
-pub record HasNone (e : Elab) : Type 0 where
-  pub settled : IsSettled e
-  pub placed : IsPlaced e
-  pub bound : IsBound e
-  pub meaning : IsListOf (meaning_fails e) []
-
 -- No later phase has a failure, and the block is the tree's.
 pub record IsClear (e : Elab) (b : Block) : Type 0 where
   pub settled : IsSettled e

@@ -1,6 +1,6 @@
 //! `judge`.
 
-ghost use Rattle.std.specs.Prelude.{◌≡◌, ◌<◌, ◌^◌, ◌-◌, ℕ, IfErr, IfOk, List, [], OnOk, Option, Some, length, option_copied};
+ghost use Rattle.std.specs.Prelude.{◌≡◌, ◌<◌, ◌^◌, ◌-◌, ℕ, IfErr, IfOk, List, Option, Some, length, option_copied};
 ghost use Rattle.rdl_values.specs.Elaborated.{HasWords, top_name};
 ghost use Rattle.rdl_values.specs.Elaboration.{IsClean};
 ghost use Rattle.rdl_layers.specs.Answers.{IsSettled};
@@ -8,10 +8,9 @@ ghost use Rattle.rb_model.specs.Apart.{IsApart};
 ghost use Rattle.rdl_rules.specs.Facts.{AreFacts};
 ghost use Rattle.rdl_rules.specs.Answers.{IsBlockFor, meaning_fails};
 ghost use Rattle.rdl_check.specs.Trees.{HaveOneForm};
-ghost use Rattle.rdl_values.specs.Verdict.{IsListOf};
 ghost use Rattle.rdl_verdict.specs.Answers.{IsJudged, Judges, Refuses};
-ghost use Rattle.rdl_verdict.specs.Steps.{FailsLate, HasAll, HasNone, IsClear, IsGrown, IsStood};
-ghost use Rattle.rdl_verdict.specs.Verdict.{IsVerdict, accesses};
+ghost use Rattle.rdl_verdict.specs.Steps.{FailsLate, HasAll, IsClear, IsGrown, IsStood};
+ghost use Rattle.rdl_verdict.specs.Verdict.{accesses};
 
 use crate::error::JudgeError;
 use crate::phases::{Stood, grow, read, set, stand};
@@ -22,7 +21,7 @@ use rdl_base::Fault;
 use rdl_check::check;
 use rdl_failures::PhaseError;
 use rdl_lexer::spelled_in_order;
-use rdl_meaning_rules::{access_failures, meaning_failures};
+use rdl_meaning_rules::access_failures;
 use rdl_nodes::{derived_forms_are_single, forms_are_single, names_are_words};
 use rdl_rules::Settled;
 use rdl_tree::{Elab, derived_in_order};
@@ -119,67 +118,6 @@ pub fn judge<'a>(
     let elab = tree_of(alloc, arena, text, top)?;
     let judged = describe(alloc, arena, elab)?;
     Ok(judged)
-}
-
-// Nothing where no rule on meaning fails, or all failures of the last phase.
-fn find_no_meaning_failures<'a>(
-    alloc: Global,
-    elab: &Elab<'a>,
-    settled: &Settled<'a>,
-    stood: &Stood<'a>,
-) -> Result<(), JudgeError>
-    requires clean { IsClean elab.now }
-    requires settled { IsSettled elab.now }
-    requires props { settled.now.props ≡ elab.now }
-    requires facts { AreFacts elab.now settled.now.facts.items }
-    requires stood { IsStood elab.now stood.now }
-    ensures none { OnOk result (IsListOf (meaning_fails elab.now) []) }
-    ensures error { IfErr result (HasAll (meaning_fails elab.now)) }
-{
-    let Ok(list) = meaning_failures(
-        alloc,
-        &settled.props,
-        &stood.map,
-        &stood.refs,
-        &settled.facts,
-        elab,
-    ) else {
-        return Err(JudgeError::NoMemory);
-    };
-    if list.is_empty() {
-        Ok(())
-    } else {
-        Err(JudgeError::Faults(list))
-    }
-}
-
-// Nothing where no later phase of a tree has a failure, or those of the first that has any.
-fn judge_later<'a>(alloc: Global, arena: &'a Bump, elab: &Elab<'a>) -> Result<(), JudgeError>
-    requires { IsClean elab.now }
-    ensures none { OnOk result (HasNone elab.now) }
-    ensures error { IfErr result (FailsLate elab.now) }
-{
-    let settled = set(alloc, arena, elab)?;
-    let stood = stand(alloc, elab, &settled.props)?;
-    find_no_meaning_failures(alloc, elab, &settled, &stood)?;
-    Ok(())
-}
-
-/// The verdict of a source alone, without its block: nothing where it breaks no rule, or the failures of the first phase that has any.
-/// The top is as that of [`judge`].
-pub fn verdict<'a>(
-    alloc: Global,
-    arena: &'a Bump,
-    text: &'a [u8],
-    top: Option<&str>,
-) -> Result<(), JudgeError>
-    requires { length text.now < 2 ^ 32 - 1 }
-    ensures none { OnOk result (IsVerdict (option_copied top.entry) text.now []) }
-    ensures error { IfErr result (Refuses (option_copied top.entry) text.now) }
-{
-    let elab = tree_of(alloc, arena, text, top)?;
-    judge_later(alloc, arena, &elab)?;
-    Ok(())
 }
 
 /// The registers of a source that breaks no rule which a bus of 32 data bits doesn't access 32 bits at once, as failures by place.

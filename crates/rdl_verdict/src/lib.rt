@@ -7,5 +7,5 @@ mod laws;
 mod phases;
 
 pub use error::JudgeError;
-pub use judging::{Judged, judge, judge_accesses, verdict};
+pub use judging::{Judged, judge, judge_accesses};
 pub use laws::one_list;
