@@ -1,0 +1,4 @@
+pub mod Escaped
+pub mod Safe
+pub mod Tags
+pub mod Writing
