@@ -1,7 +1,7 @@
 //! Names, drivers, widths and loops at fault.
 ghost use Rattle.std.specs.Prelude.{◌≡◌, ◌∷◌, [], IfOk, map};
 ghost use Rattle.v_syntax.specs.Syntax.{AreStatements, IsSyntax};
-ghost use Rattle.tests_verilog.specs.Sample.{sample, sample_tokens};
+ghost use Rattle.tests_readers.specs.Sample.{sample, sample_tokens};
 
 use rb_base::{Dir, Place, Port, Text};
 use std::alloc::{AllocError, Global};
