@@ -246,7 +246,8 @@ fn tables(rt: HostRuntime) -> Result<(), Fail> {
     body.add(b"W", Value::Number(4))?;
     body.add(b"W", Value::Number(9))?;
     body.add_enum(modes)?;
-    let held = [&body];
+    let mut held = Vec::new(rt.alloc());
+    held.push(&body)?;
     let table = [
         (Expr::Ref(WIDTH, None), Ok(4)),
         (Expr::Ref(DEPTH, None), Ok(16)),
