@@ -1,0 +1,2 @@
+mod Filing
+mod Planning

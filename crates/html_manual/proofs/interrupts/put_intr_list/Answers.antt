@@ -1,0 +1,5 @@
+use Rattle.html_text.proofs.Wrote.{wrote}
+use Rattle.html_manual.proofs.interrupts.put_intr_list.Goals as goal
+
+pub returns : goal.returns
+returns g c = wrote (wrote c.put.ensures c.put_intr_fields.ensures) c.put-2.ensures

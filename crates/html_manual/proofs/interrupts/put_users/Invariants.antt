@@ -1,0 +1,7 @@
+use Rattle.std.proofs.Common.{flat_map, take}
+use Rattle.html_text.specs.Writing.{Writes, at}
+use Rattle.html_manual.specs.Interrupts.{user_line}
+use Rattle.html_manual.proofs.interrupts.put_users.Given as goal
+
+abbrev pub invariant-loop-number : goal.invariant-loop-number
+invariant-loop-number g l = Writes (at (g.K.Sink.told l.fn.out) (g.K.Sink.faults l.fn.out) l.fn.pen) (at (g.K.Sink.told l.out) (g.K.Sink.faults l.out) l.pen) (flat_map (user_line l.sight) (take l.number-index l.numbers))

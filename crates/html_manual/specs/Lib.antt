@@ -1,0 +1,4 @@
+pub mod Filing
+pub mod Interrupts
+pub mod Page
+pub mod Style

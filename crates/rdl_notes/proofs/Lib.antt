@@ -1,0 +1,4 @@
+mod Growing
+mod Rows
+mod Top
+mod Whole
