@@ -11,7 +11,7 @@ use Rattle.std.proofs.lemmas.List.Folds.{list_all-map}
 use Rattle.plain_lemmas.proofs.Bools.{and-both}
 use Rattle.plain_lemmas.proofs.Lists.{bytes_eq-same as same-text}
 use Rattle.rdl_tree.specs.Words.{is_word}
-use Rattle.command_line.specs.Words.{AreFileWords, Asks, AsksNothing, Command, IsCommand, IsFileWord, IsTop, IsWaits, check, compile, drive_of, gen_of, header_of, axi_of, map_of, pins_of, run_of, sim, vcd, texts, top_words, waits_words, words_of}
+use Rattle.command_line.specs.Words.{AreFileWords, Asks, AsksNothing, Command, IsCommand, IsFileWord, IsTop, IsWaits, check, compile, drive_of, gen_of, header_of, manual_of, axi_of, map_of, pins_of, run_of, sim, vcd, texts, top_words, waits_words, words_of}
 use Rattle.command_line.specs.Found.{Topped, Waited, are_files, compiled, count_in, counted, driven, driven_by, file_pair, found_in, is_file, named, one_count, one_dump, one_file, ran, some_files, some_gen, topped, two_files, waited}
 use Rattle.command_line.proofs.Counting.{count-found, found-count}
 
@@ -180,6 +180,7 @@ asked-found (compile waits top source) h =
     ∙ ap (one_file (compile waits)) (top-found top (source ∷ []) h.1 file) ∙ ap (λ t. cond t (Some (compile waits top source)) None) file
 asked-found (map_of top source) h = ap (one_file map_of) (top-found top (source ∷ []) h.0 (file-yes source h.1)) ∙ ap (λ t. cond t (Some (map_of top source)) None) (file-yes source h.1)
 asked-found (header_of top source) h = ap (one_file header_of) (top-found top (source ∷ []) h.0 (file-yes source h.1)) ∙ ap (λ t. cond t (Some (header_of top source)) None) (file-yes source h.1)
+asked-found (manual_of top source) h = ap (one_file manual_of) (top-found top (source ∷ []) h.0 (file-yes source h.1)) ∙ ap (λ t. cond t (Some (manual_of top source)) None) (file-yes source h.1)
 asked-found (axi_of top source) h = ap (one_file axi_of) (top-found top (source ∷ []) h.0 (file-yes source h.1)) ∙ ap (λ t. cond t (Some (axi_of top source)) None) (file-yes source h.1)
 asked-found (check top sources) h = ap some_files (top-found top sources h.0 (begins sources (recursion_from_All IsFileWord sources h.1.each))) ∙ ap (λ t. cond t (Some (check top sources)) None) (are-yes sources h.1)
   where
@@ -375,6 +376,9 @@ map-found ws c e = let f = one-found map_of ws c e in subst (Asks (codes "map" �
 header-found : (ws : List (List ℕ)) (c : Command) → one_file header_of (topped ws) ≡ Some c → Asks (codes "header" ∷ ws) c
 header-found ws c e = let f = one-found header_of ws c e in subst (Asks (codes "header" ∷ ws)) f.5 (record { spelled = ap (λ us. codes "header" ∷ us) f.2; formed = (f.3, f.4) })
 
+manual-found : (ws : List (List ℕ)) (c : Command) → one_file manual_of (topped ws) ≡ Some c → Asks (codes "manual" ∷ ws) c
+manual-found ws c e = let f = one-found manual_of ws c e in subst (Asks (codes "manual" ∷ ws)) f.5 (record { spelled = ap (λ us. codes "manual" ∷ us) f.2; formed = (f.3, f.4) })
+
 axi-found : (ws : List (List ℕ)) (c : Command) → one_file axi_of (topped ws) ≡ Some c → Asks (codes "axi" ∷ ws) c
 axi-found ws c e = let f = one-found axi_of ws c e in subst (Asks (codes "axi" ∷ ws)) f.5 (record { spelled = ap (λ us. codes "axi" ∷ us) f.2; formed = (f.3, f.4) })
 
@@ -394,6 +398,7 @@ found-asked (name ∷ rest) c e =
     found-by name (codes "compile") rest c (compiled (waited rest)) after-compile (compile-found rest c)
     (found-by name (codes "map") rest c (one_file map_of (topped rest)) after-map (map-found rest c)
     (found-by name (codes "header") rest c (one_file header_of (topped rest)) after-header (header-found rest c)
+    (found-by name (codes "manual") rest c (one_file manual_of (topped rest)) after-manual (manual-found rest c)
     (found-by name (codes "axi") rest c (one_file axi_of (topped rest)) after-axi (axi-found rest c)
     (found-by name (codes "check") rest c (some_files (topped rest)) after-check (some-found rest c)
     (found-by name (codes "sim") rest c (two_files sim rest) after-sim (sim-found rest c)
@@ -401,7 +406,7 @@ found-asked (name ∷ rest) c e =
     (found-by name (codes "pins") rest c (one_dump rest) after-pins (pins-found rest c)
     (found-by name (codes "run") rest c (ran (waited rest)) after-run (run-found rest c)
     (found-by name (codes "drive") rest c (driven (topped rest)) after-drive (drive-found rest c)
-    (found-by name (codes "gen") rest c (one_count rest) None (gen-found rest c) (λ x. cc x))))))))))) e
+    (found-by name (codes "gen") rest c (one_count rest) None (gen-found rest c) (λ x. cc x)))))))))))) e
   where
     after-drive : Option Command
     after-drive = cond (bytes_eq name (codes "gen")) (one_count rest) None
@@ -424,8 +429,11 @@ found-asked (name ∷ rest) c e =
     after-axi : Option Command
     after-axi = cond (bytes_eq name (codes "check")) (some_files (topped rest)) after-check
 
+    after-manual : Option Command
+    after-manual = cond (bytes_eq name (codes "axi")) (one_file axi_of (topped rest)) after-axi
+
     after-header : Option Command
-    after-header = cond (bytes_eq name (codes "axi")) (one_file axi_of (topped rest)) after-axi
+    after-header = cond (bytes_eq name (codes "manual")) (one_file manual_of (topped rest)) after-manual
 
     after-map : Option Command
     after-map = cond (bytes_eq name (codes "header")) (one_file header_of (topped rest)) after-header

@@ -4,7 +4,7 @@ use Rattle.command_line.specs.Words as words
 use Rattle.command_line.specs.Words.{texts}
 use Rattle.command_line.specs.Found as found
 use Rattle.command_line.specs.declared.words.Command.{Command}
-use Rattle.command_line.specs.declared.words.Command.TheVariants.{Axi, Check, Compile, Drive, Gen, Header, Map, Pins, Run, Sim, Vcd}
+use Rattle.command_line.specs.declared.words.Command.TheVariants.{Axi, Check, Compile, Drive, Gen, Header, Manual, Map, Pins, Run, Sim, Vcd}
 use Rattle.command_line.specs.declared.flags.Topped.{Topped}
 use Rattle.command_line.specs.declared.flags.Waited.{Waited}
 
@@ -13,6 +13,7 @@ view (Compile waits top source) = words.compile waits (option_copied top) source
 view (Check top sources) = words.check (option_copied top) (texts sources.now)
 view (Map top source) = words.map_of (option_copied top) source.now
 view (Header top source) = words.header_of (option_copied top) source.now
+view (Manual top source) = words.manual_of (option_copied top) source.now
 view (Axi top source) = words.axi_of (option_copied top) source.now
 view (Sim verilog stimulus) = words.sim verilog.now stimulus.now
 view (Vcd verilog stimulus) = words.vcd verilog.now stimulus.now

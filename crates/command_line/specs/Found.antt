@@ -3,7 +3,7 @@ use Rattle.std.specs.Prelude.{ℕ, Bool, false, not, ◌&&◌, ◌==◌, cond, b
 use Rattle.std.specs.List.{list_all}
 use Rattle.std.specs.Str.Parse.{digits_value}
 use Rattle.rdl_tree.specs.Words.{is_word}
-use Rattle.command_line.specs.Words.{Command, check, compile, drive_of, gen_of, header_of, axi_of, map_of, pins_of, run_of, sim, vcd}
+use Rattle.command_line.specs.Words.{Command, check, compile, drive_of, gen_of, header_of, manual_of, axi_of, map_of, pins_of, run_of, sim, vcd}
 
 -- the wait states, and the words behind them
 pub record Waited : Type 0 where
@@ -112,6 +112,7 @@ found_in (name ∷ rest) =
     cond (bytes_eq name (codes "compile")) (compiled (waited rest))
     (cond (bytes_eq name (codes "map")) (one_file map_of (topped rest))
     (cond (bytes_eq name (codes "header")) (one_file header_of (topped rest))
+    (cond (bytes_eq name (codes "manual")) (one_file manual_of (topped rest))
     (cond (bytes_eq name (codes "axi")) (one_file axi_of (topped rest))
     (cond (bytes_eq name (codes "check")) (some_files (topped rest))
     (cond (bytes_eq name (codes "sim")) (two_files sim rest)
@@ -119,4 +120,4 @@ found_in (name ∷ rest) =
     (cond (bytes_eq name (codes "pins")) (one_dump rest)
     (cond (bytes_eq name (codes "run")) (ran (waited rest))
     (cond (bytes_eq name (codes "drive")) (driven (topped rest))
-    (cond (bytes_eq name (codes "gen")) (one_count rest) None))))))))))
+    (cond (bytes_eq name (codes "gen")) (one_count rest) None)))))))))))

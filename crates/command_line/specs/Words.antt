@@ -10,6 +10,7 @@ pub data Command : Type 0 where
   check : (top : Option (List ℕ)) (sources : List (List ℕ)) → Command
   map_of : (top : Option (List ℕ)) (source : List ℕ) → Command
   header_of : (top : Option (List ℕ)) (source : List ℕ) → Command
+  manual_of : (top : Option (List ℕ)) (source : List ℕ) → Command
   axi_of : (top : Option (List ℕ)) (source : List ℕ) → Command
   sim : (verilog stimulus : List ℕ) → Command
   vcd : (verilog stimulus : List ℕ) → Command
@@ -60,6 +61,7 @@ words_of (compile waits top source) = codes "compile" ∷ waits_words waits ++ t
 words_of (check top sources) = codes "check" ∷ top_words top ++ sources
 words_of (map_of top source) = codes "map" ∷ top_words top ++ source ∷ []
 words_of (header_of top source) = codes "header" ∷ top_words top ++ source ∷ []
+words_of (manual_of top source) = codes "manual" ∷ top_words top ++ source ∷ []
 words_of (axi_of top source) = codes "axi" ∷ top_words top ++ source ∷ []
 words_of (sim verilog stimulus) = codes "sim" ∷ verilog ∷ stimulus ∷ []
 words_of (vcd verilog stimulus) = codes "vcd" ∷ verilog ∷ stimulus ∷ []
@@ -74,6 +76,7 @@ IsCommand (compile waits top source) = IsWaits waits × IsTop top × IsFileWord 
 IsCommand (check top sources) = IsTop top × AreFileWords sources
 IsCommand (map_of top source) = IsTop top × IsFileWord source
 IsCommand (header_of top source) = IsTop top × IsFileWord source
+IsCommand (manual_of top source) = IsTop top × IsFileWord source
 IsCommand (axi_of top source) = IsTop top × IsFileWord source
 IsCommand (sim verilog stimulus) = IsFileWord verilog × IsFileWord stimulus
 IsCommand (vcd verilog stimulus) = IsFileWord verilog × IsFileWord stimulus

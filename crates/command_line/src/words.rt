@@ -33,6 +33,11 @@ pub enum Command<'w> {
         top: Option<&'w str>,
         source: &'w str,
     },
+    /// The manual page of a source.
+    Manual {
+        top: Option<&'w str>,
+        source: &'w str,
+    },
     /// The module of a source behind an AXI4-Lite slave port.
     Axi {
         top: Option<&'w str>,
@@ -116,6 +121,22 @@ fn header_of(words: &[String]) -> Option<Command<'_>>
     };
     match topped.rest {
         [source] if is_file(source.as_str()) => Some(Command::Header {
+            top: topped.top,
+            source: source.as_str(),
+        }),
+        _ => None,
+    }
+}
+
+// The file of `manual`, likewise.
+fn manual_of(words: &[String]) -> Option<Command<'_>>
+    ensures { view_all result ≡ found.one_file commands.manual_of (found.topped (texts words.now)) }
+{
+    let Some(topped) = top_of(words) else {
+        return None;
+    };
+    match topped.rest {
+        [source] if is_file(source.as_str()) => Some(Command::Manual {
             top: topped.top,
             source: source.as_str(),
         }),
@@ -282,6 +303,9 @@ fn named_by(words: &[String]) -> Option<Command<'_>>
     if name.as_str() == "header" {
         return header_of(rest);
     }
+    if name.as_str() == "manual" {
+        return manual_of(rest);
+    }
     if name.as_str() == "axi" {
         return axi_of(rest);
     }
@@ -310,7 +334,7 @@ fn named_by(words: &[String]) -> Option<Command<'_>>
 }
 
 /// The command of the words behind the program's name, if there is one: `compile` and `run` take `--waits` with 0 or 1 and then `--top` with
-/// a name, `check`, `map`, `header`, `axi` and `drive` take `--top`, and `gen` takes a number from 1 to 8,192 in decimal without leading zeros. All other words are none.
+/// a name, `check`, `map`, `header`, `manual`, `axi` and `drive` take `--top`, and `gen` takes a number from 1 to 8,192 in decimal without leading zeros. All other words are none.
 pub fn command_of(words: &[String]) -> Option<Command<'_>>
     ensures { MatchOption result (AsksNothing (texts words.now)) (λ command. Asks (texts words.now) (view command)) }
 {

@@ -9,7 +9,7 @@ use Rattle.rb_edge.specs.Count.{Rose}
 use Rattle.rb_edge.specs.Shelf.{Files, IsLonger}
 use Rattle.replies.specs.declared.status.Status.{Status}
 use Rattle.replies.specs.declared.status.Status.TheVariants.{Done, Refused, ReadFault, WriteFault, NoMemory, TooLong, BadVerilog, BadStimulus, Protocol, BadVcd, BadScript, Unmet}
-use Rattle.command_line.specs.Words.{Command, check, compile, map_of, header_of, axi_of, sim, vcd, pins_of, run_of, drive_of, gen_of, waits_of, Asks}
+use Rattle.command_line.specs.Words.{Command, check, compile, map_of, header_of, manual_of, axi_of, sim, vcd, pins_of, run_of, drive_of, gen_of, waits_of, Asks}
 use Rattle.command_line.proofs.Asking.{one-command}
 use Rattle.replies.specs.Outcome.{AreRead, AreVerdicts, StopsAt, Texts, Judges, Answers, Outcome, files_of, has_none, source_limit}
 use Rattle.replies.specs.Ends.{Passage, IsCutShort, Ends}
@@ -157,6 +157,11 @@ module _ (fails : NoModuleFails) where
   fit_judged files (header_of top file) (source ∷ []) Done texts fit read judged = refl
   fit_judged files (header_of top file) (source ∷ []) Refused texts fit read judged = absurd (clean_source top source judged.place judged.rule (fit source read.0.held) judged.fails)
   fit_judged files (header_of top file) (source ∷ []) _ texts fit read judged = absurd judged
+  fit_judged files (manual_of top file) [] status texts fit read judged = absurd read
+  fit_judged files (manual_of top file) (source ∷ a ∷ more) status texts fit read judged = absurd read.1
+  fit_judged files (manual_of top file) (source ∷ []) Done texts fit read judged = refl
+  fit_judged files (manual_of top file) (source ∷ []) Refused texts fit read judged = absurd (clean_source top source judged.place judged.rule (fit source read.0.held) judged.fails)
+  fit_judged files (manual_of top file) (source ∷ []) _ texts fit read judged = absurd judged
   fit_judged files (axi_of top file) [] status texts fit read judged = absurd read
   fit_judged files (axi_of top file) (source ∷ a ∷ more) status texts fit read judged = absurd read.1
   fit_judged files (axi_of top file) (source ∷ []) Done texts fit read judged = refl

@@ -1,4 +1,4 @@
--- What the answers to `compile`, `axi`, `map`, `header` and `check` promise.
+-- What the answers to `compile`, `axi`, `map`, `header`, `manual` and `check` promise.
 use Rattle.std.proofs.Common.{◌≡◌, ◌⊎◌, ⊎_elim, inr, ℕ, List, [], ◌∷◌, map, Option, subst}
 use Rattle.rb_edge.specs.Shelf.{Files, Holds}
 use Rattle.rdl_base.specs.declared.fault.Fault.{Fault}
@@ -6,11 +6,11 @@ use Rattle.rdl_verdict.specs.Verdict.{IsAxiVerdict}
 use Rattle.replies.specs.Verdict.{IsVerdict, tree}
 use Rattle.replies.specs.declared.status.Status.{Status}
 use Rattle.replies.specs.declared.status.Status.TheVariants.{Done, Refused}
-use Rattle.command_line.specs.Words.{check, compile, header_of, axi_of, map_of, waits_of, Asks}
+use Rattle.command_line.specs.Words.{check, compile, header_of, manual_of, axi_of, map_of, waits_of, Asks}
 use Rattle.replies.specs.Outcome.{AreRead, IsChecked, IsRefused, IsTold, Texts, Judges, Outcome, files_of, source_limit}
 use Rattle.replies.specs.Ends.{Passage, TookAll, Ends}
 use Rattle.regblock.proofs.Asked.{asked}
-use Rattle.regblock.specs.Headline.{AreHeld, AreToldVerdicts, IsFrontRight, IsHeader, IsRight, IsTable, IsToldFailure, IsToldFirst, IsToldForAxi}
+use Rattle.regblock.specs.Headline.{AreHeld, AreToldVerdicts, IsFrontRight, IsHeader, IsManual, IsRight, IsTable, IsToldFailure, IsToldFirst, IsToldForAxi}
 
 -- the line of the first failure of a verdict
 told_by : (contents : Option Files) (err out : Passage) (IsVerdictOf : List ℕ → List Fault → Type 0) (file : List ℕ) (texts : Texts) (source : List ℕ) → Holds contents file source
@@ -78,6 +78,21 @@ module _ (contents : Option Files) (err out : Passage) (top : Option (List ℕ))
   unheaded [] read judged e o = absurd judged
   unheaded (source ∷ a ∷ more) read judged e o = absurd judged
   unheaded (source ∷ []) read judged e o = told source read.0.held judged e o
+
+  paged : (sources : List (List ℕ)) → AreRead contents (files_of (manual_of top file)) sources → Judges (manual_of top file) sources Done texts
+      → TookAll err texts.err → TookAll out texts.out → IsManual contents top file err out
+  paged [] read judged e o = absurd judged
+  paged (source ∷ a ∷ more) read judged e o = absurd judged
+  paged (source ∷ []) read judged e o =
+      let P : List ℕ → Type 0 = λ t. TookAll err t in
+      let Q : List ℕ → Type 0 = λ t. TookAll out t in
+      record { source = source; tree = judged.tree; block = judged.block; held = read.0.held; described = judged.described; written = subst Q judged.text o; quiet = subst P judged.quiet e }
+
+  unpaged : (sources : List (List ℕ)) → AreRead contents (files_of (manual_of top file)) sources → Judges (manual_of top file) sources Refused texts
+      → TookAll err texts.err → TookAll out texts.out → IsToldFailure contents top file err out
+  unpaged [] read judged e o = absurd judged
+  unpaged (source ∷ a ∷ more) read judged e o = absurd judged
+  unpaged (source ∷ []) read judged e o = told source read.0.held judged e o
 
 module _ (contents : Option Files) (err out : Passage) (waits : Option ℕ) (top : Option (List ℕ)) (file : List ℕ) (texts : Texts) where
   compiled : (sources : List (List ℕ)) → AreRead contents (files_of (compile waits top file)) sources → Judges (compile waits top file) sources Done texts
@@ -169,6 +184,18 @@ module _ (words : List (List ℕ)) (contents : Option Files) (failed : List ℕ 
       let at = subst At is ends in
       let a = asked words contents failed (header_of top file) Refused at.0 asks at.1 in
       unheaded contents err out top file at.0 a.0 a.1 a.2 at.2 at.3
+
+  pub documented : (top : Option (List ℕ)) (file : List ℕ) → Asks words (manual_of top file) → result ≡ Done → IsManual contents top file err out
+  documented top file asks is =
+      let at = subst At is ends in
+      let a = asked words contents failed (manual_of top file) Done at.0 asks at.1 in
+      paged contents err out top file at.0 a.0 a.1 a.2 at.2 at.3
+
+  pub undocumented : (top : Option (List ℕ)) (file : List ℕ) → Asks words (manual_of top file) → result ≡ Refused → IsToldFailure contents top file err out
+  undocumented top file asks is =
+      let at = subst At is ends in
+      let a = asked words contents failed (manual_of top file) Refused at.0 asks at.1 in
+      unpaged contents err out top file at.0 a.0 a.1 a.2 at.2 at.3
 
   checked_at : (top : Option (List ℕ)) (files : List (List ℕ)) (status : Status) → (status ≡ Done) ⊎ (status ≡ Refused) → Asks words (check top files) → At status → AreToldVerdicts contents top files err out
   checked_at top files Done h asks at =

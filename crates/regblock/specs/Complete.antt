@@ -16,7 +16,7 @@ use Rattle.rdl_verdict.specs.Verdict.{accesses}
 use Rattle.replies.specs.Verdict.{BreaksNone, IsDescribedWith}
 use Rattle.replies.specs.declared.status.Status.{Status}
 use Rattle.replies.specs.declared.status.Status.TheVariants.{Done, NoMemory, Unmet}
-use Rattle.command_line.specs.Words.{Command, check, compile, map_of, header_of, axi_of, sim, vcd, pins_of, run_of, drive_of, gen_of, waits_of, Asks}
+use Rattle.command_line.specs.Words.{Command, check, compile, map_of, header_of, manual_of, axi_of, sim, vcd, pins_of, run_of, drive_of, gen_of, waits_of, Asks}
 use Rattle.replies.specs.Outcome.{files_of}
 use Rattle.replies.specs.Ends.{Passage}
 
@@ -52,6 +52,7 @@ AreFit (compile waits top file) files = IsFit top files file
 AreFit (check top names) files = All (IsFit top files) names
 AreFit (map_of top file) files = IsFit top files file
 AreFit (header_of top file) files = IsFit top files file
+AreFit (manual_of top file) files = IsFit top files file
 AreFit (axi_of top file) files = IsFitForAxi top files file
 AreFit (sim file table) files = (verilog stimulus : List ℕ) → files file ≡ Some verilog → files table ≡ Some stimulus → IsFitTable verilog stimulus
 AreFit (vcd file table) files = (verilog stimulus : List ℕ) → files file ≡ Some verilog → files table ≡ Some stimulus → IsFitTable verilog stimulus

@@ -1,8 +1,10 @@
--- What the answers to `compile`, `axi`, `map`, `header` and `check` promise.
+-- What the answers to `compile`, `axi`, `map`, `header`, `manual` and `check` promise.
 use Rattle.std.specs.Prelude.{ℕ, List, [], ◌∷◌, Option, ⊤}
 use Rattle.rb_base.specs.declared.place.Place.{Place}
 use Rattle.rdl_base.specs.declared.rule.Rule.{Rule}
 use Rattle.c_header.specs.Header.{header}
+use Rattle.html_manual.specs.Page.{page}
+use Rattle.rdl_notes.specs.Notes.{notes_of}
 use Rattle.rb_edge.specs.Shelf.{Files, Holds}
 use Rattle.rb_model.specs.declared.block.Block.{Block}
 use Rattle.rb_model.specs.Agreement.{Agrees}
@@ -81,6 +83,17 @@ pub record IsHeader (contents : Option Files) (top : Option (List ℕ)) (file : 
   pub held : Holds contents file source
   pub described : IsDescribedWith top source tree 0 block
   pub written : TookAll out (header block)
+  pub quiet : TookAll err []
+
+-- Done by `manual`: the source breaks no rule, and what was written is the manual page of the block that it describes, with the texts of
+-- its parts' `name` and `desc`.
+pub record IsManual (contents : Option Files) (top : Option (List ℕ)) (file : List ℕ) (err out : Passage) : Type 0 where
+  pub source : List ℕ
+  pub tree : Source
+  pub block : Block
+  pub held : Holds contents file source
+  pub described : IsDescribedWith top source tree 0 block
+  pub written : TookAll out (page block (notes_of top tree))
   pub quiet : TookAll err []
 
 -- each file holds its source

@@ -3,17 +3,18 @@
 ghost use Rattle.std.specs.Prelude.{◌≡◌, ◌⊎◌, ◌<◌, ◌≤◌, List, Option, ℕ};
 ghost use Rattle.rb_edge.specs.Count.{Rose};
 ghost use Rattle.rb_edge.specs.Shelf.{IsLonger};
-ghost use Rattle.command_line.specs.Words.{texts, Command, check, compile, map_of, header_of, axi_of, sim, vcd, pins_of, run_of, drive_of, gen_of, waits_of, Asks, AsksNothing};
+ghost use Rattle.command_line.specs.Words.{texts, Command, check, compile, map_of, header_of, manual_of, axi_of, sim, vcd, pins_of, run_of, drive_of, gen_of, waits_of, Asks, AsksNothing};
 ghost use Rattle.replies.specs.Outcome.{FailedRead, Outcome, StopsAt, files_of};
 ghost use Rattle.replies.specs.Ends.{Ends, passage};
 ghost use Rattle.regblock.specs.Complete.{IsComplete};
-ghost use Rattle.regblock.specs.Headline.{AreToldVerdicts, IsFrontRight, IsHeader, IsRight, IsTable, IsToldFailure, IsToldForAxi};
+ghost use Rattle.regblock.specs.Headline.{AreToldVerdicts, IsFrontRight, IsHeader, IsManual, IsRight, IsTable, IsToldFailure, IsToldForAxi};
 ghost use Rattle.regblock.specs.Simulations.{IsRun, IsToldVerilog, IsToldStimulus};
 ghost use Rattle.regblock.specs.Waves.{IsDumped, IsPinTable, IsToldVcd};
 ghost use Rattle.regblock.specs.MachineRuns.{IsMachineRun, IsToldUnfit, IsToldBreak};
 ghost use Rattle.regblock.specs.Drives.{IsDriven, IsToldScript};
 ghost use Rattle.regblock.specs.Generated.{IsSizedSource};
 
+use bumpalo::Bump;
 use rb_edge::{Shelf, Sink};
 use replies::{Status, answer_words};
 use std::alloc::Global;
@@ -40,7 +41,7 @@ pub fn run<S: Shelf, O: Sink, E: Sink>(
     ensures not_fronted { (top : Option (List ℕ)) (file : List ℕ) → Asks (texts words.now) (axi_of top file) → result ≡ Status.Refused
         → IsToldForAxi (S.contents shelf.old) top file (passage E.told E.faults err.old err.new) (passage O.told O.faults out.old out.new) }
 
-    // A table or a header that was written is that of the block that the source describes; verdicts that were written are those of all files.
+    // A table, a header or a page that was written is that of the block that the source describes; verdicts that were written are those of all files.
     ensures mapped { (top : Option (List ℕ)) (file : List ℕ) → Asks (texts words.now) (map_of top file) → result ≡ Status.Done
         → IsTable (S.contents shelf.old) top file (passage E.told E.faults err.old err.new) (passage O.told O.faults out.old out.new) }
     ensures unmapped { (top : Option (List ℕ)) (file : List ℕ) → Asks (texts words.now) (map_of top file) → result ≡ Status.Refused
@@ -48,6 +49,10 @@ pub fn run<S: Shelf, O: Sink, E: Sink>(
     ensures headered { (top : Option (List ℕ)) (file : List ℕ) → Asks (texts words.now) (header_of top file) → result ≡ Status.Done
         → IsHeader (S.contents shelf.old) top file (passage E.told E.faults err.old err.new) (passage O.told O.faults out.old out.new) }
     ensures not_headered { (top : Option (List ℕ)) (file : List ℕ) → Asks (texts words.now) (header_of top file) → result ≡ Status.Refused
+        → IsToldFailure (S.contents shelf.old) top file (passage E.told E.faults err.old err.new) (passage O.told O.faults out.old out.new) }
+    ensures documented { (top : Option (List ℕ)) (file : List ℕ) → Asks (texts words.now) (manual_of top file) → result ≡ Status.Done
+        → IsManual (S.contents shelf.old) top file (passage E.told E.faults err.old err.new) (passage O.told O.faults out.old out.new) }
+    ensures undocumented { (top : Option (List ℕ)) (file : List ℕ) → Asks (texts words.now) (manual_of top file) → result ≡ Status.Refused
         → IsToldFailure (S.contents shelf.old) top file (passage E.told E.faults err.old err.new) (passage O.told O.faults out.old out.new) }
     ensures checked { (top : Option (List ℕ)) (files : List (List ℕ)) → Asks (texts words.now) (check top files) → (result ≡ Status.Done) ⊎ (result ≡ Status.Refused)
         → AreToldVerdicts (S.contents shelf.old) top files (passage E.told E.faults err.old err.new) (passage O.told O.faults out.old out.new) }
@@ -122,7 +127,8 @@ pub fn run<S: Shelf, O: Sink, E: Sink>(
     // Without memory nothing is written.
     ensures no_memory { result ≡ Status.NoMemory → (out.new ≡ out.old) × (err.new ≡ err.old) }
 {
-    match answer_words(alloc, words, shelf) {
+    let arena = Bump::new(alloc);
+    match answer_words(alloc, &arena, words, shelf) {
         Ok(reply) => reply.write(out, err),
         Err(_) => Status::NoMemory,
     }

@@ -16,7 +16,7 @@ use Rattle.vcd_syntax.specs.declared.error.VcdError.{VcdError}
 use Rattle.report_text.specs.Printed.{printed_run}
 use Rattle.rb_base.specs.declared.ports.Pin.{Pin}
 use Rattle.replies.specs.Text.{IsVcdLine, cannot_read, too_long, verilog_line, stimulus_line, protocol_line, script_line}
-use Rattle.command_line.specs.Words.{Command, check, compile, map_of, header_of, axi_of, sim, vcd, pins_of, run_of, drive_of, gen_of, waits_of}
+use Rattle.command_line.specs.Words.{Command, check, compile, map_of, header_of, manual_of, axi_of, sim, vcd, pins_of, run_of, drive_of, gen_of, waits_of}
 use Rattle.rb_model.specs.declared.block.Block.{Block}
 use Rattle.rdl_tree.specs.declared.item.Source.{Source}
 use Rattle.replies.specs.Verdict.{IsDescribedWith, IsVerdict}
@@ -27,7 +27,7 @@ use Rattle.replies.specs.RunAnswer.{IsRunAnswer}
 use Rattle.drive_lang.specs.declared.error.DriveError.{DriveError}
 use Rattle.drive_lang.specs.Scripts.{script_of}
 use Rattle.replies.specs.DriveAnswer.{IsDriveAnswer, status_of_checks}
-use Rattle.replies.specs.Outcome.{IsDriveText, IsHeaded, IsMapped, IsRefused, IsRunText, IsTold, IsUnfronted, AreRead, StopsAt, Texts, IsNotice, Judges, Answers, Outcome, files_of, has_none}
+use Rattle.replies.specs.Outcome.{IsDocumented, IsDriveText, IsHeaded, IsMapped, IsRefused, IsRunText, IsTold, IsUnfronted, AreRead, StopsAt, Texts, IsNotice, Judges, Answers, Outcome, files_of, has_none}
 use Rattle.replies.specs.Ends.{Passage, TookAll, IsCutShort, Ends}
 
 -- the first failure of a verdict, told alone
@@ -76,6 +76,19 @@ pub Judges-unheaded : (top : Option (List ℕ)) (file source : List ℕ) (status
     → status ≡ Refused → IsRefused top file source texts → Judges (header_of top file) (source ∷ []) status texts
 Judges-unheaded top file source status texts is refused =
     let P : Status → Type 0 = λ s. Judges (header_of top file) (source ∷ []) s texts in
+    subst P (sym is) refused
+
+-- the manual page of the block that the one file of `manual` describes
+pub Judges-documented : (top : Option (List ℕ)) (file source : List ℕ) (status : Status) (texts : Texts)
+    → status ≡ Done → IsDocumented top source texts → Judges (manual_of top file) (source ∷ []) status texts
+Judges-documented top file source status texts is documented =
+    let P : Status → Type 0 = λ s. Judges (manual_of top file) (source ∷ []) s texts in
+    subst P (sym is) documented
+
+pub Judges-undocumented : (top : Option (List ℕ)) (file source : List ℕ) (status : Status) (texts : Texts)
+    → status ≡ Refused → IsRefused top file source texts → Judges (manual_of top file) (source ∷ []) status texts
+Judges-undocumented top file source status texts is refused =
+    let P : Status → Type 0 = λ s. Judges (manual_of top file) (source ∷ []) s texts in
     subst P (sym is) refused
 
 -- the one file of `axi` breaks a rule
@@ -218,6 +231,11 @@ only_judged (header_of top file) (a ∷ []) Done texts j = refl
 only_judged (header_of top file) (a ∷ []) Refused texts j = refl
 only_judged (header_of top file) (a ∷ []) _ texts j = absurd j
 only_judged (header_of top file) (a ∷ b ∷ more) status texts j = absurd j
+only_judged (manual_of top file) [] status texts j = absurd j
+only_judged (manual_of top file) (a ∷ []) Done texts j = refl
+only_judged (manual_of top file) (a ∷ []) Refused texts j = refl
+only_judged (manual_of top file) (a ∷ []) _ texts j = absurd j
+only_judged (manual_of top file) (a ∷ b ∷ more) status texts j = absurd j
 only_judged (axi_of top file) [] status texts j = absurd j
 only_judged (axi_of top file) (a ∷ []) Done texts j = refl
 only_judged (axi_of top file) (a ∷ []) Refused texts j = refl

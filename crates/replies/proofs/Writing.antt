@@ -5,13 +5,14 @@ use Rattle.rb_edge.specs.Sink.{TakesPart}
 use Rattle.v_printer.specs.Layout.{text_of}
 use Rattle.v_printer.specs.TextOf.{IsTextOf}
 use Rattle.rtl_net.specs.Net.{Net}
+use Rattle.html_manual.specs.Page.{Planned, text_of as page_of}
 use Rattle.report_text.specs.Printed.{printed_run}
 use Rattle.vcd_reader.specs.Tables.{Table as Waves}
 use Rattle.wave_text.specs.Ready.{IsDumpOf}
 use Rattle.wave_text.specs.declared.wave_run.WaveRun.{WaveRun}
 use Rattle.replies.specs.declared.answer.Answer.{Answer}
 use Rattle.replies.specs.declared.answer.Reply.{Reply}
-use Rattle.replies.specs.declared.answer.Reply.TheVariants.{Text, Module, Dump, Table}
+use Rattle.replies.specs.declared.answer.Reply.TheVariants.{Text, Module, Dump, Table, Page}
 use Rattle.replies.specs.declared.status.Status.{Status}
 use Rattle.replies.specs.declared.status.Status.TheVariants.{Done, WriteFault}
 use Rattle.replies.specs.Outcome.{Texts}
@@ -46,3 +47,9 @@ table-whole err out reply waves e q t = subst (λ r. IsWritten err out r Done) (
 
 pub table-cut : (err out : Passage) (reply : Reply) (waves : Waves) → reply ≡ Table waves → TookAll err [] → TakesPart out.old out.new (printed_run waves.pins waves.rows) → Rose out.before out.after → IsWritten err out reply WriteFault
 table-cut err out reply waves e q t rose = subst (λ r. IsWritten err out r WriteFault) (sym e) ([], tt, inr (refl, inr (q, (t, rose))))
+
+pub page-whole : (err out : Passage) (reply : Reply) (manual : Planned) → reply ≡ Page manual → TookAll err [] → TookAll out (page_of manual) → IsWritten err out reply Done
+page-whole err out reply manual e q t = subst (λ r. IsWritten err out r Done) (sym e) ([], tt, inl (refl, q, t))
+
+pub page-cut : (err out : Passage) (reply : Reply) (manual : Planned) → reply ≡ Page manual → TookAll err [] → TakesPart out.old out.new (page_of manual) → Rose out.before out.after → IsWritten err out reply WriteFault
+page-cut err out reply manual e q t rose = subst (λ r. IsWritten err out r WriteFault) (sym e) ([], tt, inr (refl, inr (q, (t, rose))))

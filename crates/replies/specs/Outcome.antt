@@ -12,8 +12,10 @@ use Rattle.rdl_tree.specs.declared.item.Source.{Source}
 use Rattle.rdl_verdict.specs.Verdict.{IsAxiVerdict, IsVerdict, accesses}
 use Rattle.report_text.specs.Lines.{address_lines}
 use Rattle.c_header.specs.Header.{header}
+use Rattle.html_manual.specs.Page.{page}
+use Rattle.rdl_notes.specs.Notes.{notes_of}
 use Rattle.verdict_text.specs.Lines.{ok_line, rule_line, verdict_lines}
-use Rattle.command_line.specs.Words.{Command, check, compile, map_of, header_of, axi_of, sim, vcd, pins_of, run_of, drive_of, gen_of, waits_of, Asks, AsksNothing}
+use Rattle.command_line.specs.Words.{Command, check, compile, map_of, header_of, manual_of, axi_of, sim, vcd, pins_of, run_of, drive_of, gen_of, waits_of, Asks, AsksNothing}
 use Rattle.replies.specs.declared.status.Status.{Status}
 use Rattle.replies.specs.declared.status.Status.TheVariants.{Done, Refused, Usage, ReadFault, TooLong, BadVerilog, BadStimulus, Protocol, BadVcd, BadScript, Unmet}
 use Rattle.replies.specs.Text.{cannot_read, too_long, verilog_line, stimulus_line, protocol_line, script_line, IsVcdLine, usage}
@@ -66,6 +68,7 @@ files_of (compile waits top source) = (source, source_limit) ∷ []
 files_of (check top sources) = map (λ source. (source, source_limit)) sources
 files_of (map_of top source) = (source, source_limit) ∷ []
 files_of (header_of top source) = (source, source_limit) ∷ []
+files_of (manual_of top source) = (source, source_limit) ∷ []
 files_of (axi_of top source) = (source, source_limit) ∷ []
 files_of (sim verilog stimulus) = (verilog, verilog_limit) ∷ (stimulus, source_limit) ∷ []
 files_of (vcd verilog stimulus) = (verilog, verilog_limit) ∷ (stimulus, source_limit) ∷ []
@@ -112,6 +115,14 @@ pub record IsHeaded (top : Option (List ℕ)) (source : List ℕ) (texts : Texts
   pub block : Block
   pub described : IsDescribedWith top source tree 0 block
   pub text : texts.out ≡ header block
+  pub quiet : texts.err ≡ []
+
+-- the source breaks no rule, and on out is the manual page of the block that it describes, with what the source says of its parts
+pub record IsDocumented (top : Option (List ℕ)) (source : List ℕ) (texts : Texts) : Type 0 where
+  pub tree : Source
+  pub block : Block
+  pub described : IsDescribedWith top source tree 0 block
+  pub text : texts.out ≡ page block (notes_of top tree)
   pub quiet : texts.err ≡ []
 
 -- the source breaks no rule, each of its registers is accessed 32 bits at once, and on out is a module of the block that it describes
@@ -282,6 +293,8 @@ Judges (map_of top file) (source ∷ []) Done texts = IsMapped top source texts
 Judges (map_of top file) (source ∷ []) Refused texts = IsRefused top file source texts
 Judges (header_of top file) (source ∷ []) Done texts = IsHeaded top source texts
 Judges (header_of top file) (source ∷ []) Refused texts = IsRefused top file source texts
+Judges (manual_of top file) (source ∷ []) Done texts = IsDocumented top source texts
+Judges (manual_of top file) (source ∷ []) Refused texts = IsRefused top file source texts
 Judges (axi_of top file) (source ∷ []) Done texts = IsFronted top source texts
 Judges (axi_of top file) (source ∷ []) Refused texts = IsUnfronted top file source texts
 Judges (check top files) sources status texts = IsChecked top files sources status texts

@@ -6,6 +6,7 @@ ghost use Rattle.replies.specs.Text.{too_long, usage};
 ghost use Rattle.replies.specs.Ends.{TookAll, IsCutShort, passage};
 
 use crate::status::Status;
+use html_manual::Manual;
 use rb_base::NoMemory;
 use rb_edge::{Failed, Sink, write_all};
 use rtl_net::Netlist;
@@ -22,13 +23,15 @@ pub struct Answer {
     pub(crate) out: Vec<u8>,
 }
 
-/// An answer, or the netlist whose module, the run whose dump or the waves whose table is to stand on out, written as it is printed.
+/// An answer, or the netlist whose module, the run whose dump, the waves whose table or the manual whose page is to stand on out, written
+/// as it is printed. A manual has texts of the source that it is of.
 #[derive(Drop)]
-pub enum Reply {
+pub enum Reply<'a> {
     Text(Answer),
     Module(Netlist),
     Dump(WaveRun),
     Table(Waves),
+    Page(Manual<'a>),
 }
 
 ghost use Rattle.replies.specs.Answer.{texts_of};
@@ -97,13 +100,13 @@ impl Answer {
     }
 }
 
-impl Reply {
+impl<'a> Reply<'a> {
     /// Writes the text for err and then that for out. It takes no memory.
     pub fn write<O: Sink, E: Sink>(self, out: &mut O, err: &mut E) -> Status
         requires { IsPrintable self }
-        ensures { (dump : List ℕ) × HasText self dump
-            × (((result ≡ status_of self) × TookAll (passage E.told E.faults err.old err.new) (told_by self dump).err × TookAll (passage O.told O.faults out.old out.new) (told_by self dump).out)
-            ⊎ ((result ≡ Status.WriteFault) × IsCutShort (passage E.told E.faults err.old err.new) (passage O.told O.faults out.old out.new) (told_by self dump))) }
+        ensures { (dump : List ℕ) × HasText self.entry dump
+            × (((result ≡ status_of self.entry) × TookAll (passage E.told E.faults err.old err.new) (told_by self.entry dump).err × TookAll (passage O.told O.faults out.old out.new) (told_by self.entry dump).out)
+            ⊎ ((result ≡ Status.WriteFault) × IsCutShort (passage E.told E.faults err.old err.new) (passage O.told O.faults out.old out.new) (told_by self.entry dump))) }
     {
         match self {
             Reply::Text(answer) => answer.write(out, err),
@@ -116,6 +119,10 @@ impl Reply {
                 Err(Failed) => Status::WriteFault,
             },
             Reply::Table(waves) => match write_table(out, &waves) {
+                Ok(()) => Status::Done,
+                Err(Failed) => Status::WriteFault,
+            },
+            Reply::Page(manual) => match manual.write(out) {
                 Ok(()) => Status::Done,
                 Err(Failed) => Status::WriteFault,
             },

@@ -22,7 +22,7 @@ fn compile_source(
     top: Option<&str>,
     file: &str,
     source: &[u8],
-) -> Result<Reply, NoMemory>
+) -> Result<Reply<'static>, NoMemory>
     requires short { length source.now ≤ source_limit }
     requires waits { IsWaits waits }
     ensures judged { IfOk result (λ reply. (dump : List ℕ) → HasText reply dump → Judges (compile waits (option_copied top.entry) file.now) (source.now ∷ []) (status_of reply) (told_by reply dump)) }
@@ -63,7 +63,7 @@ pub(crate) fn compile_file<S: Shelf>(
     waits: Option<u8>,
     top: Option<&str>,
     file: &str,
-) -> Result<Reply, NoMemory>
+) -> Result<Reply<'static>, NoMemory>
     requires { IsWaits waits }
     ensures answers { IfOk result (λ reply. (dump : List ℕ) → HasText reply dump → Answers (S.contents shelf.old) (FailedRead S.faults shelf.old shelf.new) (compile waits (option_copied top.entry) file.now) (status_of reply) (told_by reply dump)) }
     ensures printable { IfOk result IsPrintable }

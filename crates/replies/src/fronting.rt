@@ -50,7 +50,7 @@ fn front_source(
     top: Option<&str>,
     file: &str,
     source: &[u8],
-) -> Result<Reply, NoMemory>
+) -> Result<Reply<'static>, NoMemory>
     requires { length source.now ≤ source_limit }
     ensures judged { IfOk result (λ reply. (dump : List ℕ) → HasText reply dump → Judges (axi_of (option_copied top.entry) file.now) (source.now ∷ []) (status_of reply) (told_by reply dump)) }
     ensures printable { IfOk result IsPrintable }
@@ -70,7 +70,7 @@ pub(crate) fn front_file<S: Shelf>(
     shelf: &mut S,
     top: Option<&str>,
     file: &str,
-) -> Result<Reply, NoMemory>
+) -> Result<Reply<'static>, NoMemory>
     ensures answers { IfOk result (λ reply. (dump : List ℕ) → HasText reply dump → Answers (S.contents shelf.old) (FailedRead S.faults shelf.old shelf.new) (axi_of (option_copied top.entry) file.now) (status_of reply) (told_by reply dump)) }
     ensures printable { IfOk result IsPrintable }
     ensures unchanged { S.contents shelf.new ≡ S.contents shelf.old }

@@ -1,4 +1,4 @@
-//! What a command line is answered: a status, and texts, a module, a run or waves for the sinks. Files are read, and nothing is written yet.
+//! What a command line is answered: a status, and texts, a module, a run, waves or a page for the sinks. Files are read, and nothing is written yet.
 #![tactic(auto)]
 
 mod answer;
@@ -6,6 +6,7 @@ mod checking;
 mod commands;
 mod compiling;
 mod describing;
+mod documenting;
 mod driving;
 mod fronting;
 mod generating;

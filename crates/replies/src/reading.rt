@@ -110,7 +110,7 @@ fn bad_vcd(alloc: Global, file: &str, text: &[u8], error: VcdError) -> Result<An
 }
 
 // What the bytes of a dump give.
-fn read_bytes(alloc: Global, file: &str, text: &[u8]) -> Result<Reply, NoMemory>
+fn read_bytes(alloc: Global, file: &str, text: &[u8]) -> Result<Reply<'static>, NoMemory>
     requires { length text.now ≤ waves_limit }
     ensures judged { IfOk result (λ reply. (dump : List ℕ) → HasText reply dump → Judges (pins_of file.now) (text.now ∷ []) (status_of reply) (told_by reply dump)) }
     ensures printable { IfOk result IsPrintable }
@@ -130,7 +130,7 @@ pub(crate) fn read_file<S: Shelf>(
     alloc: Global,
     shelf: &mut S,
     file: &str,
-) -> Result<Reply, NoMemory>
+) -> Result<Reply<'static>, NoMemory>
     ensures answers { IfOk result (λ reply. (dump : List ℕ) → HasText reply dump → Answers (S.contents shelf.old) (FailedRead S.faults shelf.old shelf.new) (pins_of file.now) (status_of reply) (told_by reply dump)) }
     ensures printable { IfOk result IsPrintable }
     ensures unchanged { S.contents shelf.new ≡ S.contents shelf.old }

@@ -21,7 +21,7 @@ fn dump_bytes(
     verilog: &[u8],
     table: &str,
     stimulus: &[u8],
-) -> Result<Reply, NoMemory>
+) -> Result<Reply<'static>, NoMemory>
     requires { length verilog.now ≤ verilog_limit }
     ensures judged { IfOk result (λ reply. (dump : List ℕ) → HasText reply dump → Judges (vcd file.now table.now) (verilog.now ∷ stimulus.now ∷ []) (status_of reply) (told_by reply dump)) }
     ensures printable { IfOk result IsPrintable }
@@ -46,7 +46,7 @@ pub(crate) fn dump_files<S: Shelf>(
     shelf: &mut S,
     file: &str,
     table: &str,
-) -> Result<Reply, NoMemory>
+) -> Result<Reply<'static>, NoMemory>
     ensures answers { IfOk result (λ reply. (dump : List ℕ) → HasText reply dump → Answers (S.contents shelf.old) (FailedRead S.faults shelf.old shelf.new) (vcd file.now table.now) (status_of reply) (told_by reply dump)) }
     ensures printable { IfOk result IsPrintable }
     ensures unchanged { S.contents shelf.new ≡ S.contents shelf.old }

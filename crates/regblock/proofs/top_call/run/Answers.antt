@@ -1,7 +1,7 @@
 use Rattle.replies.proofs.Rows.{Ends-written}
 use Rattle.regblock.proofs.CompleteRuns.{complete}
 use Rattle.regblock.proofs.Causes.{usage_cause, read_fault_cause, too_long_cause, write_fault_cause}
-use Rattle.regblock.proofs.Headlines.{checked, done, fronted, headered, mapped, not_fronted, not_headered, refused, unmapped}
+use Rattle.regblock.proofs.Headlines.{checked, documented, done, fronted, headered, mapped, not_fronted, not_headered, refused, undocumented, unmapped}
 use Rattle.v_reader.proofs.Verdicts.{no_module}
 use Rattle.regblock.proofs.Simulations.{simulated, bad_verilog, bad_stimulus}
 use Rattle.regblock.proofs.Waves.{bad_vcd, read_back, waved, waves_bad_stimulus, waves_bad_verilog}
@@ -68,6 +68,12 @@ returns-in-Ok-clause-headered g c = headered _ _ _ _ _ _ (returns-in-Ok-clause-e
 
 pub returns-in-Ok-clause-not_headered : goal.returns-in-Ok-clause-not_headered
 returns-in-Ok-clause-not_headered g c = not_headered _ _ _ _ _ _ (returns-in-Ok-clause-ends g c)
+
+pub returns-in-Ok-clause-documented : goal.returns-in-Ok-clause-documented
+returns-in-Ok-clause-documented g c = documented _ _ _ _ _ _ (returns-in-Ok-clause-ends g c)
+
+pub returns-in-Ok-clause-undocumented : goal.returns-in-Ok-clause-undocumented
+returns-in-Ok-clause-undocumented g c = undocumented _ _ _ _ _ _ (returns-in-Ok-clause-ends g c)
 
 pub returns-in-Ok-clause-fronted : goal.returns-in-Ok-clause-fronted
 returns-in-Ok-clause-fronted g c = fronted _ _ _ _ _ _ (returns-in-Ok-clause-ends g c)
