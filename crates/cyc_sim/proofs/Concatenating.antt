@@ -1,7 +1,7 @@
 -- Concatenations, part by part.
 use Rattle.std.specs.List.{AllByRecursion}
 use Rattle.std.specs.Prelude.{IfSome}
-use Rattle.std.proofs.Common.{◌≡◌, ℕ, ◌+◌, ◌*◌, ◌^◌, ◌<◌, ◌≤◌, true, ◌&&◌, nat_le, IsSome, Option, Some, None, List, [], ◌∷◌, ◌++◌, length, take, get_or, refl, ap, sym, subst, ◌∙◌, append_assoc, arith, rules, Vec, Box, Global}
+use Rattle.std.proofs.Common.{◌≡◌, ℕ, ◌+◌, ◌*◌, ◌^◌, ◌<◌, ◌≤◌, true, nat_le, IsSome, Option, Some, None, List, [], ◌∷◌, ◌++◌, length, take, get_or, refl, ap, sym, subst, ◌∙◌, append_assoc, arith, rules, Vec, Box, Global}
 use Rattle.std.proofs.lemmas.List.{append-nil, take_more, take_all}
 use Rattle.std.proofs.lemmas.Bool.Decides.{nat_tests}
 use Rattle.std.proofs.lemmas.Nat.{pow-add}
@@ -114,7 +114,7 @@ compiled_none known l l' w adds width = record {
 }
 
 compiled_behind : (known : Known) (es : Exprs) (e : Expr) (a b c d : Listing) (high low w : Wire) → CompilesAll known es a b high → Compiles known e b c low
-    → Adds c d (Join high.place low.place low.width) w.place → w.width ≡ high.width + low.width → CompilesAll known (behind es e) a d w
+    → Adds c d (Join high.place low.place low.width (high.width + low.width)) w.place → w.width ≡ high.width + low.width → CompilesAll known (behind es e) a d w
 compiled_behind known es e a b c d high low w h k adds width = record {
   extends = extends_both a b d h.extends (extends_both b c d k.extends (extends_one c d _ w.place adds));
   below = end_adds c d _ w.place adds;
@@ -133,7 +133,7 @@ compiled_behind known es e a b c d high low w h k adds width = record {
       let fits_e = expr_fits known ws v a.operations.items base e wide agrees s.1 t.1 k.nets in
       let fits_es = exprs_fit known ws v a.operations.items base es wide agrees s.0 (omega (arith, both, narrow)) t.0 h.nets in
       added c d base _ w.place adds long_c
-      ∙ (rw (x, y, k.width ws wide) (joined_small (value_of_all ws v es) (value_of ws v e) (width_of_all ws es) (width_of ws e) fits_es fits_e (omega (arith, both, narrow))) ∙ sym (value-behind ws v es e));
+      ∙ (rw (x, y, h.width ws wide, k.width ws wide) (joined_small (value_of_all ws v es) (value_of ws v e) (width_of_all ws es) (width_of ws e) fits_es fits_e (omega (arith, both, narrow))) ∙ sym (value-behind ws v es e));
 }
 
 -- the first part

@@ -1,7 +1,7 @@
 -- Nets that have a place, as they are found one after the other.
 use Rattle.std.specs.Str.{bytes_eq}
 use Rattle.std.specs.List.{AllZip, slice_get}
-use Rattle.std.proofs.Common.{◌≡◌, ℕ, zero, suc, ◌<◌, Bool, true, false, ◌&&◌, if◌then◌else◌, Option, Some, List, [], ◌∷◌, ◌++◌, length, take, get_or, refl, sym, ◌∙◌, ◌⊎◌, inl, inr, arith}
+use Rattle.std.proofs.Common.{◌≡◌, ℕ, zero, suc, ◌<◌, Bool, true, false, if◌then◌else◌, Option, Some, List, [], ◌∷◌, ◌++◌, length, take, get_or, refl, sym, ◌∙◌, ◌⊎◌, inl, inr, arith}
 use Rattle.cyc_sim.specs.declared.listing.Wire.{Wire}
 use Rattle.plain_lemmas.proofs.Lists.{bytes_eq-same as same_bytes}
 

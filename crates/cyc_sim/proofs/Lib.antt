@@ -1,7 +1,9 @@
 mod Compiling
 mod Concatenating
+mod Engines
 pub mod Facts
 mod Knowing
+mod Lows
 mod Numbers
 mod Ordering
 mod Places

@@ -64,7 +64,7 @@ pub record Adds (old new : Listing) (operation : Operation) (place : ℕ) : Type
 -- a wire is the one behind those joined before it, or that one alone
 abbrev pub IsBehind : Listing → Listing → Option Wire → Wire → Wire → Type 0
 IsBehind old new None low w = (new ≡ old) × (w ≡ low)
-IsBehind old new (Some high) low w = Adds old new (Join high.place low.place low.width) w.place × (w.width ≡ high.width + low.width)
+IsBehind old new (Some high) low w = Adds old new (Join high.place low.place low.width (high.width + low.width)) w.place × (w.width ≡ high.width + low.width)
 
 -- a listing has further operations, after which the place of a wire has the value of an expression, and the wire its width
 pub record Compiles (known : Known) (e : Expr) (old new : Listing) (w : Wire) : Type 0 where

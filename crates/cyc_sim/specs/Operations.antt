@@ -25,7 +25,7 @@ result_over Ge w a b = value_over Ge w a b
 abbrev pub value_by : List ℕ → Operation → ℕ
 value_by vs (Constant v) = v
 value_by vs (Part from low width) = slice_index vs from / 2 ^ low % 2 ^ width
-value_by vs (Join high low width) = (slice_index vs high * 2 ^ width + slice_index vs low) % 2 ^ 128
+value_by vs (Join high low width total) = (slice_index vs high * 2 ^ width + slice_index vs low) % 2 ^ 128 % 2 ^ total
 value_by vs (One op width of) = value_under op width (slice_index vs of)
 value_by vs (Two op width left right) = result_over op width (slice_index vs left) (slice_index vs right)
 value_by vs (Pick test chosen other) = if slice_index vs test == 0 then slice_index vs other else slice_index vs chosen
@@ -36,7 +36,7 @@ value_by vs (Guard pin low value next) =
 abbrev pub is_within : ℕ → Operation → Bool
 is_within limit (Constant v) = true
 is_within limit (Part from low width) = nat_lt from limit && nat_lt low 128
-is_within limit (Join high low width) = nat_lt high limit && nat_lt low limit
+is_within limit (Join high low width total) = nat_lt high limit && nat_lt low limit
 is_within limit (One op width of) = nat_lt of limit && nat_le width 128
 is_within limit (Two op width left right) = nat_lt left limit && nat_lt right limit
 is_within limit (Pick test chosen other) = nat_lt test limit && nat_lt chosen limit && nat_lt other limit

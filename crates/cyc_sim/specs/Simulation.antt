@@ -1,11 +1,17 @@
 -- What a simulation does at an edge of the clock.
-use Rattle.std.specs.Prelude.{◌≡◌, ℕ, List, ◌++◌, length, take, drop}
+use Rattle.std.specs.Prelude.{◌≡◌, ℕ, List, ◌++◌, length, map, take, drop}
 use Rattle.v_design.specs.Expr.{Values}
 use Rattle.v_design.specs.Design.{Module, inputs, outputs, registers}
 use Rattle.v_design.specs.Run.{Edge, values_at}
 use Rattle.v_design.specs.Fits.{FitsPins}
 use Rattle.cyc_sim.specs.Operations.{values_after, values_in}
 use Rattle.cyc_sim.specs.declared.program.Program.{Program}
+use Rattle.cyc_sim.specs.Narrow.{AreNarrow, wide_of}
+use Rattle.cyc_sim.specs.declared.operation.Operation.{Operation}
+use Rattle.cyc_sim.specs.declared.narrow_sim.NarrowSim.{NarrowSim}
+use Rattle.cyc_sim.specs.declared.sim.WideSim.{WideSim}
+use Rattle.cyc_sim.specs.declared.sim.Engine.{Engine}
+use Rattle.cyc_sim.specs.declared.sim.Engine.TheVariants.{Wide, Narrow}
 use Rattle.cyc_sim.specs.declared.sim.Sim.{Sim}
 
 -- the outputs that a program gives for pins and contents
@@ -24,6 +30,11 @@ pub record StepsTo (m : Module) (contents : Values) (pins outs moved : List ℕ)
   pub kept : values_at after (registers m) ≡ moved
   pub fits : FitsPins (registers m) moved
 
+-- operations give what a module gives at an edge, whatever the pins and the contents are
+abbrev pub EdgesBy : Module → List Operation → List ℕ → List ℕ → Type 0
+EdgesBy m operations outs nexts = (pins numbers : List ℕ) (contents : Values) → FitsPins (inputs m) pins → FitsPins (registers m) numbers → values_at contents (registers m) ≡ numbers
+    → StepsTo m contents pins (values_in (values_after operations (pins ++ numbers)) outs) (values_in (values_after operations (pins ++ numbers)) nexts)
+
 -- a program is of a module: it gives what the module gives at an edge, whatever the pins and the contents are
 pub record IsProgramOf (m : Module) (p : Program) : Type 0 where
   pub takes : p.inputs ≡ length (inputs m)
@@ -32,20 +43,57 @@ pub record IsProgramOf (m : Module) (p : Program) : Type 0 where
   pub edges : (pins numbers : List ℕ) (contents : Values) → FitsPins (inputs m) pins → FitsPins (registers m) numbers → values_at contents (registers m) ≡ numbers
       → StepsTo m contents pins (outputs_of p pins numbers) (next_of p pins numbers)
 
+-- the contents of a simulation's registers, in order of declaration, by each of the two engines
+abbrev pub held_wide : WideSim → List ℕ
+held_wide s = take (length s.program.registers.items) (drop s.program.inputs s.values.items)
+
+abbrev pub held_narrow : NarrowSim → List ℕ
+held_narrow s = take (length s.program.registers.items) (drop s.program.inputs s.values.items)
+
+abbrev pub held_in : Engine → List ℕ
+held_in (Wide s) = held_wide s
+held_in (Narrow s) = held_narrow s
+
+abbrev pub inputs_in : Engine → ℕ
+inputs_in (Wide s) = s.program.inputs
+inputs_in (Narrow s) = s.program.inputs
+
+abbrev pub outputs_in : Engine → ℕ
+outputs_in (Wide s) = length s.program.outputs.items
+outputs_in (Narrow s) = length s.program.outputs.items
+
 -- how many pins a step of a simulation takes, and how many outputs it gives
 abbrev pub input_count : Sim → ℕ
-input_count s = s.program.inputs
+input_count s = inputs_in s.engine
 
 abbrev pub output_count : Sim → ℕ
-output_count s = length s.program.outputs.items
+output_count s = outputs_in s.engine
 
--- the contents of a simulation's registers, in order of declaration
 unfoldable pub held : Sim → List ℕ
-held s = take (length s.program.registers.items) (drop s.program.inputs s.values.items)
+held s = held_in s.engine
+
+-- a simulation is of a module, over values of at most 128 bits
+pub record IsWideOf (m : Module) (s : WideSim) : Type 0 where
+  pub takes : s.program.inputs ≡ length (inputs m)
+  pub gives : length s.program.outputs.items ≡ length (outputs m)
+  pub program : IsProgramOf m s.program
+  pub fits : FitsPins (registers m) (held_wide s)
+
+-- a simulation is of a module whose values have at most 64 bits
+pub record IsNarrowOf (m : Module) (s : NarrowSim) : Type 0 where
+  pub takes : s.program.inputs ≡ length (inputs m)
+  pub gives : length s.program.outputs.items ≡ length (outputs m)
+  pub edges : EdgesBy m (map wide_of s.program.operations.items) s.program.outputs.items s.program.registers.items
+  pub pins : AreNarrow (inputs m)
+  pub contents : AreNarrow (registers m)
+  pub fits : FitsPins (registers m) (held_narrow s)
+
+abbrev pub IsEngineOf : Module → Engine → Type 0
+IsEngineOf m (Wide s) = IsWideOf m s
+IsEngineOf m (Narrow s) = IsNarrowOf m s
 
 -- a simulation is of a module
 pub record IsSimOf (m : Module) (s : Sim) : Type 0 where
   pub takes : input_count s ≡ length (inputs m)
   pub gives : output_count s ≡ length (outputs m)
-  pub program : IsProgramOf m s.program
-  pub fits : FitsPins (registers m) (held s)
+  pub engine : IsEngineOf m s.engine

@@ -3,10 +3,14 @@
 
 mod compile;
 mod listing;
+mod narrow;
+mod narrow_sim;
+mod narrowing;
 mod operation;
 mod order;
 mod prepare;
 mod program;
 mod sim;
+mod width;
 
 pub use sim::Sim;

@@ -105,18 +105,17 @@ impl Listing {
         requires high { high.place < end_of self.old }
         requires low { low.place < end_of self.old }
         requires narrow { high.width + low.width < 256 }
-        ensures adds { IfOk result (λ w. Adds self.old self.new (Join high.place low.place low.width) w.place) }
+        ensures adds { IfOk result (λ w. Adds self.old self.new (Join high.place low.place low.width (high.width + low.width)) w.place) }
         ensures width { IfOk result (λ w. w.width ≡ high.width + low.width) }
     {
+        let width = high.width + low.width;
         let place = self.push(Operation::Join {
             high: high.place,
             low: low.place,
             width: low.width,
+            total: width,
         })?;
-        Ok(Wire {
-            place,
-            width: high.width + low.width,
-        })
+        Ok(Wire { place, width })
     }
 
     /// Adds an operator before a wire.

@@ -16,11 +16,12 @@ pub(crate) enum Operation {
         low: u8,
         width: u8,
     },
-    /// A place above another one of so many bits.
+    /// A place above another one of so many bits, which have a total of so many.
     Join {
         high: usize,
         low: usize,
         width: u8,
+        total: u8,
     },
     /// An operator before an operand of so many bits.
     One {
@@ -125,7 +126,12 @@ impl Operation {
         match self {
             Operation::Constant(value) => value,
             Operation::Part { from, low, width } => lowest(values[from] >> low, width),
-            Operation::Join { high, low, width } => joined(values[high], values[low], width),
+            Operation::Join {
+                high,
+                low,
+                width,
+                total,
+            } => lowest(joined(values[high], values[low], width), total),
             Operation::One { op, width, of } => under(op, width, values[of]),
             Operation::Two {
                 op,

@@ -1,6 +1,7 @@
 //! What the rules on settings leave.
 
 use crate::fact::Fact;
+use encodings::Encodings;
 use rdl_layers::Props;
 
 /// What is known of the nodes of a tree of which no rule on settings fails.
@@ -10,4 +11,6 @@ pub struct Settled<'a> {
     pub props: Props<'a>,
     /// What is known of the fields and signals beside that, each at its number.
     pub facts: Vec<Fact>,
+    /// The enumerations that the fields of its block are encoded by.
+    pub encodings: Encodings<'a>,
 }

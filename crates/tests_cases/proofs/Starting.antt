@@ -6,7 +6,9 @@ use Rattle.v_design.specs.Expr.{Values}
 use Rattle.v_design.specs.Design.{Module, inputs, registers}
 use Rattle.v_design.specs.Run.{values_at}
 use Rattle.v_design.specs.Fits.{FitsPins}
-use Rattle.cyc_sim.specs.Simulation.{IsSimOf, StepsTo, held}
+use Rattle.cyc_sim.specs.Simulation.{IsEngineOf, IsSimOf, StepsTo, held, held_in}
+use Rattle.cyc_sim.specs.declared.sim.Engine.{Engine}
+use Rattle.cyc_sim.specs.declared.sim.Engine.TheVariants.{Wide, Narrow}
 use Rattle.cyc_sim.specs.declared.sim.Sim.{Sim}
 use Rattle.tests_cases.specs.Going.{Goes}
 
@@ -23,8 +25,14 @@ known (p ∷ []) (x ∷ []) f l = refl
 known (p ∷ []) (x ∷ y ∷ xs) f l = absurd f.1
 known (p ∷ q ∷ ps) xs f l = absurd (omega (arith, l))
 
+-- the contents of a simulation fit their registers
+held_fits : (m : Module) (e : Engine) → IsEngineOf m e → FitsPins (registers m) (held_in e)
+held_fits m (Wide s) is = is.fits
+held_fits m (Narrow s) is = is.fits
+
 pub goes : (m : Module) (s : Sim) → IsSimOf m s → length (registers m) ≡ 1 → Goes m s
-goes m s is one = record { is_sim = is; contents = λ _. get_or (held s) 0 0; kept = known (registers m) (held s) is.fits one }
+unfolding held
+goes m s is one = record { is_sim = is; contents = λ _. get_or (held s) 0 0; kept = known (registers m) (held s) (held_fits m s.engine is.engine) one }
 
 -- after an edge it goes on
 pub goes_on : (m : Module) (s t : Sim) (pins outs : List ℕ) → FitsPins (inputs m) pins → Goes m s

@@ -1,0 +1,22 @@
+use Rattle.std.proofs.Common.{◌≡◌, length, take, drop, ap, ◌∙◌, arith}
+use Rattle.std.specs.Vec.{with_items}
+use Rattle.std.proofs.lemmas.List.{length-map, with_items_is}
+use Rattle.cyc_sim.specs.Narrow.{low_all}
+use Rattle.cyc_sim.proofs.Places.{moved_places}
+use Rattle.cyc_sim.proofs.narrow_sim.NarrowSim.new.Goals as goal
+
+pub put_low-requires : goal.put_low-requires
+put_low-requires c = let p = c.args.program in omega (arith, c.requires, p.sized, ap length c.deref_mut.ensures.value, c.in_ok-values.values.ok.0, c.in_ok-values.ensures.len)
+
+-- the contents are those that the simulation starts at
+contents : (c : goal.After-result-1) → take (length c.args.program.registers.items) (drop c.args.program.inputs c.put_low.new.values) ≡ low_all c.args.start.now
+contents c =
+    let p = c.args.program in
+    moved_places _ (low_all c.args.start.now) _ _ p.inputs (length p.registers.items) (length-map c.args.start.now _ ∙ c.requires)
+    (omega (arith, p.sized, ap length c.deref_mut.ensures.value, c.in_ok-values.values.ok.0, c.in_ok-values.ensures.len)) c.put_low.ensures
+
+written : (c : goal.After-result-1) → (with_items c.in_ok-values.values c.put_low.new.values).items ≡ c.put_low.new.values
+written c = with_items_is c.in_ok-values.values c.put_low.new.values (omega (arith, ap length c.deref_mut.ensures.value, c.in_ok-values.values.ok.0, c.put_low.auto.values))
+
+pub returns-clause-start : goal.returns-clause-start
+returns-clause-start c = let p = c.args.program in ap (λ vs. take (length p.registers.items) (drop p.inputs vs)) (written c) ∙ contents c
