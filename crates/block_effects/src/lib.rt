@@ -5,10 +5,8 @@ mod kinds;
 mod laws;
 mod listing;
 mod notes;
-mod relative;
 
 pub use kinds::Effect;
 pub use laws::{effects_hold, hardware_leaves, lanes_are, reads_leave, writes_store};
 pub use listing::effects_of;
 pub use notes::{Note, Notes};
-pub use relative::push_relative;
