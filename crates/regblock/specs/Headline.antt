@@ -4,6 +4,7 @@ use Rattle.rb_base.specs.declared.place.Place.{Place}
 use Rattle.rdl_base.specs.declared.rule.Rule.{Rule}
 use Rattle.c_header.specs.Header.{header}
 use Rattle.html_manual.specs.Page.{page}
+use Rattle.rdl_encodings.specs.Encoded.{source_encodings}
 use Rattle.rdl_notes.specs.Notes.{notes_of}
 use Rattle.rb_edge.specs.Shelf.{Files, Holds}
 use Rattle.rb_model.specs.declared.block.Block.{Block}
@@ -75,25 +76,26 @@ pub record IsTable (contents : Option Files) (top : Option (List ℕ)) (file : L
   pub written : TookAll out (address_lines block)
   pub quiet : TookAll err []
 
--- Done by `header`: the source breaks no rule, and what was written is the C header of the block that it describes.
+-- Done by `header`: the source breaks no rule, and what was written is the C header of the block that it describes and of the enumerations
+-- by which its fields are encoded.
 pub record IsHeader (contents : Option Files) (top : Option (List ℕ)) (file : List ℕ) (err out : Passage) : Type 0 where
   pub source : List ℕ
   pub tree : Source
   pub block : Block
   pub held : Holds contents file source
   pub described : IsDescribedWith top source tree 0 block
-  pub written : TookAll out (header block)
+  pub written : TookAll out (header block (source_encodings top tree))
   pub quiet : TookAll err []
 
 -- Done by `manual`: the source breaks no rule, and what was written is the manual page of the block that it describes, with the texts of
--- its parts' `name` and `desc`.
+-- its parts' `name` and `desc` and the enumerations by which its fields are encoded.
 pub record IsManual (contents : Option Files) (top : Option (List ℕ)) (file : List ℕ) (err out : Passage) : Type 0 where
   pub source : List ℕ
   pub tree : Source
   pub block : Block
   pub held : Holds contents file source
   pub described : IsDescribedWith top source tree 0 block
-  pub written : TookAll out (page block (notes_of top tree))
+  pub written : TookAll out (page block (notes_of top tree) (source_encodings top tree))
   pub quiet : TookAll err []
 
 -- each file holds its source

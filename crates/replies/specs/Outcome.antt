@@ -13,6 +13,7 @@ use Rattle.rdl_verdict.specs.Verdict.{IsAxiVerdict, IsVerdict, accesses}
 use Rattle.report_text.specs.Lines.{address_lines}
 use Rattle.c_header.specs.Header.{header}
 use Rattle.html_manual.specs.Page.{page}
+use Rattle.rdl_encodings.specs.Encoded.{source_encodings}
 use Rattle.rdl_notes.specs.Notes.{notes_of}
 use Rattle.verdict_text.specs.Lines.{ok_line, rule_line, verdict_lines}
 use Rattle.command_line.specs.Words.{Command, check, compile, map_of, header_of, manual_of, axi_of, sim, vcd, pins_of, run_of, drive_of, gen_of, waits_of, Asks, AsksNothing}
@@ -109,20 +110,22 @@ pub record IsMapped (top : Option (List ℕ)) (source : List ℕ) (texts : Texts
   pub table : texts.out ≡ address_lines block
   pub quiet : texts.err ≡ []
 
--- the source breaks no rule, and on out is the C header of the block that it describes
+-- the source breaks no rule, and on out is the C header of the block that it describes and of the enumerations by which its fields are
+-- encoded
 pub record IsHeaded (top : Option (List ℕ)) (source : List ℕ) (texts : Texts) : Type 0 where
   pub tree : Source
   pub block : Block
   pub described : IsDescribedWith top source tree 0 block
-  pub text : texts.out ≡ header block
+  pub text : texts.out ≡ header block (source_encodings top tree)
   pub quiet : texts.err ≡ []
 
--- the source breaks no rule, and on out is the manual page of the block that it describes, with what the source says of its parts
+-- the source breaks no rule, and on out is the manual page of the block that it describes, with what the source says of its parts and the
+-- enumerations by which its fields are encoded
 pub record IsDocumented (top : Option (List ℕ)) (source : List ℕ) (texts : Texts) : Type 0 where
   pub tree : Source
   pub block : Block
   pub described : IsDescribedWith top source tree 0 block
-  pub text : texts.out ≡ page block (notes_of top tree)
+  pub text : texts.out ≡ page block (notes_of top tree) (source_encodings top tree)
   pub quiet : texts.err ≡ []
 
 -- the source breaks no rule, each of its registers is accessed 32 bits at once, and on out is a module of the block that it describes

@@ -3,6 +3,7 @@
 ghost use Rattle.std.specs.Prelude.{◌≡◌, ◌≤◌, ◌∷◌, [], ℕ, List, Option, length, IfOk, option_copied};
 ghost use Rattle.command_line.specs.Words.{manual_of};
 ghost use Rattle.html_manual.specs.Page.{page, text_of};
+ghost use Rattle.rdl_encodings.specs.Encoded.{source_encodings};
 ghost use Rattle.rdl_notes.specs.Notes.{notes_of as all_notes};
 ghost use Rattle.rdl_verdict.specs.Answers.{IsJudged};
 ghost use Rattle.replies.specs.Outcome.{FailedRead, Judges, Answers, source_limit};
@@ -23,10 +24,10 @@ use std::alloc::Global;
 fn manual_of_judged<'a>(alloc: Global, judged: Judged<'a>) -> Result<Manual<'a>, NoMemory>
     requires { (wanted : Option (List ℕ)) × ((text : List ℕ) × IsJudged wanted text judged) }
     ensures { IfOk result (λ m. (wanted : Option (List ℕ)) (text : List ℕ) → IsJudged wanted text judged.entry
-        → text_of m ≡ page judged.entry.block (all_notes wanted judged.entry.elab.source.now)) }
+        → text_of m ≡ page judged.entry.block (all_notes wanted judged.entry.elab.source.now) (source_encodings wanted judged.entry.elab.source.now)) }
 {
     let notes = notes_of(alloc, &judged.settled.props, &judged.elab)?;
-    let manual = prepare(alloc, judged.block, notes)?;
+    let manual = prepare(alloc, judged.block, notes, judged.settled.encodings)?;
     Ok(manual)
 }
 

@@ -1,17 +1,32 @@
 //! A source, from its file to its C header.
 
-ghost use Rattle.std.specs.Prelude.{◌≡◌, ◌≤◌, ◌∷◌, [], ℕ, List, length, IfOk, option_copied};
+ghost use Rattle.std.specs.Prelude.{◌≡◌, ◌≤◌, ◌∷◌, [], ℕ, List, Option, length, IfOk, option_copied};
+ghost use Rattle.c_header.specs.Header as spec;
 ghost use Rattle.command_line.specs.Words.{header_of};
+ghost use Rattle.rdl_encodings.specs.Encoded.{source_encodings};
+ghost use Rattle.rdl_verdict.specs.Answers.{IsJudged};
 ghost use Rattle.replies.specs.Outcome.{FailedRead, Judges, Answers, source_limit};
 ghost use Rattle.replies.specs.Answer.{texts_of};
 
 use crate::answer::{Answer, done};
-use crate::describing::{Described, describe_source};
+use crate::describing::refusal;
 use crate::loading::{Loaded, SOURCE_LIMIT, load_file};
+use bumpalo::Bump;
 use c_header::header;
 use rb_base::NoMemory;
 use rb_edge::Shelf;
+use rdl_verdict::{JudgeError, Judged, judge};
 use std::alloc::Global;
+
+// The header of a source that breaks no rule.
+fn header_of_judged(alloc: Global, judged: &Judged<'_>) -> Result<Vec<u8>, NoMemory>
+    requires { (wanted : Option (List ℕ)) × ((text : List ℕ) × IsJudged wanted text judged.now) }
+    ensures { IfOk result (λ r. (wanted : Option (List ℕ)) (text : List ℕ) → IsJudged wanted text judged.now
+        → r.items ≡ spec.header judged.now.block (source_encodings wanted judged.now.elab.source.now)) }
+{
+    let text = header(alloc, &judged.block, &judged.settled.encodings)?;
+    Ok(text)
+}
 
 // The header of a source.
 fn header_source(
@@ -23,12 +38,17 @@ fn header_source(
     requires { length source.now ≤ source_limit }
     ensures { IfOk result (λ answer. Judges (header_of (option_copied top.entry) file.now) (source.now ∷ []) answer.status (texts_of answer)) }
 {
-    match describe_source(alloc, None, top, file, source)? {
-        Described::Clean(block) => {
-            let text = header(alloc, &block)?;
+    let arena = Bump::new(alloc);
+    match judge(alloc, &arena, source, top) {
+        Ok(judged) => {
+            let text = header_of_judged(alloc, &judged)?;
             Ok(done(alloc, text))
         }
-        Described::Stopped(answer) => Ok(answer),
+        Err(JudgeError::Faults(faults)) => {
+            let answer = refusal(alloc, file, source, faults)?;
+            Ok(answer)
+        }
+        Err(JudgeError::NoMemory) => Err(NoMemory),
     }
 }
 

@@ -1,5 +1,6 @@
 use Rattle.std.proofs.Common.{◌≡◌, ◌∙◌, ℕ, List, ap}
 use Rattle.html_manual.specs.Page.{page}
+use Rattle.rdl_notes.specs.Notes.{notes_of}
 use Rattle.replies.proofs.documenting.manual_of_judged.Goals as goal
 
 pub notes_of-requires-clause-clean : goal.notes_of-requires-clause-clean
@@ -12,4 +13,7 @@ pub prepare-requires : goal.prepare-requires
 prepare-requires c = c.requires.1.1.described.sound
 
 pub returns : goal.returns
-returns c = λ wanted text j. c.in_ok-manual.ensures ∙ ap (page c.args.judged.block) (c.in_ok-notes.ensures wanted j.tree)
+returns c = λ wanted text j.
+    let b = c.args.judged.block in
+    let noted = c.in_ok-notes.ensures wanted j.tree in
+    c.in_ok-manual.ensures ∙ ap (λ n. page b n c.args.judged.settled.encodings) noted ∙ ap (page b (notes_of wanted c.args.judged.elab.source.now)) j.encodings
