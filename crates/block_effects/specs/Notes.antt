@@ -6,9 +6,15 @@ pub record Said : Type 0 where
   pub name : Option (List ℕ)
   pub desc : Option (List ℕ)
 
--- each list in the order of the block's
+-- an address map or register file of this path
+pub record SaidGroup : Type 0 where
+  pub path : List ℕ
+  pub said : Said
+
+-- Lists of parts are in the order of the block's; of groups, those that something is said of, in the order of the text.
 pub record AllSaid : Type 0 where
   pub top : Said
   pub regs : List Said
   pub views : List Said
   pub signals : List Said
+  pub groups : List SaidGroup

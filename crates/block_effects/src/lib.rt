@@ -9,4 +9,4 @@ mod notes;
 pub use kinds::Effect;
 pub use laws::{effects_hold, hardware_leaves, lanes_are, reads_leave, writes_store};
 pub use listing::effects_of;
-pub use notes::{Note, Notes};
+pub use notes::{Group, Note, Notes};

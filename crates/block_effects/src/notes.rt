@@ -1,5 +1,6 @@
 //! What a source says of the parts of a block.
 
+use rb_base::Text;
 use std::marker::Model;
 
 /// The `name` and `desc` of a part: the bytes between the quotes, with their backslashes.
@@ -18,13 +19,29 @@ impl<'a> Model for Note<'a> {
     ghost view = { λ n. record { name = option_copied n.name; desc = option_copied n.desc } };
 }
 
-/// The notes of a block: of its top, and of its registers, views and signals by their numbers.
+/// The note of an address map or register file that registers stand in, and its path.
+#[derive(Drop)]
+pub struct Group<'a> {
+    pub path: Text,
+    pub note: Note<'a>,
+}
+
+impl<'a> Model for Group<'a> {
+    ghost use Rattle.block_effects.specs.Notes.{SaidGroup};
+
+    ghost Value = { SaidGroup };
+
+    ghost view = { λ g. record { path = g.path; said = g.note } };
+}
+
+/// The notes of a block: of its top, of its registers, views and signals by their numbers, and of the groups that have one.
 #[derive(Drop)]
 pub struct Notes<'a> {
     pub top: Note<'a>,
     pub regs: Vec<Note<'a>>,
     pub views: Vec<Note<'a>>,
     pub signals: Vec<Note<'a>>,
+    pub groups: Vec<Group<'a>>,
 }
 
 impl<'a> Model for Notes<'a> {
@@ -32,5 +49,5 @@ impl<'a> Model for Notes<'a> {
 
     ghost Value = { AllSaid };
 
-    ghost view = { λ n. record { top = n.top; regs = n.regs.items; views = n.views.items; signals = n.signals.items } };
+    ghost view = { λ n. record { top = n.top; regs = n.regs.items; views = n.views.items; signals = n.signals.items; groups = n.groups.items } };
 }
