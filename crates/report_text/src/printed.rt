@@ -1,6 +1,7 @@
 //! Lines of cells.
 
-ghost use Rattle.std.specs.Prelude.{◌≡◌, ◌++◌, OnOk, map};
+ghost use Rattle.std.specs.Prelude.{◌≡◌, ◌≤◌, ◌<◌, ◌*◌, ◌/◌, ◌^◌, ◌++◌, false, OnOk, map};
+ghost use Rattle.std.specs.Fmt.{digits, digit_glyph};
 ghost use Rattle.report_text.specs.Printed.{line, cell};
 
 use rb_base::{NoMemory, Pin, hex_digits};
@@ -19,8 +20,49 @@ pub fn push_names(text: &mut Vec<u8>, pins: &[Pin]) -> Result<(), NoMemory>
     Ok(())
 }
 
-/// Adds a number in hexadecimal digits, behind `0x`. The only error is want of memory.
-pub fn push_number(text: &mut Vec<u8>, number: u128) -> Result<(), NoMemory>
+/// The lower case hexadecimal digit of a number below 16.
+fn hex_digit(number: u64) -> u8
+    requires { number < 16 }
+    ensures { result ≡ digit_glyph false number }
+{
+    if number < 10 {
+        b'0' + number as u8
+    } else {
+        b'a' + (number - 10) as u8
+    }
+}
+
+/// How many hexadecimal digits of a number stand behind its first.
+fn digits_behind_first(number: u64) -> u32
+    ensures most { result ≤ 15 }
+    ensures first { number / 2 ^ (4 * result) < 16 }
+    ensures counted { 1 ≤ result → 2 ^ (4 * result) ≤ number }
+{
+    if number < 16 {
+        0
+    } else {
+        (63 - number.leading_zeros()) / 4
+    }
+}
+
+/// Adds a number below 2^64 as a cell, from the first digit to the last, within room that is taken once.
+fn push_narrow(text: &mut Vec<u8>, number: u64) -> Result<(), NoMemory>
+    ensures { OnOk result (text.new.items ≡ text.old.items ++ cell number) }
+{
+    text.reserve(18)?;
+    text.push_reserved(b'0');
+    text.push_reserved(b'x');
+    let mut behind = digits_behind_first(number);
+    text.push_reserved(hex_digit(number >> (4 * behind)));
+    while behind > 0 {
+        behind -= 1;
+        text.push_reserved(hex_digit((number >> (4 * behind)) % 16));
+    }
+    Ok(())
+}
+
+/// Adds a number of any width as a cell.
+fn push_wide(text: &mut Vec<u8>, number: u128) -> Result<(), NoMemory>
     ensures { OnOk result (text.new.items ≡ text.old.items ++ cell number) }
 {
     let mut bytes = [0; 32];
@@ -28,6 +70,17 @@ pub fn push_number(text: &mut Vec<u8>, number: u128) -> Result<(), NoMemory>
     text.extend_from_slice(b"0x")?;
     text.extend_from_slice(&bytes[first..])?;
     Ok(())
+}
+
+/// Adds a number in hexadecimal digits, behind `0x`. The only error is want of memory.
+pub fn push_number(text: &mut Vec<u8>, number: u128) -> Result<(), NoMemory>
+    ensures { OnOk result (text.new.items ≡ text.old.items ++ cell number) }
+{
+    if number <= u128::from(u64::MAX) {
+        push_narrow(text, number as u64)
+    } else {
+        push_wide(text, number)
+    }
 }
 
 /// Adds numbers in hexadecimal digits as a line, with commas between.
