@@ -2,6 +2,8 @@
 #![tactic(auto)]
 
 mod ancestors;
+mod by_body;
+mod by_name;
 mod forms;
 mod laws;
 mod node_index;

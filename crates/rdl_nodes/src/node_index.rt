@@ -1,25 +1,27 @@
 //! Which nodes stand under a body, a name and indices.
 
-use indexmap::IndexMap;
+use crate::by_body::ByBody;
 use rb_base::NoMemory;
 use std::alloc::Global;
+use std::collections::BTreeMap;
 
-/// Nodes under bodies, names and indices, those under the same in the order in which they were put in.
+/// Nodes under bodies, names and indices, those under the same in the order in which they were put in. A source chooses the names and
+/// indices, so they are looked up in order: by a hash it could choose such as collide.
 #[derive(Drop)]
 pub struct NodeIndex<'a> {
-    nodes: IndexMap<(u32, &'a [u8], &'a [u64]), Vec<u32>>,
+    bodies: BTreeMap<&'a [u64], ByBody<'a>>,
 }
 
 impl<'a> NodeIndex<'a> {
-    ghost use Rattle.std.specs.Prelude.{◌≡◌, ◌++◌, ◌∷◌, [], false, IfOk, OnOk, cond};
-    ghost use Rattle.rdl_nodes.specs.Keyed.{Key, first_under, nodes_under, same_key};
+    ghost use Rattle.std.specs.Prelude.{◌≡◌, ◌++◌, ◌∷◌, [], ℕ, List, false, IfOk, OnOk, bytes_eq, cond};
+    ghost use Rattle.rdl_nodes.specs.Keyed.{Key, first_under, in_body, nodes_under, same_key};
 
     /// No nodes yet.
     pub fn new(alloc: Global) -> Self
         ensures { (k : Key) → nodes_under result k ≡ [] }
     {
         NodeIndex {
-            nodes: IndexMap::new(alloc),
+            bodies: BTreeMap::new(alloc),
         }
     }
 
@@ -27,8 +29,8 @@ impl<'a> NodeIndex<'a> {
     pub fn all<'s>(&'s self, body: u32, name: &'s [u8], index: &'s [u64]) -> &'s [u32]
         ensures { result.now ≡ nodes_under self.now (record { body = body; name = name.now; index = index.now }) }
     {
-        match self.nodes.get(&(body, name, index)) {
-            Some(list) => list,
+        match self.bodies.get(index) {
+            Some(bodies) => bodies.all(body, name),
             None => &[],
         }
     }
@@ -40,35 +42,15 @@ impl<'a> NodeIndex<'a> {
         self.all(body, name, index).first().copied()
     }
 
-    // Takes the nodes under a key out.
-    fn take(
-        &mut self,
-        alloc: Global,
-        body: u32,
-        name: &'a [u8],
-        index: &'a [u64],
-    ) -> Result<Vec<u32>, NoMemory>
-        ensures others { OnOk result ((k : Key) → same_key (record { body = body; name = name.now; index = index.now }) k ≡ false → nodes_under self.new k ≡ nodes_under self.old k) }
-        ensures taken { IfOk result (λ r. r.items ≡ nodes_under self.old (record { body = body; name = name.now; index = index.now })) }
+    // Takes the nodes with these indices out.
+    fn take(&mut self, alloc: Global, index: &'a [u64]) -> Result<ByBody<'a>, NoMemory>
+        ensures others { OnOk result ((k : Key) → bytes_eq index.now k.index ≡ false → nodes_under self.new k ≡ nodes_under self.old k) }
+        ensures taken { IfOk result (λ r. (b : ℕ) (n : List ℕ) → in_body r b n ≡ nodes_under self.old (record { body = b; name = n; index = index.now })) }
     {
-        match self.nodes.insert((body, name, index), Vec::new(alloc))? {
-            Some(list) => Ok(list),
-            None => Ok(Vec::new(alloc)),
+        match self.bodies.insert(index, ByBody::new(alloc))? {
+            Some(bodies) => Ok(bodies),
+            None => Ok(ByBody::new(alloc)),
         }
-    }
-
-    // Puts these nodes in place of those under a key.
-    fn set(
-        &mut self,
-        body: u32,
-        name: &'a [u8],
-        index: &'a [u64],
-        list: Vec<u32>,
-    ) -> Result<(), NoMemory>
-        ensures { OnOk result ((k : Key) → nodes_under self.new k ≡ cond (same_key (record { body = body; name = name.now; index = index.now }) k) list.items (nodes_under self.old k)) }
-    {
-        self.nodes.insert((body, name, index), list)?;
-        Ok(())
     }
 
     /// Puts a node behind those under the same key.
@@ -82,8 +64,9 @@ impl<'a> NodeIndex<'a> {
     ) -> Result<(), NoMemory>
         ensures { OnOk result ((k : Key) → nodes_under self.new k ≡ nodes_under self.old k ++ cond (same_key (record { body = body; name = name.now; index = index.now }) k) (node ∷ []) []) }
     {
-        let mut list = self.take(alloc, body, name, index)?;
-        list.push(node)?;
-        self.set(body, name, index, list)
+        let mut bodies = self.take(alloc, index)?;
+        bodies.put(alloc, body, name, node)?;
+        self.bodies.insert(index, bodies)?;
+        Ok(())
     }
 }
