@@ -6,6 +6,7 @@ use indexmap::IndexMap;
 use rdl_scopes::Components;
 use rdl_tree::{Bound, Def, Env, Item, Kind};
 use rdl_values::Table;
+use std::collections::BTreeMap;
 
 /// A definition in the bodies round its text, with the values of its parameters.
 #[derive(Clone, Copy)]
@@ -34,7 +35,7 @@ pub struct Body<'a> {
 }
 
 /// The value of a parameter, as part of a key.
-#[derive(PartialEq, Eq, Hash, Drop)]
+#[derive(PartialEq, Eq, PartialOrd, Ord, Drop)]
 pub(crate) enum ParameterKey<'a> {
     Number(u64),
     Flag(bool),
@@ -43,7 +44,7 @@ pub(crate) enum ParameterKey<'a> {
 
 /// By what a site is looked up: the nearest body round its definition, how many items of that stand before it, and the values of its
 /// parameters.
-#[derive(PartialEq, Eq, Hash, Drop)]
+#[derive(PartialEq, Eq, PartialOrd, Ord, Drop)]
 pub(crate) struct SiteKey<'a> {
     pub outer: Option<usize>,
     pub upto: Option<usize>,
@@ -58,7 +59,7 @@ pub struct Bodies<'a> {
     pub(crate) list: Vec<Body<'a>>,
     pub(crate) sites: Vec<Site<'a>>,
     // Which site to try for a key, and which body for a site.
-    pub(crate) known: IndexMap<SiteKey<'a>, usize>,
+    pub(crate) known: BTreeMap<SiteKey<'a>, usize>,
     pub(crate) opened: IndexMap<usize, usize>,
 }
 

@@ -14,6 +14,7 @@ use rb_base::NoMemory;
 use rdl_failures::Failures;
 use rdl_tree::Item;
 use std::alloc::Global;
+use std::collections::BTreeMap;
 
 /// The root's body alone, which has the number 0. The failures of its names are put in: E2, and those of its enumerations.
 pub fn open_root<'a>(
@@ -30,7 +31,7 @@ pub fn open_root<'a>(
         components: Vec::new(alloc),
         list: Vec::new(alloc),
         sites: Vec::new(alloc),
-        known: IndexMap::new(alloc),
+        known: BTreeMap::new(alloc),
         opened: IndexMap::new(alloc),
     };
     let text = BodyText {
