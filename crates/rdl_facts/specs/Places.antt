@@ -1,7 +1,9 @@
 -- Where the enumerations of a name stand.
 use Rattle.std.specs.Prelude.{◌≡◌, ℕ, List, [], filter, map, bytes_eq, Option, None, Some, Vec}
 use Rattle.std.specs.Global.{Global}
-use Rattle.std.specs.HashMap.{get_by}
+use Rattle.std.specs.BTreeMap.{get_by}
+use Rattle.std.specs.Cmp.Lexicographic.{slice_cmp}
+use Rattle.std.specs.Ordering.{nat_cmp}
 use Rattle.rdl_tree.specs.declared.expr.Name.{Name}
 use Rattle.rdl_facts.specs.declared.places.Places.{Places}
 
@@ -11,7 +13,7 @@ listed (Some v) = v.items
 
 -- the places that are found under a name
 abbrev pub places_of : Places → List ℕ → List ℕ
-places_of t n = listed (get_by (λ k. bytes_eq n k.now) t.by_name)
+places_of t n = listed (get_by (λ k. slice_cmp nat_cmp n k.now) t.by_name)
 
 -- They are those of these names, in order.
 pub record ArePlaces (t : Places) (names : List Name) : Type 0 where

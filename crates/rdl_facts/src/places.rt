@@ -1,14 +1,14 @@
 //! Where the enumerations of a name stand.
 
-use indexmap::IndexMap;
 use rb_base::NoMemory;
 use rdl_tree::Name;
 use std::alloc::Global;
+use std::collections::BTreeMap;
 
 /// Where the names of a body's enumerations stand, those of one name in text order.
 #[derive(Drop)]
 pub(crate) struct Places<'a> {
-    by_name: IndexMap<&'a [u8], Vec<u32>>,
+    by_name: BTreeMap<&'a [u8], Vec<u32>>,
 }
 
 impl<'a> Places<'a> {
@@ -51,7 +51,7 @@ impl<'a> Places<'a> {
         ensures { IfOk result (λ t. ArePlaces t names.now) }
     {
         let mut places = Places {
-            by_name: IndexMap::new(alloc),
+            by_name: BTreeMap::new(alloc),
         };
         for name in names {
             places.put(alloc, name)?;
