@@ -1,6 +1,8 @@
 -- Numbers under nodes and names.
 use Rattle.std.specs.Prelude.{◌≡◌, ℕ, ◌<◌, ◌≤◌, Bool, ◌&&◌, ◌==◌, cond, List, [], ◌∷◌, Option, None, Some, bytes_eq, slice_get, slice_index}
-use Rattle.std.specs.HashMap.{get_by}
+use Rattle.std.specs.BTreeMap.{get, get_by}
+use Rattle.std.specs.Cmp.Lexicographic.{slice_cmp}
+use Rattle.std.specs.Ordering.{nat_cmp}
 use Rattle.rdl_tree.specs.declared.item.Kind.TheVariants as kind
 use Rattle.rdl_tree.specs.declared.node.Elab.{Elab}
 use Rattle.rdl_tree.specs.declared.node.Node.{Node, out-Node}
@@ -9,6 +11,7 @@ use Rattle.rdl_values.specs.Elaborated.{nodes_of}
 use Rattle.rdl_values.specs.Instances.{Instance}
 use Rattle.rdl_layers.specs.Fields.{fields_of}
 use Rattle.rdl_rules.specs.Numbers.{all_fields, number_of}
+use Rattle.rdl_block_numbers.specs.declared.field_names.FieldNames.{FieldNames}
 use Rattle.rdl_block_numbers.specs.declared.fields.Names.{Names}
 
 -- The number of a node, and a name.
@@ -19,9 +22,17 @@ pub record Key : Type 0 where
 abbrev pub same_key : Key → Key → Bool
 same_key j k = j.body == k.body && bytes_eq j.name k.name
 
+-- the number under a name
+abbrev pub number_named : FieldNames → List ℕ → Option ℕ
+number_named t name = get_by (λ x. slice_cmp nat_cmp name x.now) t.numbers
+
+abbrev pub named_in : Option FieldNames → List ℕ → Option ℕ
+named_in None name = None
+named_in (Some t) name = number_named t name
+
 -- the number under a key
 abbrev pub number_under : Names → Key → Option ℕ
-number_under t k = get_by (λ x. k.body == x.0 && bytes_eq k.name x.1.now) t.numbers
+number_under t k = named_in (get nat_cmp t.nodes k.body) k.name
 
 -- what a node in the one of a number adds under a key
 abbrev pub added : ℕ → Node → List ℕ → Key → Option ℕ

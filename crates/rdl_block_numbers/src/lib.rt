@@ -1,6 +1,7 @@
 //! The numbers and path texts of nodes and items in the lists of their block.
 #![tactic(auto)]
 
+mod field_names;
 mod fields;
 mod item;
 mod laws;
