@@ -40,8 +40,8 @@ fn open_body(spots: &[Spot], scope: u32) -> usize
     }
 }
 
-// The open body in which the text of a setting stands, from the number that the setting has of it.
-fn body_round<'a>(tree: &OpenTree<'a>, scope: u32) -> Option<Body<'a>>
+/// The open body in which the text of a setting stands, from the number that the setting has of it.
+pub fn body_round<'a>(tree: &OpenTree<'a>, scope: u32) -> Option<Body<'a>>
     ensures { (e : Elab) (name : AnyName) (round : Scope) → NamesEnum e tree.now name scope round → Shows tree.now result (around round) }
 {
     settings_in_bodies();

@@ -9,6 +9,8 @@ mod places;
 mod table;
 mod unit_facts;
 
+pub use encoded::body_round;
 pub use facts::facts_of;
+pub use places::Places;
 pub use table::EnumNumbers;
 pub use unit_facts::{fact_of, has_parts};

@@ -7,7 +7,7 @@ use std::collections::BTreeMap;
 
 /// Where the names of a body's enumerations stand, those of one name in text order.
 #[derive(Drop)]
-pub(crate) struct Places<'a> {
+pub struct Places<'a> {
     by_name: BTreeMap<&'a [u8], Vec<u32>>,
 }
 
