@@ -1,8 +1,12 @@
+mod Ahead
 pub mod Cutting
 mod FirstProblem
 pub mod Fitting
 mod Headers
 mod Keeping
+mod Lines
+mod PlainRows
+mod PlainTables
 mod Positions
 mod RecordsLeft
 mod Rows

@@ -2,12 +2,12 @@
 use Rattle.std.proofs.Common.{◌≡◌, ℕ, zero, suc, ◌+◌, ◌<◌, Bool, true, false, if◌then◌else◌, Option, Some, None, List, [], ◌∷◌, ◌++◌, length, refl, ap, sym, subst, ◌∙◌, arith, ◌⊎◌, inl, inr, add-one}
 use denote.Ref.{Bor}
 use Rattle.csv.specs.Machine.{Read, step, is_end, ends_at_end, fields_after, field_after, next_record}
-use Rattle.csv.specs.Reading.{Reached, ReadRecord, default_config, records_from, records_next}
+use Rattle.csv.specs.Reading.{Reached, ReadRecord, default_config, reader_state, records_from, records_next, strip_bom}
 use Rattle.csv.specs.declared.parser.Config.{Config}
 use Rattle.csv.specs.declared.parser.State.{State}
 use Rattle.csv.specs.declared.parser.State.TheVariants as st
 use Rattle.csv.proofs.ReadFacts.{rows-more, rows-end}
-use Rattle.stim_csv.specs.PinTable.{Cells}
+use Rattle.stim_csv.specs.PinTable.{Cells, records_of}
 use Rattle.stim_csv.specs.Records.{Source, Reads, bytes_left, records_left, records_after}
 use Rattle.plain_lemmas.proofs.Options.{some_is}
 
@@ -90,3 +90,7 @@ pub record_missed : (a b : Source) (cells : Cells) → Reads a → ReadRecord (�
 record_missed a b cells reads r =
     let (y, at) = some_is (bytes_left a) reads.going in
     rw at (none_left a.state y (rows-end (λ (s : Bor (List ℕ)). Some s.now) a b cells default_config y reads.plain at r))
+
+-- a reader at the start has all records left
+pub at_start : (reader : Source) (bytes : List ℕ) → reader_state reader ≡ st.StartRecord → bytes_left reader ≡ Some (strip_bom bytes) → records_left reader ≡ records_of bytes
+at_start reader bytes state source = rw (state, source) refl

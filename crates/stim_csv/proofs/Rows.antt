@@ -1,5 +1,5 @@
 -- How the rows of a table are judged and kept.
-use Rattle.std.proofs.Common.{◌≡◌, ℕ, ◌+◌, ◌*◌, ◌<◌, Bool, true, false, if◌then◌else◌, ◌==◌, Option, Some, None, Ok, Err, List, [], ◌∷◌, ◌++◌, length, get_or, map, refl, ap, sym, subst, ◌∙◌, append_assoc, length-append, add-one, arith}
+use Rattle.std.proofs.Common.{◌≡◌, ℕ, ◌+◌, ◌*◌, ◌<◌, ◌≤◌, ◌||◌, nat_lt, Bool, true, false, if◌then◌else◌, ◌==◌, Option, Some, None, Ok, Err, List, [], ◌∷◌, ◌++◌, length, get_or, map, refl, ap, sym, subst, ◌∙◌, append_assoc, length-append, add-one, arith}
 use Rattle.std.specs.List.{AllByRecursion}
 use Rattle.std.specs.Str.{bytes_eq}
 use Rattle.std.proofs.lemmas.Bool.Decides.{nat_tests}
@@ -114,3 +114,26 @@ table_refused pins outputs names rows header e h sound found = rw (sound, ← h.
 
 pub header_refused : (pins : List Pin) (outputs : ℕ) (names : Cells) (rows : List Cells) (e : StimError) → header_problem pins names ≡ Some e → table_under pins outputs names rows ≡ Err e
 header_refused pins outputs names rows e h = rw h refl
+
+-- no row is kept before the first
+pub cut_none : (w : ℕ) (flat : List ℕ) (rows : List (List ℕ)) → rows ≡ cut w 0 flat ++ rows
+unfolding cut
+cut_none w flat rows = refl
+
+pub empty_length : (xs : List ℕ) (w : ℕ) → xs ≡ [] → length xs ≡ 0 * w
+empty_length xs w is = ap length is ∙ omega arith
+
+-- the columns of a full row are places among its numbers
+pub columns_in : (widths columns columns' numbers numbers' : List ℕ) (cells : Cells) → length cells ≡ length widths → numbers ≡ map number_of cells → AllByRecursion (λ c. c < length widths) columns
+    → columns' ≡ columns → numbers' ≡ numbers → AllByRecursion (λ c. c < length numbers') columns'
+columns_in widths columns columns' numbers numbers' cells full read low same same' =
+    let n : length widths ≡ length numbers' = sym full ∙ (sym (length-map cells number_of) ∙ ap length (sym (same' ∙ read))) in
+    subst (λ cs. AllByRecursion (λ c. c < length numbers') cs) (sym same) (columns_below (length widths) (length numbers') columns n low)
+
+-- a row that is not one too many is below the most
+pub below_most : (row outputs : ℕ) → row ≤ 1000000 → is_too_many row outputs ≡ false → row + 1 ≤ 1000000
+below_most row outputs low h = go (row == 1000000) refl h
+  where
+    go : (b : Bool) → (row == 1000000) ≡ b → (b || nat_lt 16777216 ((row + 1) * outputs)) ≡ false → row + 1 ≤ 1000000
+    go true e h = cc h
+    go false e h = grind (arith, nat_tests)

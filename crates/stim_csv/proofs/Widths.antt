@@ -20,3 +20,9 @@ quotient_test n m a pos small =
 
 pub narrow_fits : (n w : ℕ) → n < 2 ^ 128 → nat_eq (n / 2 ^ w) 0 ≡ fits w n
 narrow_fits n w small = quotient_test n (2 ^ w) (2 ^ 128) (pow_pos w) small
+
+-- numbers below 2 ^ 64 fit 64 bits and more
+pub word_fits : (n w : ℕ) → n < 2 ^ 64 → 64 ≤ w → fits w n ≡ true
+word_fits n w small wide =
+    let more : 2 ^ 64 ≤ 2 ^ w = pow-le-pow_right (omega arith) wide in
+    both_below n (2 ^ 128) (2 ^ w) (omega (arith, small)) (omega (arith, more, small))

@@ -6,6 +6,7 @@ mod error;
 mod header;
 mod laws;
 mod numeral;
+mod plain;
 mod protocol;
 mod records;
 mod stimulus;

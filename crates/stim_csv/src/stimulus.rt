@@ -1,13 +1,15 @@
 //! A table of pins.
-ghost use Rattle.std.specs.Prelude.{◌≡◌, ◌≢◌, ℕ, ◌*◌, ◌+◌, ◌<◌, ◌≤◌, None, Some, Ok, Err, Option, OnOk, IfOk, IfErr, AllPairs, List, map, length, slice_index, slice_index_or, ◌++◌, []};
+ghost use Rattle.std.specs.Prelude.{◌≡◌, ◌≢◌, ℕ, ◌*◌, ◌+◌, ◌<◌, ◌≤◌, None, Some, Ok, Err, Option, OnOk, IfOk, IfErr, AllPairs, List, map, length, slice_index, slice_index_or, ◌++◌, [], IfSome, take};
 ghost use Rattle.std.specs.List.{AllByRecursion};
 ghost use Rattle.csv.specs.Records.{fields_of};
 ghost use Rattle.stim_csv.specs.Columns.{AreColumns, numbers_in};
+ghost use Rattle.stim_csv.specs.Plain.{HeadsLine, rows_at};
 ghost use Rattle.stim_csv.specs.Records.{Reads, records_left};
 ghost use Rattle.stim_csv.specs.PinTable.{is_too_many, table_of, records_of, vector_of, row_problem, first_problem, width_of};
 
 use crate::error::StimError;
 use crate::header::{Header, read_cells};
+use crate::plain::{line_end, row_at};
 use crate::records::next_record;
 use csv::{ByteRecord, Reader, ReaderBuilder};
 use rb_base::Pin;
@@ -97,14 +99,92 @@ fn read_rows(
     })
 }
 
+/// The rows of a text from a place on, under a header with these widths and columns, where each of them is plain and has no
+/// problem.
+fn read_plain_rows(
+    alloc: Global,
+    text: &[u8],
+    start: usize,
+    widths: &[u8],
+    columns: &[usize],
+    outputs: u32,
+) -> Result<Option<Stimulus>, StimError>
+    requires within { start ≤ length text.now }
+    requires columns { AllByRecursion (λ c. c < length widths.now) columns.now }
+    ensures sound { IfOk result (λ found. IfSome found
+        (λ s. first_problem (row_problem widths.now outputs) 0 (rows_at text.now start) ≡ None)) }
+    ensures vectors { IfOk result (λ found. IfSome found (λ s. s ≡ map (numbers_in columns.now) (rows_at text.now start))) }
+    ensures refused { IfErr result (λ e. e ≡ StimError.NoMemory) }
+{
+    let mut numbers = Vec::new(alloc);
+    let mut vectors = Vec::new(alloc);
+    let mut at = start;
+    let mut row = 0;
+    while at < text.len() {
+        if is_past_the_end(row, outputs) {
+            return Ok(None);
+        }
+        let found = row_at(widths, text, at, &mut numbers)?;
+        let Some(end) = found else {
+            return Ok(None);
+        };
+        push_vector(&mut vectors, columns, &numbers)?;
+        at = end;
+        row += 1;
+    }
+    Ok(Some(Stimulus {
+        vectors,
+        width: columns.len(),
+        rows: row,
+    }))
+}
+
+/// The header of a line, where it has no problem.
+fn line_header(alloc: Global, line: &[u8], pins: &[Pin]) -> Result<Option<Header>, StimError>
+    requires { AllPairs (λ p q. p.name ≢ q.name) pins.now }
+    ensures header { IfOk result (λ found. IfSome found (λ header. HeadsLine pins.now line.now header)) }
+    ensures refused { IfErr result (λ e. e ≡ StimError.NoMemory) }
+{
+    let mut reader = ReaderBuilder::new()
+        .has_headers(false)
+        .flexible(true)
+        .from_reader(alloc, line);
+    let mut names = ByteRecord::new(alloc);
+    let headed = next_record(&mut reader, &mut names)?;
+    if !headed {
+        return Ok(None);
+    }
+    match Header::read(alloc, pins, &names) {
+        Ok(header) => Ok(Some(header)),
+        Err(_) => Ok(None),
+    }
+}
+
+/// The table of a text without quotes and without problems, in which a line feed ends each line.
+fn read_plain(
+    alloc: Global,
+    bytes: &[u8],
+    pins: &[Pin],
+    outputs: u32,
+) -> Result<Option<Stimulus>, StimError>
+    requires { AllPairs (λ p q. p.name ≢ q.name) pins.now }
+    ensures vectors { IfOk result (λ found. IfSome found (λ s. table_of pins.now outputs (records_of bytes.now) ≡ Ok s)) }
+    ensures refused { IfErr result (λ e. e ≡ StimError.NoMemory) }
+{
+    let Some(end) = line_end(bytes) else {
+        return Ok(None);
+    };
+    let found = line_header(alloc, &bytes[..end], pins)?;
+    let Some(header) = found else {
+        return Ok(None);
+    };
+    let rows = end + 1;
+    read_plain_rows(alloc, bytes, rows, &header.widths, &header.columns, outputs)
+}
+
 impl Stimulus {
-    /// The table that bytes are, for these input pins of a module that has so many outputs, or the first problem in
-    /// them.
-    ///
-    /// The header is judged first, its columns from the left; then missing pins, in the order of the pins; then the
-    /// rows in order. In a row the number of rows is judged first, then the number of cells, then the cells from the
-    /// left. Want of memory may be answered in place of the table or of a problem.
-    pub fn read(
+    /// The table that bytes are, record by record, or the first problem in them.
+    fn read_records(
         alloc: Global,
         bytes: &[u8],
         pins: &[Pin],
@@ -130,6 +210,30 @@ impl Stimulus {
                 width: pins.len(),
                 rows: 0,
             })
+        }
+    }
+
+    /// The table that bytes are, for these input pins of a module that has so many outputs, or the first problem in
+    /// them.
+    ///
+    /// The header is judged first, its columns from the left; then missing pins, in the order of the pins; then the
+    /// rows in order. In a row the number of rows is judged first, then the number of cells, then the cells from the
+    /// left. Want of memory may be answered in place of the table or of a problem.
+    pub fn read(
+        alloc: Global,
+        bytes: &[u8],
+        pins: &[Pin],
+        outputs: u32,
+    ) -> Result<Stimulus, StimError>
+        requires { AllPairs (λ p q. p.name ≢ q.name) pins.now }
+        ensures vectors { IfOk result (λ s. table_of pins.now outputs (records_of bytes.now) ≡ Ok s) }
+        ensures problem { IfErr result (λ e. e ≢ StimError.NoMemory
+            → table_of pins.now outputs (records_of bytes.now) ≡ Err e) }
+    {
+        let found = read_plain(alloc, bytes, pins, outputs)?;
+        match found {
+            Some(table) => Ok(table),
+            None => Self::read_records(alloc, bytes, pins, outputs),
         }
     }
 

@@ -1,47 +1,20 @@
-use Rattle.std.proofs.Common.{◌≡◌, ℕ, ◌+◌, ◌*◌, ◌<◌, ◌≤◌, Bool, true, false, ◌==◌, ◌||◌, nat_lt, get_or, slice_index, Option, List, [], ◌++◌, length, map, refl, ap, sym, subst, ◌∙◌, arith}
-use Rattle.std.specs.List.{AllByRecursion}
+use Rattle.std.proofs.Common.{◌≡◌, ℕ, get_or, slice_index, Option, List, ◌++◌, length, map, refl, ap, sym, ◌∙◌, arith}
 use Rattle.std.proofs.lemmas.Result.{err_from_is_err_and}
-use Rattle.std.proofs.lemmas.List.{length-map}
-use Rattle.std.proofs.lemmas.Bool.Decides.{nat_tests}
 use Rattle.csv.specs.Records.{fields_of}
-use Rattle.stim_csv.specs.PinTable.{Cells, row_problem, cells_problem, number_of, is_too_many}
+use Rattle.stim_csv.specs.PinTable.{Cells, row_problem, cells_problem}
 use Rattle.stim_csv.specs.Columns.{numbers_in}
-use Rattle.stim_csv.specs.Vectors.{cut}
 use Rattle.stim_csv.specs.Records.{records_left}
 use Rattle.stim_csv.specs.declared.error.StimError.{StimError}
-use Rattle.stim_csv.proofs.Rows.{too_many, not_too_many, full_row, row_here, row_next, rows_done, columns_below, vectors-after, whole-after}
+use Rattle.stim_csv.proofs.Rows.{too_many, not_too_many, full_row, row_here, row_next, rows_done, columns_below, vectors-after, whole-after, cut_none, empty_length, columns_in, below_most}
 use Rattle.stim_csv.proofs.stimulus.read_rows.Goals as goal
 
 -- the problem of cells under equal widths
 widths_are : (widths widths' : List ℕ) (row : ℕ) (cells : Cells) (o : Option StimError) → widths' ≡ widths → cells_problem widths' row cells ≡ o → cells_problem widths row cells ≡ o
 widths_are widths widths' row cells o is found = ap (λ w. cells_problem w row cells) (sym is) ∙ found
 
--- no row is kept before the first
-cut_none : (w : ℕ) (flat : List ℕ) (rows : List (List ℕ)) → rows ≡ cut w 0 flat ++ rows
-unfolding cut
-cut_none w flat rows = refl
-
-empty_length : (xs : List ℕ) (w : ℕ) → xs ≡ [] → length xs ≡ 0 * w
-empty_length xs w is = ap length is ∙ omega arith
-
--- the columns of a full row are places among its numbers
-columns_in : (widths columns columns' numbers numbers' : List ℕ) (cells : Cells) → length cells ≡ length widths → numbers ≡ map number_of cells → AllByRecursion (λ c. c < length widths) columns
-    → columns' ≡ columns → numbers' ≡ numbers → AllByRecursion (λ c. c < length numbers') columns'
-columns_in widths columns columns' numbers numbers' cells full read low same same' =
-    let n : length widths ≡ length numbers' = sym full ∙ (sym (length-map cells number_of) ∙ ap length (sym (same' ∙ read))) in
-    subst (λ cs. AllByRecursion (λ c. c < length numbers') cs) (sym same) (columns_below (length widths) (length numbers') columns n low)
-
 -- what a row adds, by the columns and the numbers themselves
 pushed_as : (flat flat' columns columns' numbers numbers' : List ℕ) → columns' ≡ columns → numbers' ≡ numbers → flat' ≡ flat ++ map (λ c. slice_index numbers' c) columns' → flat' ≡ flat ++ map (λ c. get_or numbers c 0) columns
 pushed_as flat flat' columns columns' numbers numbers' p q pushed = rw (← p, ← q) pushed
-
--- a row that is not one too many is below the most
-below_most : (row outputs : ℕ) → row ≤ 1000000 → is_too_many row outputs ≡ false → row + 1 ≤ 1000000
-below_most row outputs low h = go (row == 1000000) refl h
-  where
-    go : (b : Bool) → (row == 1000000) ≡ b → (b || nat_lt 16777216 ((row + 1) * outputs)) ≡ false → row + 1 ≤ 1000000
-    go true e h = cc h
-    go false e h = grind (arith, nat_tests)
 
 pub loop-vectors-init : goal.loop-vectors-init
 loop-vectors-init c = record {

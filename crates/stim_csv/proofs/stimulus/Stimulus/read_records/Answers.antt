@@ -1,21 +1,15 @@
-use Rattle.std.proofs.Common.{◌≡◌, ℕ, Some, None, Result, Ok, Err, List, [], ◌∷◌, IfOk, OnOk, length, map, refl, ap, sym, ◌∙◌}
+use Rattle.std.proofs.Common.{◌≡◌, ℕ, None, Result, Ok, Err, List, [], ◌∷◌, IfOk, OnOk, length, map, ap, sym, ◌∙◌}
 use Rattle.csv.specs.Records.{fields_of}
 use Rattle.rb_base.specs.declared.ports.Pin.{Pin}
 use Rattle.stim_csv.specs.PinTable.{Cells, table_of, records_of, header_problem, first_problem, row_problem, unless}
-use Rattle.stim_csv.specs.Records.{Source, records_left, bytes_left}
 use Rattle.stim_csv.specs.Columns.{IsHeaderOf, numbers_in}
 use Rattle.stim_csv.specs.Vectors.{cut}
 use Rattle.stim_csv.specs.declared.header.Header.{Header}
 use Rattle.stim_csv.specs.declared.error.StimError.{StimError}
 use Rattle.std.specs.Option.{option_or}
-use Rattle.csv.specs.Reading.{reader_state, strip_bom}
-use Rattle.csv.specs.declared.parser.State.TheVariants as st
+use Rattle.stim_csv.proofs.RecordsLeft.{at_start}
 use Rattle.stim_csv.proofs.Rows.{are_columns, table_sound}
-use Rattle.stim_csv.proofs.stimulus.Stimulus.read.Goals as goal
-
--- a reader at the start has all records left
-start : (reader : Source) (bytes : List ℕ) → reader_state reader ≡ st.StartRecord → bytes_left reader ≡ Some (strip_bom bytes) → records_left reader ≡ records_of bytes
-start reader bytes state source = rw (state, source) refl
+use Rattle.stim_csv.proofs.stimulus.Stimulus.read_records.Goals as goal
 
 -- the table of rows that are read
 whole : (pins : List Pin) (outputs : ℕ) (records : List Cells) (names : Cells) (rows : List Cells) (header : Header) (r : Result (List (List ℕ)) StimError)
@@ -39,12 +33,12 @@ read_rows-requires-clause-columns c = are_columns c.args.pins.now _ c.in_ok-head
 pub returns-then-headed-clause-vectors : goal.returns-then-headed-clause-vectors
 returns-then-headed-clause-vectors c =
     let taken = rw c.if-headed.true at c.in_ok-headed.ensures.taken in
-    let all = start c.from_reader-reader.result c.args.bytes.now c.from_reader-reader.ensures.state c.from_reader-reader.ensures.source in
+    let all = at_start c.from_reader-reader.result c.args.bytes.now c.from_reader-reader.ensures.state c.from_reader-reader.ensures.source in
     whole c.args.pins.now c.args.outputs (records_of c.args.bytes.now) (fields_of c.next_record.new.cells) _ c.in_ok-header.header c.read_rows.result (sym all ∙ taken)
     c.in_ok-header.ensures.header c.in_ok-header.ensures.sound c.read_rows.ensures.sound c.read_rows.ensures.vectors
 
 pub returns-clause-vectors : goal.returns-clause-vectors
 returns-clause-vectors c =
     let taken = rw c.if-headed.false at c.in_ok-headed.ensures.taken in
-    let all = start c.from_reader-reader.result c.args.bytes.now c.from_reader-reader.ensures.state c.from_reader-reader.ensures.source in
+    let all = at_start c.from_reader-reader.result c.args.bytes.now c.from_reader-reader.ensures.state c.from_reader-reader.ensures.source in
     none c.args.pins.now c.args.outputs (records_of c.args.bytes.now) (fields_of c.next_record.new.cells) c.new-else-headed.result.items (sym all ∙ taken.0) taken.1 c.in_ok-header.ensures.sound
