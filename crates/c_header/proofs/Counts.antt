@@ -1,7 +1,6 @@
 -- Counts of what stands at two places.
-use Rattle.std.proofs.Common.{◌≡◌, ◌∙◌, ⊎_elim, ℕ, zero, suc, ◌+◌, ◌≤◌, Bool, true, false, cond, count_by, nat_lt, List, [], ◌∷◌, ◌++◌, flat_map, slice_get, Some, refl, ap, arith}
+use Rattle.std.proofs.Common.{◌≡◌, ◌∙◌, ⊎_elim, ℕ, zero, suc, ◌+◌, ◌≤◌, Bool, true, false, cond, count_by, nat_lt, List, [], ◌∷◌, flat_map, slice_get, Some, refl, ap, arith}
 use Rattle.std.proofs.lemmas.Bool.Decides.{nat_tests}
-use Rattle.std.proofs.lemmas.List.Sums.{sum_by-append}
 use Rattle.plain_lemmas.proofs.Numbers.{same_or_other}
 use Rattle.plain_lemmas.proofs.Lists.{count_by-append as count-append, count_by-cons as count-cons}
 

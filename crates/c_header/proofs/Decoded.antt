@@ -17,19 +17,19 @@ use Rattle.plain_lemmas.proofs.Numbers.{eq-same}
 
 -- Lists
 
-has-map : {X Y : Type 0} (f : X → Y) (xs : List X) (x : X) → Has xs x → Has (map f xs) (f x)
+pub has-map : {X Y : Type 0} (f : X → Y) (xs : List X) (x : X) → Has xs x → Has (map f xs) (f x)
 has-map f xs x h = (h.0, get-map_at f xs h.0 x h.1)
 
 has-front : {X : Type 0} (xs ys : List X) (x : X) → Has xs x → Has (xs ++ ys) x
 has-front xs ys x h = (h.0, get-front xs ys h.0 x h.1)
 
-has-behind : {X : Type 0} (xs ys : List X) (y : X) → Has ys y → Has (xs ++ ys) y
+pub has-behind : {X : Type 0} (xs ys : List X) (y : X) → Has ys y → Has (xs ++ ys) y
 has-behind xs ys y h = (length xs + h.0, get-behind xs ys h.0 ∙ h.1)
 
 has-later : {X : Type 0} (x : X) (xs : List X) (y : X) → Has xs y → Has (x ∷ xs) y
 has-later x xs y h = (suc h.0, h.1)
 
-has-flat : {X Y : Type 0} (f : X → List Y) (xs : List X) (x : X) (y : Y) → Has xs x → Has (f x) y → Has (flat_map f xs) y
+pub has-flat : {X Y : Type 0} (f : X → List Y) (xs : List X) (x : X) (y : Y) → Has xs x → Has (f x) y → Has (flat_map f xs) y
 has-flat f [] x y h k = cc h.1
 has-flat {X = X} {Y = Y} f (z ∷ zs) x y (zero, e) k = let same : z ≡ x = cc e in has-front (f z) (flat_map f zs) y (subst (λ (w : X). Has (f w) y) (sym same) k)
 has-flat f (z ∷ zs) x y (suc n, e) k = has-behind (f z) (flat_map f zs) y (has-flat f zs x y (n, e) k)

@@ -1,5 +1,5 @@
--- No two macros of a header have one name.
-use Rattle.std.proofs.Common.{◌≡◌, ◌∙◌, ◌⊎◌, ⊎_elim, inl, inr, ℕ, zero, suc, ◌+◌, ◌<◌, ◌≤◌, ◌^◌, ◌==◌, Bool, true, false, ◌&&◌, ◌||◌, cond, nat_lt, List, [], ◌∷◌, ◌++◌, append-nil, append_assoc, codes, decimal, flat_map, get_or, length, map, Option, None, Some, slice_get, refl, sym, ap, subst, arith}
+-- No two macros of words and fields have one name.
+use Rattle.std.proofs.Common.{◌≡◌, ◌∙◌, ◌⊎◌, inl, inr, ℕ, suc, ◌+◌, ◌<◌, ◌≤◌, ◌^◌, ◌==◌, Bool, true, false, ◌&&◌, ◌||◌, cond, nat_lt, List, [], ◌∷◌, ◌++◌, append_assoc, codes, decimal, flat_map, get_or, length, map, Option, None, Some, slice_get, refl, sym, ap, subst, arith}
 use Rattle.std.specs.List.{enumerate_from}
 use Rattle.std.proofs.lemmas.Fmt.{decimal_injective}
 use Rattle.std.proofs.lemmas.List.{append_cancel_left}
@@ -9,28 +9,26 @@ use Rattle.rb_model.specs.declared.block.Slot.{Slot}
 use Rattle.rb_model.specs.declared.block.View.{View}
 use Rattle.rb_model.specs.References.{Each}
 use Rattle.rb_model.specs.Sound.{IsSound}
-use Rattle.rb_model.proofs.Apart.{Apart, Apart-flat_map, Apart-kinds, Apart-place, distinct-from}
-use Rattle.rb_model.proofs.Eachs.{Each-append, Each-at, Each-flat_map, Each-map, Each-weaker}
-use Rattle.v_design.specs.WellFormed.{distinct}
+use Rattle.rb_model.proofs.Apart.{Apart, Apart-flat_map, Apart-kinds}
+use Rattle.rb_model.proofs.Eachs.{Each-append, Each-at, Each-flat_map, Each-weaker}
 use Rattle.word_groups.specs.declared.entries.Entry.{Entry}
 use Rattle.word_groups.specs.declared.parts.Part.{Part}
 use Rattle.word_groups.specs.Arrays.{entries}
 use Rattle.word_groups.specs.Parts.{part_of, parts, resval, with_field, with_view}
-use Rattle.c_header.specs.Laws.{Has}
 use Rattle.c_header.proofs.Telling.{AreTold}
-use Rattle.c_header.specs.Macros.{Count, Macro, Number, Offset, Value, along, entry_macros, entry_name, from_macros, given, index_mark, macro, macros, part_macros, part_name, word_macros}
+use Rattle.c_header.specs.Macros.{Count, Macro, Number, Value, along, entry_macros, entry_name, from_macros, given, index_mark, macro, macros, part_macros, part_name, word_macros}
 use Rattle.c_header.specs.Names.{prefix}
 use Rattle.c_header.proofs.Capitals.{high, prefix-high}
 use Rattle.c_header.proofs.Keys.{IsMade, apart-by, each-by, entries-apart, entries-made, entry_key}
 use Rattle.c_header.proofs.LastWords.{decimal-lacks, lacks, last-split}
 use Rattle.c_header.proofs.Named.{last_name-lacks, same-part, same-word}
 use Rattle.plain_lemmas.proofs.Bools.{and-both_true, and-left, and-right}
-use Rattle.plain_lemmas.proofs.Lists.{cons-head, get-map_at, get-mapped, map-append, map-flat_map as map-flat}
+use Rattle.plain_lemmas.proofs.Lists.{get-mapped, map-append, map-flat_map as map-flat}
 use Rattle.plain_lemmas.proofs.Numbers.{below-nat_lt}
 
 -- Last words.
 
-abbrev name_of : Macro → List ℕ
+abbrev pub name_of : Macro → List ℕ
 name_of m = m.name
 
 -- SHIFT, BITS, MASK, FROM and RESET, by their second letter, and by the fourth where RESVAL has the same
@@ -48,6 +46,7 @@ pub record Ends (base : List ℕ) (kind : Bool) (at : ℕ) (n : List ℕ) : Type
   pub lacks_gap : lacks 95 word ≡ true
   pub of_kind : is_parts word ≡ kind
   pub ranked : rank word ≡ at
+  pub other : (get_or word 0 0 == 86) ≡ false
 
 -- names in the order of their last words
 pub record Ranked (base : List ℕ) (kind : Bool) (from : ℕ) (ns : List (List ℕ)) : Type 0 where
@@ -121,16 +120,16 @@ along-ends base word at value ns h = subst (Each (Ends base false at)) (sym (alo
 -- The names of a word's macros.
 
 offset-ends : (base : List ℕ) → Ends base false 0 (base ++ codes "_OFFSET")
-offset-ends base = record { word = codes "OFFSET"; is = refl; lacks_gap = refl; of_kind = refl; ranked = refl }
+offset-ends base = record { word = codes "OFFSET"; is = refl; lacks_gap = refl; of_kind = refl; ranked = refl; other = refl }
 
 count-ends : (base : List ℕ) (several : Bool) (k : ℕ) → Ends base false 1 (base ++ (codes "_COUNT" ++ index_mark several k))
-count-ends base several k = record { word = codes "COUNT" ++ index_mark several k; is = refl; lacks_gap = lacks-append 95 (codes "COUNT") (index_mark several k) refl (mark-lacks several k); of_kind = refl; ranked = refl }
+count-ends base several k = record { word = codes "COUNT" ++ index_mark several k; is = refl; lacks_gap = lacks-append 95 (codes "COUNT") (index_mark several k) refl (mark-lacks several k); of_kind = refl; ranked = refl; other = refl }
 
 stride-ends : (base : List ℕ) (several : Bool) (k : ℕ) → Ends base false 2 (base ++ (codes "_STRIDE" ++ index_mark several k))
-stride-ends base several k = record { word = codes "STRIDE" ++ index_mark several k; is = refl; lacks_gap = lacks-append 95 (codes "STRIDE") (index_mark several k) refl (mark-lacks several k); of_kind = refl; ranked = refl }
+stride-ends base several k = record { word = codes "STRIDE" ++ index_mark several k; is = refl; lacks_gap = lacks-append 95 (codes "STRIDE") (index_mark several k) refl (mark-lacks several k); of_kind = refl; ranked = refl; other = refl }
 
 bytes-ends : (base : List ℕ) → Ends base false 3 (base ++ codes "_BYTES")
-bytes-ends base = record { word = codes "BYTES"; is = refl; lacks_gap = refl; of_kind = refl; ranked = refl }
+bytes-ends base = record { word = codes "BYTES"; is = refl; lacks_gap = refl; of_kind = refl; ranked = refl; other = refl }
 
 given-ranked : (base word : List ℕ) (kind : Bool) (at : ℕ) (o : Option ℕ) → Ends base kind at (base ++ word) → Ranked base kind at (map name_of (given base word o))
 given-ranked base word kind at None h = ranked-none base kind at
@@ -147,24 +146,24 @@ words-ranked base u few_lengths few_strides =
     (ranked-more base false 1 (map name_of counts) (map name_of strides ++ map name_of last) (along-apart base (codes "_COUNT") Count u.lengths few_lengths) (along-ends base (codes "_COUNT") 1 Count u.lengths (count-ends base))
     (ranked-more base false 2 (map name_of strides) (map name_of last) (along-apart base (codes "_STRIDE") Number u.strides few_strides) (along-ends base (codes "_STRIDE") 2 Number u.strides (stride-ends base))
     (one-name base false 3 (base ++ codes "_BYTES") (map name_of (given base (codes "_RESVAL") (resval u.parts))) (bytes-ends base)
-    (given-ranked base (codes "_RESVAL") false 4 (resval u.parts) (record { word = codes "RESVAL"; is = refl; lacks_gap = refl; of_kind = refl; ranked = refl }))))))
+    (given-ranked base (codes "_RESVAL") false 4 (resval u.parts) (record { word = codes "RESVAL"; is = refl; lacks_gap = refl; of_kind = refl; ranked = refl; other = refl }))))))
 
 -- The names of a part's macros.
 
 parts-ranked : (base : List ℕ) (p : Part) → Ranked base true 0 (map name_of (part_macros base p))
 parts-ranked base p =
     let rest = map name_of (from_macros base p ++ given base (codes "_RESET") p.reset) in
-    one-name base true 0 (base ++ codes "_SHIFT") ((base ++ codes "_BITS") ∷ (base ++ codes "_MASK") ∷ rest) (record { word = codes "SHIFT"; is = refl; lacks_gap = refl; of_kind = refl; ranked = refl })
-    (one-name base true 1 (base ++ codes "_BITS") ((base ++ codes "_MASK") ∷ rest) (record { word = codes "BITS"; is = refl; lacks_gap = refl; of_kind = refl; ranked = refl })
-    (one-name base true 2 (base ++ codes "_MASK") rest (record { word = codes "MASK"; is = refl; lacks_gap = refl; of_kind = refl; ranked = refl })
+    one-name base true 0 (base ++ codes "_SHIFT") ((base ++ codes "_BITS") ∷ (base ++ codes "_MASK") ∷ rest) (record { word = codes "SHIFT"; is = refl; lacks_gap = refl; of_kind = refl; ranked = refl; other = refl })
+    (one-name base true 1 (base ++ codes "_BITS") ((base ++ codes "_MASK") ∷ rest) (record { word = codes "BITS"; is = refl; lacks_gap = refl; of_kind = refl; ranked = refl; other = refl })
+    (one-name base true 2 (base ++ codes "_MASK") rest (record { word = codes "MASK"; is = refl; lacks_gap = refl; of_kind = refl; ranked = refl; other = refl })
     (subst (Ranked base true 3) (sym (map-append name_of (from_macros base p) (given base (codes "_RESET") p.reset))) (go p.whole))))
   where
     reset : Ranked base true 4 (map name_of (given base (codes "_RESET") p.reset))
-    reset = given-ranked base (codes "_RESET") true 4 p.reset (record { word = codes "RESET"; is = refl; lacks_gap = refl; of_kind = refl; ranked = refl })
+    reset = given-ranked base (codes "_RESET") true 4 p.reset (record { word = codes "RESET"; is = refl; lacks_gap = refl; of_kind = refl; ranked = refl; other = refl })
 
     go : (c : Bool) → Ranked base true 3 (map name_of (cond c [] (macro base (codes "_FROM") (Count p.from) ∷ [])) ++ map name_of (given base (codes "_RESET") p.reset))
     go true = ranked-more base true 3 [] (map name_of (given base (codes "_RESET") p.reset)) tt tt reset
-    go false = one-name base true 3 (base ++ codes "_FROM") (map name_of (given base (codes "_RESET") p.reset)) (record { word = codes "FROM"; is = refl; lacks_gap = refl; of_kind = refl; ranked = refl }) reset
+    go false = one-name base true 3 (base ++ codes "_FROM") (map name_of (given base (codes "_RESET") p.reset)) (record { word = codes "FROM"; is = refl; lacks_gap = refl; of_kind = refl; ranked = refl; other = refl }) reset
 
 -- All names.
 
@@ -297,6 +296,19 @@ module _ (b : Block) (s : IsSound b) (a : AreTold b) where
         (Each-weaker OfSome (OfKey (entry_key e)) (λ n g. (j, e, at, refl, inr g)) (flat_map part_names e.parts) of_parts) in
         (subst Apart (sym names) apart, subst (Each (OfKey (entry_key e))) (sym names) each)
 
-  pub all_differ : distinct (map (λ m. m.name) (macros begin us)) ≡ true
-  all_differ = distinct-from (map name_of (macros begin us)) (subst Apart (sym (map-flat name_of (entry_macros begin us) us))
-      (Apart-flat_map OfKey one-key entry_key (λ e. map name_of (entry_macros begin us e)) us (entries-apart b a s) (each-by (λ e. Apart (map name_of (entry_macros begin us e)) × Each (OfKey (entry_key e)) (map name_of (entry_macros begin us e))) us (λ j e at. entry_apart j e at))))
+  -- a base, and a last word that doesn't begin with V
+  abbrev pub IsOther : List ℕ → Type 0
+  IsOther n = (base : List ℕ) × (word : List ℕ) × (n ≡ base ++ 95 ∷ word) × (lacks 95 word ≡ true) × ((get_or word 0 0 == 86) ≡ false)
+
+  other : (e : Entry) (n : List ℕ) → OfEntry e n → IsOther n
+  other e n (inl (at, h)) = (entry_name begin us e, h.word, h.is, h.lacks_gap, h.other)
+  other e n (inr (k, p, at_p, of)) = (part_name begin us e p, of.1.word, of.1.is, of.1.lacks_gap, of.1.other)
+
+  pub all_other : Each IsOther (map name_of (macros begin us))
+  all_other = subst (Each IsOther) (sym (map-flat name_of (entry_macros begin us) us))
+      (Each-flat_map IsOther (λ e. map name_of (entry_macros begin us e)) us (each-by (λ e. Each IsOther (map name_of (entry_macros begin us e))) us (λ j e at.
+      Each-weaker (OfKey (entry_key e)) IsOther (λ n h. other h.1 n h.4) (map name_of (entry_macros begin us e)) (entry_apart j e at).1)))
+
+  pub all_apart : Apart (map name_of (macros begin us))
+  all_apart = subst Apart (sym (map-flat name_of (entry_macros begin us) us))
+      (Apart-flat_map OfKey one-key entry_key (λ e. map name_of (entry_macros begin us e)) us (entries-apart b a s) (each-by (λ e. Apart (map name_of (entry_macros begin us e)) × Each (OfKey (entry_key e)) (map name_of (entry_macros begin us e))) us (λ j e at. entry_apart j e at)))

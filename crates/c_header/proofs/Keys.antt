@@ -1,5 +1,5 @@
 -- Entries by their keys, of which no two are equal.
-use Rattle.std.proofs.Common.{◌≡◌, ◌∙◌, ℕ, zero, suc, ◌+◌, ◌<◌, ◌^◌, ◌==◌, Bool, true, false, ◌&&◌, cond, bytes_eq, nat_lt, List, [], ◌∷◌, ◌++◌, flat_map, fold, length, map, Option, None, Some, slice_get, refl, sym, ap, subst, arith}
+use Rattle.std.proofs.Common.{◌≡◌, ◌∙◌, ℕ, suc, ◌+◌, ◌<◌, ◌^◌, ◌==◌, Bool, true, false, cond, bytes_eq, nat_lt, List, [], ◌∷◌, ◌++◌, fold, length, map, Option, None, Some, slice_get, refl, sym, ap, subst, arith}
 use Rattle.std.specs.List.{enumerate_from, list_all}
 use Rattle.std.specs.Option.{option_map_or}
 use Rattle.rb_model.specs.declared.block.Block.{Block}

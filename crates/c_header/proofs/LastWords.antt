@@ -1,12 +1,10 @@
 -- Names that end in a word: where the last `_` stands, and which word is behind it.
-use Rattle.std.specs.Char.{digit_value, is_ascii_digit}
 use Rattle.std.specs.Fmt.{digits, digits_onto, digit_glyph, decimal}
 use Rattle.std.specs.List.{list_all}
 use Rattle.std.specs.Prelude.{if◌then◌else◌}
-use Rattle.std.proofs.Common.{◌≡◌, ◌∙◌, ℕ, zero, suc, ◌+◌, ◌/◌, ◌%◌, ◌<◌, ◌≤◌, ◌==◌, Bool, true, false, not, ◌&&◌, List, [], ◌∷◌, ◌++◌, refl, sym, ap, arith}
+use Rattle.std.proofs.Common.{◌≡◌, ◌∙◌, ℕ, zero, suc, ◌+◌, ◌/◌, ◌%◌, ◌<◌, ◌==◌, Bool, true, false, not, ◌&&◌, List, [], ◌∷◌, ◌++◌, refl, sym, ap, arith}
 use Rattle.std.proofs.lemmas.Bool.Decides.{nat_tests}
-use Rattle.std.proofs.Math.Nat.{mod-lt}
-use Rattle.plain_lemmas.proofs.Bools.{and-false, and-left, and-right}
+use Rattle.plain_lemmas.proofs.Bools.{and-false, and-right}
 use Rattle.plain_lemmas.proofs.Lists.{cons-head, cons-tail}
 use Rattle.plain_lemmas.proofs.Numbers.{digit_glyph-plain as plain-glyph, eq-itself}
 

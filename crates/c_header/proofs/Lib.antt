@@ -3,6 +3,7 @@ mod Counted
 mod Counts
 mod Decoded
 mod Differing
+mod Enumerated
 mod Joined
 pub mod Keys
 mod LastWords
@@ -15,5 +16,6 @@ mod Reached
 mod ResetReads
 mod SlotLaws
 mod Spellings
+mod Taken
 mod Telling
 mod Words

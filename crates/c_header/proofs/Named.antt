@@ -1,5 +1,5 @@
 -- Entries and parts of one name are one.
-use Rattle.std.proofs.Common.{◌≡◌, ◌∙◌, ◌⊎◌, ⊎_elim, inl, inr, ℕ, zero, suc, ◌<◌, ◌≤◌, ◌^◌, ◌==◌, Bool, true, false, not, ◌&&◌, cond, bytes_eq, count_by, nat_lt, List, [], ◌∷◌, ◌++◌, append_assoc, codes, decimal, flat_map, fold, length, map, Some, slice_get, refl, sym, ap, subst, arith}
+use Rattle.std.proofs.Common.{◌≡◌, ◌∙◌, ◌⊎◌, ⊎_elim, inl, inr, ℕ, ◌<◌, ◌≤◌, ◌^◌, ◌==◌, Bool, true, false, not, ◌&&◌, cond, bytes_eq, count_by, List, [], ◌∷◌, ◌++◌, append_assoc, codes, decimal, fold, Some, slice_get, refl, sym, ap}
 use Rattle.std.proofs.lemmas.Fmt.{decimal_injective}
 use Rattle.std.proofs.lemmas.List.{append_cancel_left}
 use Rattle.word_groups.specs.declared.entries.Entry.{Entry}
@@ -85,7 +85,7 @@ pub record AreOne (d e : Entry) (p q : Part) : Type 0 where
   pub number : d.number ≡ e.number
   pub name : p.name ≡ q.name
 
-reads-name : (name : List ℕ) → read false (part_behind name) ≡ 36 ∷ name
+pub reads-name : (name : List ℕ) → read false (part_behind name) ≡ 36 ∷ name
 reads-name name = ap (λ r. 36 ∷ r) (read-all name)
 
 leaves-name : (name : List ℕ) → unread false (part_behind name) ≡ []

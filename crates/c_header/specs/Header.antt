@@ -2,10 +2,12 @@
 use Rattle.std.specs.Prelude.{ℕ, ◌+◌, ◌-◌, ◌^◌, ◌==◌, cond, false, nat_lt, List, [], ◌∷◌, ◌++◌, codes, decimal, flat_map, length, take}
 use Rattle.std.specs.Fmt.{digits}
 use Rattle.std.specs.List.{enumerate_from}
+use Rattle.encodings.specs.Encodings.{Enumeration, Enumerations}
 use Rattle.rb_model.specs.declared.block.Block.{Block}
 use Rattle.word_groups.specs.declared.parts.Part.{Part}
 use Rattle.word_groups.specs.declared.entries.Entry.{Entry}
 use Rattle.word_groups.specs.Arrays.{entries}
+use Rattle.c_header.specs.Enumerators.{enumerator_naturals, own_macros, user_path}
 use Rattle.c_header.specs.Macros.{Macro, Value, Count, Number, Offset, part_base, part_macros, part_naturals, word_base, word_macros, word_naturals}
 use Rattle.c_header.specs.Names.{first_bytes, name_among, prefix}
 use Rattle.word_groups.specs.Paths.{shown}
@@ -82,8 +84,17 @@ first_lines top begin = title top ++ guard_lines begin ++ language_lines
 abbrev pub entry_texts : List ℕ → List Entry → List ℕ
 entry_texts begin us = flat_map (entry_text begin (word_naturals begin us) (part_naturals begin us)) us
 
-abbrev pub header_text : (top begin : List ℕ) → List Entry → List ℕ
-header_text top begin us = first_lines top begin ++ entry_texts begin us ++ codes "\n#endif\n"
+abbrev pub enumeration_comment : Block → Enumeration → List ℕ
+enumeration_comment b e = codes "\n" ++ comment (codes "enum " ++ e.name ++ codes " of " ++ shown (user_path b e) [])
 
-abbrev pub header : Block → List ℕ
-header b = header_text b.name (prefix b.name) (entries b)
+abbrev pub enumeration_text : Block → List ℕ → (naturals : List (List ℕ)) → Enumeration → List ℕ
+enumeration_text b begin naturals e = enumeration_comment b e ++ lines (own_macros b begin naturals e)
+
+abbrev pub enumeration_texts : Block → List ℕ → List Enumeration → List ℕ
+enumeration_texts b begin es = flat_map (enumeration_text b begin (enumerator_naturals begin es)) es
+
+abbrev pub header_text : (top begin : List ℕ) → List Entry → (enumerations : List ℕ) → List ℕ
+header_text top begin us enumerations = first_lines top begin ++ entry_texts begin us ++ enumerations ++ codes "\n#endif\n"
+
+abbrev pub header : Block → Enumerations → List ℕ
+header b es = header_text b.name (prefix b.name) (entries b) (enumeration_texts b (prefix b.name) es.list)

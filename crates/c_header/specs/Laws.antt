@@ -1,15 +1,19 @@
--- What a header says of the words of a block.
-use Rattle.std.specs.Prelude.{◌≡◌, ℕ, ◌-◌, ◌*◌, ◌^◌, ◌<◌, false, IsTrue, List, [], ◌∷◌, Some, length, map, slice_get}
+-- What a header says of the words and the enumerations of a block.
+use Rattle.std.specs.Prelude.{◌≡◌, ℕ, ◌-◌, ◌*◌, ◌^◌, ◌<◌, ◌==◌, false, not, IsTrue, List, [], ◌∷◌, Some, length, map, slice_get}
+use Rattle.std.specs.List.{list_all}
+use Rattle.encodings.specs.Encodings.{Enumeration}
 use Rattle.rb_model.specs.declared.block.Block.{Block}
 use Rattle.rb_model.specs.declared.block.Field.{Field}
 use Rattle.rb_model.specs.declared.block.Slot.{Slot}
 use Rattle.rb_model.specs.declared.block.Word.{Word}
 use Rattle.rb_model.specs.declared.kinds.RefItem.TheVariants as item
 use Rattle.rb_model.specs.Items.{ItemValues}
+use Rattle.rb_model.specs.References.{Each}
 use Rattle.rb_model.specs.SoundField.{is_wire}
+use Rattle.v_design.specs.WellFormed.{distinct}
 use Rattle.word_groups.specs.declared.entries.Entry.{Entry}
 use Rattle.word_groups.specs.declared.parts.Part.{Part}
-use Rattle.word_groups.specs.Entries.{all_words, path_of}
+use Rattle.word_groups.specs.Entries.{path_of}
 use Rattle.c_header.specs.Macros.{Offset, value_at}
 use Rattle.word_groups.specs.Parts.{parts}
 use Rattle.word_groups.specs.Paths.{indices, names_of}
@@ -49,3 +53,14 @@ pub record IsPartOf (b : Block) (s : Slot) (p : Part) : Type 0 where
 -- each field that keeps a value has its reset value, if it has one
 abbrev pub AreReset : Block → ItemValues → Type 0
 AreReset b v = (k : ℕ) (f : Field) (r : ℕ) → slice_get b.fields k ≡ Some f → is_wire f.class ≡ false → f.reset ≡ Some r → v (item.Field k) ≡ r
+
+-- The enumeration is one of a field of the block, and its enumerators have different names, without `$`.
+pub record IsEnumerated (b : Block) (e : Enumeration) : Type 0 where
+  pub field : e.field < length b.fields
+  pub names : IsTrue (distinct (map (λ x. x.0) e.entries))
+  pub plain : Each (λ x. IsTrue (list_all (λ c. not (c == 36)) x.0)) e.entries
+
+-- Each enumeration is such a one, and no two have one first field.
+pub record AreApart (b : Block) (es : List Enumeration) : Type 0 where
+  pub each : Each (IsEnumerated b) es
+  pub fields : (j k : ℕ) (d e : Enumeration) → slice_get es j ≡ Some d → slice_get es k ≡ Some e → d.field ≡ e.field → j ≡ k

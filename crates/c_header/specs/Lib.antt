@@ -1,3 +1,4 @@
+pub mod Enumerators
 pub mod Header
 pub mod Laws
 pub mod Macros

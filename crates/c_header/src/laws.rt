@@ -1,6 +1,7 @@
-//! What a header says of the words of a block.
+//! What a header says of the words and the enumerations of a block.
 
-ghost use Rattle.std.specs.Prelude.{◌≡◌, ℕ, ◌+◌, ◌-◌, ◌*◌, ◌/◌, ◌^◌, ◌<◌, ◌≤◌, true, IsTrue, Some, bit_and, bit_or, map, slice_get};
+ghost use Rattle.std.specs.Prelude.{◌≡◌, ℕ, ◌+◌, ◌-◌, ◌*◌, ◌/◌, ◌^◌, ◌<◌, ◌≤◌, ◌++◌, true, IsTrue, List, [], Some, bit_and, bit_or, codes, map, slice_get};
+ghost use Rattle.encodings.specs.Encodings.{Enumeration};
 ghost use Rattle.rb_base.specs.Bits as bits;
 ghost use Rattle.rb_base.specs.Bits.{put};
 ghost use Rattle.rb_model.specs.declared.block.Block.{Block};
@@ -18,9 +19,9 @@ ghost use Rattle.word_groups.specs.declared.entries.Entry.{Entry};
 ghost use Rattle.word_groups.specs.declared.parts.Part.{Part};
 ghost use Rattle.word_groups.specs.Arrays.{entries};
 ghost use Rattle.word_groups.specs.Entries.{all_words, path_of};
-ghost use Rattle.c_header.specs.Laws.{AreReset, Has, IsEntryOf, IsPartOf};
-ghost use Rattle.c_header.specs.Macros.{Offset, macros, value_at};
-ghost use Rattle.c_header.specs.Names.{prefix};
+ghost use Rattle.c_header.specs.Enumerators.{Enumerator, all_macros, enumerator_name};
+ghost use Rattle.c_header.specs.Laws.{AreApart, AreReset, Has, IsEntryOf, IsPartOf};
+ghost use Rattle.c_header.specs.Macros.{Macro, Offset, value_at};
 ghost use Rattle.word_groups.specs.Parts.{parts, resval};
 ghost use Rattle.word_groups.specs.Paths.{indices};
 
@@ -59,7 +60,13 @@ pub fn resets_read()
 
 /// No two macros of a header have one name.
 pub fn macros_differ()
-    ensures { (b : Block) → IsSound b → IsApart b → IsTrue (distinct (map (λ m. m.name) (macros (prefix b.name) (entries b)))) }
+    ensures { (b : Block) (es : List Enumeration) → IsSound b → IsApart b → AreApart b es → IsTrue (distinct (map (λ m. m.name) (all_macros b es))) }
+{}
+
+/// Each enumerator has a macro, which stands for its value.
+pub fn entries_are()
+    ensures { (b : Block) (es : List Enumeration) (j k : ℕ) (e : Enumeration) (x : Enumerator) → slice_get es j ≡ Some e → slice_get e.entries k ≡ Some x
+        → (m : Macro) × Has (all_macros b es) m × (m.name ≡ enumerator_name b es e x ++ codes "_VALUE") × (value_at m.value [] ≡ x.1) }
 {}
 
 /// Each word has one entry alone.

@@ -6,12 +6,14 @@ ghost use Rattle.c_header.specs.Header as spec;
 ghost use Rattle.c_header.specs.Header.{first_lines, lines, part_comment, part_text, entry_text, word_comment};
 ghost use Rattle.c_header.specs.Macros.{from_macros, part_macros, word_macros};
 
+use crate::enumerations::push_enumerations;
 use crate::lines::{
     push_count, push_counts, push_decimal, push_given, push_number, push_offset, push_strides,
 };
 use crate::macros::{part_name, part_naturals, word_name, word_naturals};
 use crate::names::{first_bytes, prefix};
 use crate::repeats::Repeats;
+use encodings::Encodings;
 use rb_base::NoMemory;
 use rb_model::Block;
 use std::alloc::Global;
@@ -183,17 +185,19 @@ fn push_first_lines(text: &mut Vec<u8>, top: &[u8], begin: &[u8]) -> Result<(), 
     Ok(())
 }
 
-/// The header of a sound block: of each word its offset, width and reset value, and of each of its fields shift, width, mask and reset value,
-/// as macros that C, C++ and the assembler take. The only error is want of memory.
-pub fn header(alloc: Global, block: &Block) -> Result<Vec<u8>, NoMemory>
+/// The header of a sound block and of the enumerations that its fields are encoded by: of each word its offset, width and reset value, of each of
+/// its fields shift, width, mask and reset value, and of each enumerator its value, as macros that C, C++ and the assembler take. The only error is
+/// want of memory.
+pub fn header(alloc: Global, block: &Block, encodings: &Encodings<'_>) -> Result<Vec<u8>, NoMemory>
     requires { IsSound block.now }
-    ensures { IfOk result (λ r. r.items ≡ spec.header block.now) }
+    ensures { IfOk result (λ r. r.items ≡ spec.header block.now encodings.now) }
 {
     let entries = entries_of(alloc, block)?;
     let begin = prefix(alloc, &block.name.bytes)?;
     let mut text = Vec::new(alloc);
     push_first_lines(&mut text, &block.name.bytes, &begin)?;
     push_entries(alloc, &mut text, &begin, &entries)?;
+    push_enumerations(alloc, &mut text, block, &begin, &encodings.list)?;
     text.extend_from_slice(b"\n#endif\n")?;
     Ok(text)
 }

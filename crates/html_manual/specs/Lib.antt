@@ -1,3 +1,4 @@
+pub mod Enumerations
 pub mod Filing
 pub mod Interrupts
 pub mod Page

@@ -1,6 +1,7 @@
 -- The page (HTML Living Standard, clause 4; the layout is this project's).
 use Rattle.std.specs.Prelude.{ℕ, false, List, [], ◌++◌, codes, decimal, flat_map}
 use Rattle.std.specs.List.{enumerate_from}
+use Rattle.encodings.specs.Encodings.{Enumerations}
 use Rattle.rb_model.specs.declared.block.Block.{Block}
 use Rattle.rb_model.specs.declared.block.Signal.{Signal}
 use Rattle.rb_model.specs.Ports.{signal_name}
@@ -14,6 +15,7 @@ use Rattle.manual_units.specs.Marks.{field_marks, reg_marks}
 use Rattle.manual_units.specs.Units.{lots, units}
 use Rattle.manual_units.specs.declared.lots.Lot.{Lot}
 use Rattle.html_manual.specs.declared.tables.Tables.{Tables}
+use Rattle.html_manual.specs.Enumerations.{enumerations}
 use Rattle.html_manual.specs.Interrupts.{interrupts, tables}
 use Rattle.html_manual.specs.Style.{style}
 
@@ -63,30 +65,31 @@ pub record Plan : Type 0 where
 abbrev pub plan_of : Block → List Lot → Plan
 plan_of b ls = record { units = units b ls; fields = field_marks b ls; regs = reg_marks b ls; tables = tables b }
 
-abbrev pub plan : Block → AllSaid → Plan
-plan b n = plan_of b (lots b n)
+abbrev pub plan : Block → AllSaid → Enumerations → Plan
+plan b n es = plan_of b (lots b n es)
 
 -- what is seen from no word
-abbrev pub far_sight : Block → Plan → Sight
-far_sight b p = record { block = b; own = []; named = false; fields = p.fields; regs = p.regs }
+abbrev pub far_sight : Block → Enumerations → Plan → Sight
+far_sight b es p = record { block = b; own = []; named = false; fields = p.fields; regs = p.regs; encodings = es }
 
-abbrev pub registers : Block → AllSaid → Plan → List ℕ
-registers b n p = addresses b n.regs p.fields p.regs p.units ++ sections b n p.fields p.regs p.units
+abbrev pub registers : Block → AllSaid → Enumerations → Plan → List ℕ
+registers b n es p = addresses b n.regs es p.fields p.regs p.units ++ sections b n es p.fields p.regs p.units
 
-abbrev pub outputs : Block → AllSaid → Plan → List ℕ
-outputs b n p = interrupts (far_sight b p) p.tables ++ signals n.signals b.signals
+abbrev pub outputs : Block → AllSaid → Enumerations → Plan → List ℕ
+outputs b n es p = interrupts (far_sight b es p) p.tables ++ signals n.signals b.signals
 
-unfoldable pub planned_page : Block → AllSaid → Plan → List ℕ
-planned_page b n p = head b.name ++ top_texts n.top ++ registers b n p ++ outputs b n p ++ codes "</body>\n</html>\n"
+unfoldable pub planned_page : Block → AllSaid → Enumerations → Plan → List ℕ
+planned_page b n es p = head b.name ++ top_texts n.top ++ registers b n es p ++ outputs b n es p ++ enumerations (far_sight b es p) ++ codes "</body>\n</html>\n"
 
-abbrev pub page : Block → AllSaid → List ℕ
-page b n = planned_page b n (plan b n)
+abbrev pub page : Block → AllSaid → Enumerations → List ℕ
+page b n es = planned_page b n es (plan b n es)
 
 -- what is written, once it is planned
 pub record Planned : Type 0 where
   pub block : Block
   pub notes : AllSaid
+  pub encodings : Enumerations
   pub plan : Plan
 
 abbrev pub text_of : Planned → List ℕ
-text_of m = planned_page m.block m.notes m.plan
+text_of m = planned_page m.block m.notes m.encodings m.plan

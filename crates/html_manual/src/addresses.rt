@@ -8,6 +8,7 @@ ghost use Rattle.manual_sections.specs.Rows.{said_at};
 ghost use Rattle.manual_sections.specs.Sections as spec;
 
 use block_effects::Note;
+use encodings::Encodings;
 use html_text::{Pen, put, put_number, put_padded, put_three};
 use manual_sections::{WordUnit, put_bits_of, put_label, put_name_inline, put_offset, sight_of};
 use manual_words::Sight;
@@ -148,13 +149,20 @@ fn put_address<K: Sink>(
     out: &mut K,
     block: &Block,
     notes: &[Note<'_>],
+    encodings: &Encodings<'_>,
     fields: &[Text],
     marks: &[Text],
     unit: &WordUnit,
 )
-    ensures { Writes (at (K.told out.old) (K.faults out.old) pen.old) (at (K.told out.new) (K.faults out.new) pen.new) (spec.address_row block.now notes.now fields.now marks.now unit.now) }
+    ensures { Writes (at (K.told out.old) (K.faults out.old) pen.old) (at (K.told out.new) (K.faults out.new) pen.new) (spec.address_row block.now notes.now encodings.now fields.now marks.now unit.now) }
 {
-    put_seen_address(pen, out, notes, &sight_of(block, fields, marks, unit), unit);
+    put_seen_address(
+        pen,
+        out,
+        notes,
+        &sight_of(block, encodings, fields, marks, unit),
+        unit,
+    );
 }
 
 fn put_rows<K: Sink>(
@@ -162,15 +170,16 @@ fn put_rows<K: Sink>(
     out: &mut K,
     block: &Block,
     notes: &[Note<'_>],
+    encodings: &Encodings<'_>,
     fields: &[Text],
     marks: &[Text],
     units: &[WordUnit],
 )
-    ensures { Writes (at (K.told out.old) (K.faults out.old) pen.old) (at (K.told out.new) (K.faults out.new) pen.new) (flat_map (spec.address_row block.now notes.now fields.now marks.now) units.now) }
+    ensures { Writes (at (K.told out.old) (K.faults out.old) pen.old) (at (K.told out.new) (K.faults out.new) pen.new) (flat_map (spec.address_row block.now notes.now encodings.now fields.now marks.now) units.now) }
 {
     let mut rest = units;
     while let [unit, more @ ..] = rest {
-        put_address(pen, out, block, notes, fields, marks, unit);
+        put_address(pen, out, block, notes, encodings, fields, marks, unit);
         rest = more;
     }
 }
@@ -191,13 +200,14 @@ pub(crate) fn put_addresses<K: Sink>(
     out: &mut K,
     block: &Block,
     notes: &[Note<'_>],
+    encodings: &Encodings<'_>,
     fields: &[Text],
     marks: &[Text],
     units: &[WordUnit],
 )
-    ensures { Writes (at (K.told out.old) (K.faults out.old) pen.old) (at (K.told out.new) (K.faults out.new) pen.new) (spec.addresses block.now notes.now fields.now marks.now units.now) }
+    ensures { Writes (at (K.told out.old) (K.faults out.old) pen.old) (at (K.told out.new) (K.faults out.new) pen.new) (spec.addresses block.now notes.now encodings.now fields.now marks.now units.now) }
 {
     put_addresses_head(pen, out);
-    put_rows(pen, out, block, notes, fields, marks, units);
+    put_rows(pen, out, block, notes, encodings, fields, marks, units);
     put(pen, out, b"</table>\n</div>\n");
 }

@@ -5,12 +5,10 @@ ghost use Rattle.std.specs.List.{enumerate_from, list_any};
 ghost use Rattle.html_manual.specs.Interrupts as spec;
 ghost use Rattle.html_text.specs.Tags as tags;
 ghost use Rattle.html_text.specs.Writing.{Writes, at};
-ghost use Rattle.manual_words.specs.Names as names;
 
 use crate::tables::{Filed, Tables};
-use html_text::{Pen, put, put_link_begin, put_link_end};
-use manual_words::{Sight, path_of_reg, put_field_at, put_item, put_path};
-use rb_base::Text;
+use html_text::{Pen, put};
+use manual_words::{Sight, put_field_at, put_item, put_reg_item};
 use rb_edge::Sink;
 use rb_effects::is_on;
 use rb_model::{Block, Field, Mask, RefItem, Reg};
@@ -178,52 +176,6 @@ fn put_leads<K: Sink>(
     put_pin_line(pen, out, role, path);
     put_users(pen, out, sight, numbers);
     put(pen, out, b"</ul>");
-}
-
-fn mark_at(marks: &[Text], number: usize) -> &[u8]
-    ensures { result.now ≡ get_or marks.now number [] }
-{
-    match marks.get(number) {
-        Some(mark) => &mark.bytes,
-        None => b"",
-    }
-}
-
-fn put_linked<K: Sink>(
-    pen: &mut Pen,
-    out: &mut K,
-    sight: &Sight<'_>,
-    mark: &[u8],
-    path: &[u8],
-    property: &[u8],
-)
-    ensures { Writes (at (K.told out.old) (K.faults out.old) pen.old) (at (K.told out.new) (K.faults out.new) pen.new) (names.linked sight.now mark.now path.now property.now) }
-{
-    put_link_begin(pen, out, mark);
-    put(pen, out, b"<code>");
-    put_path(pen, out, sight, path);
-    put(pen, out, property);
-    put(pen, out, b"</code>");
-    put_link_end(pen, out, mark);
-}
-
-fn put_reg_item<K: Sink>(
-    pen: &mut Pen,
-    out: &mut K,
-    sight: &Sight<'_>,
-    number: usize,
-    property: &[u8],
-)
-    ensures { Writes (at (K.told out.old) (K.faults out.old) pen.old) (at (K.told out.new) (K.faults out.new) pen.new) (names.reg_item sight.now number property.now) }
-{
-    put_linked(
-        pen,
-        out,
-        sight,
-        mark_at(sight.regs, number),
-        path_of_reg(sight.block, number),
-        property,
-    );
 }
 
 fn put_output_name<K: Sink>(

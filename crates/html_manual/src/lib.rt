@@ -2,6 +2,7 @@
 #![tactic(auto)]
 
 mod addresses;
+mod enumerations;
 mod head;
 mod interrupts;
 mod page;

@@ -1,6 +1,7 @@
 //! The page: what is looked up while it is written, and its writing.
 
 ghost use Rattle.std.specs.Prelude.{◌≡◌, [], IfOk, false};
+ghost use Rattle.html_manual.specs.Enumerations.{enumerations};
 ghost use Rattle.html_manual.specs.Interrupts.{interrupts};
 ghost use Rattle.html_manual.specs.Page as spec;
 ghost use Rattle.html_text.specs.Writing.{Writes, at};
@@ -9,11 +10,13 @@ ghost use Rattle.rb_edge.specs.Flows.{Flows};
 ghost use Rattle.rb_model.specs.Sound.{IsSound};
 
 use crate::addresses::put_addresses;
+use crate::enumerations::put_enumerations;
 use crate::head::{put_head, put_top_texts};
 use crate::interrupts::put_interrupts;
 use crate::signals::put_signals;
 use crate::tables::{Tables, tables_of};
 use block_effects::Notes;
+use encodings::Encodings;
 use html_text::{Pen, finish, new_pen, put};
 use manual_sections::{WordUnit, put_sections};
 use manual_units::{field_marks, lots_of, reg_marks, units_of};
@@ -30,6 +33,7 @@ use std::marker::Model;
 pub struct Manual<'m> {
     block: Block,
     notes: Notes<'m>,
+    encodings: Encodings<'m>,
     units: Vec<WordUnit>,
     fields: Vec<Text>,
     regs: Vec<Text>,
@@ -41,29 +45,31 @@ impl<'m> Model for Manual<'m> {
 
     ghost Value = { Planned };
 
-    ghost view = { λ m. record { block = m.block; notes = m.notes; plan = record { units = m.units.items; fields = m.fields.items; regs = m.regs.items; tables = m.tables } } };
+    ghost view = { λ m. record { block = m.block; notes = m.notes; encodings = m.encodings; plan = record { units = m.units.items; fields = m.fields.items; regs = m.regs.items; tables = m.tables } } };
 }
 
-fn far_sight<'s>(block: &'s Block, fields: &'s [Text], regs: &'s [Text]) -> Sight<'s>
-    ensures { result ≡ record { block = block.now; own = []; named = false; fields = fields.now; regs = regs.now } }
+fn far_sight<'s>(manual: &'s Manual<'s>) -> Sight<'s>
+    ensures { result ≡ spec.far_sight manual.now.block manual.now.encodings manual.now.plan }
 {
     Sight {
-        block,
+        block: &manual.block,
         own: &[],
         named: false,
-        fields,
-        regs,
+        fields: &manual.fields,
+        regs: &manual.regs,
+        encodings: &manual.encodings,
     }
 }
 
 fn put_all_addresses<K: Sink>(pen: &mut Pen, out: &mut K, manual: &Manual<'_>)
-    ensures { Writes (at (K.told out.old) (K.faults out.old) pen.old) (at (K.told out.new) (K.faults out.new) pen.new) (addresses manual.now.block manual.now.notes.regs manual.now.plan.fields manual.now.plan.regs manual.now.plan.units) }
+    ensures { Writes (at (K.told out.old) (K.faults out.old) pen.old) (at (K.told out.new) (K.faults out.new) pen.new) (addresses manual.now.block manual.now.notes.regs manual.now.encodings manual.now.plan.fields manual.now.plan.regs manual.now.plan.units) }
 {
     put_addresses(
         pen,
         out,
         &manual.block,
         &manual.notes.regs,
+        &manual.encodings,
         &manual.fields,
         &manual.regs,
         &manual.units,
@@ -71,13 +77,14 @@ fn put_all_addresses<K: Sink>(pen: &mut Pen, out: &mut K, manual: &Manual<'_>)
 }
 
 fn put_all_sections<K: Sink>(pen: &mut Pen, out: &mut K, manual: &Manual<'_>)
-    ensures { Writes (at (K.told out.old) (K.faults out.old) pen.old) (at (K.told out.new) (K.faults out.new) pen.new) (sections manual.now.block manual.now.notes manual.now.plan.fields manual.now.plan.regs manual.now.plan.units) }
+    ensures { Writes (at (K.told out.old) (K.faults out.old) pen.old) (at (K.told out.new) (K.faults out.new) pen.new) (sections manual.now.block manual.now.notes manual.now.encodings manual.now.plan.fields manual.now.plan.regs manual.now.plan.units) }
 {
     put_sections(
         pen,
         out,
         &manual.block,
         &manual.notes,
+        &manual.encodings,
         &manual.fields,
         &manual.regs,
         &manual.units,
@@ -85,21 +92,16 @@ fn put_all_sections<K: Sink>(pen: &mut Pen, out: &mut K, manual: &Manual<'_>)
 }
 
 fn put_registers<K: Sink>(pen: &mut Pen, out: &mut K, manual: &Manual<'_>)
-    ensures { Writes (at (K.told out.old) (K.faults out.old) pen.old) (at (K.told out.new) (K.faults out.new) pen.new) (spec.registers manual.now.block manual.now.notes manual.now.plan) }
+    ensures { Writes (at (K.told out.old) (K.faults out.old) pen.old) (at (K.told out.new) (K.faults out.new) pen.new) (spec.registers manual.now.block manual.now.notes manual.now.encodings manual.now.plan) }
 {
     put_all_addresses(pen, out, manual);
     put_all_sections(pen, out, manual);
 }
 
 fn put_all_interrupts<K: Sink>(pen: &mut Pen, out: &mut K, manual: &Manual<'_>)
-    ensures { Writes (at (K.told out.old) (K.faults out.old) pen.old) (at (K.told out.new) (K.faults out.new) pen.new) (interrupts (spec.far_sight manual.now.block manual.now.plan) manual.now.plan.tables) }
+    ensures { Writes (at (K.told out.old) (K.faults out.old) pen.old) (at (K.told out.new) (K.faults out.new) pen.new) (interrupts (spec.far_sight manual.now.block manual.now.encodings manual.now.plan) manual.now.plan.tables) }
 {
-    put_interrupts(
-        pen,
-        out,
-        &far_sight(&manual.block, &manual.fields, &manual.regs),
-        &manual.tables,
-    );
+    put_interrupts(pen, out, &far_sight(manual), &manual.tables);
 }
 
 fn put_all_signals<K: Sink>(pen: &mut Pen, out: &mut K, manual: &Manual<'_>)
@@ -109,10 +111,16 @@ fn put_all_signals<K: Sink>(pen: &mut Pen, out: &mut K, manual: &Manual<'_>)
 }
 
 fn put_outputs<K: Sink>(pen: &mut Pen, out: &mut K, manual: &Manual<'_>)
-    ensures { Writes (at (K.told out.old) (K.faults out.old) pen.old) (at (K.told out.new) (K.faults out.new) pen.new) (spec.outputs manual.now.block manual.now.notes manual.now.plan) }
+    ensures { Writes (at (K.told out.old) (K.faults out.old) pen.old) (at (K.told out.new) (K.faults out.new) pen.new) (spec.outputs manual.now.block manual.now.notes manual.now.encodings manual.now.plan) }
 {
     put_all_interrupts(pen, out, manual);
     put_all_signals(pen, out, manual);
+}
+
+fn put_all_enumerations<K: Sink>(pen: &mut Pen, out: &mut K, manual: &Manual<'_>)
+    ensures { Writes (at (K.told out.old) (K.faults out.old) pen.old) (at (K.told out.new) (K.faults out.new) pen.new) (enumerations (spec.far_sight manual.now.block manual.now.encodings manual.now.plan)) }
+{
+    put_enumerations(pen, out, &far_sight(manual));
 }
 
 fn put_named_head<K: Sink>(pen: &mut Pen, out: &mut K, manual: &Manual<'_>)
@@ -134,6 +142,7 @@ fn put_page<K: Sink>(pen: &mut Pen, out: &mut K, manual: &Manual<'_>)
     put_about(pen, out, manual);
     put_registers(pen, out, manual);
     put_outputs(pen, out, manual);
+    put_all_enumerations(pen, out, manual);
     put(pen, out, b"</body>\n</html>\n");
 }
 
@@ -149,11 +158,16 @@ impl Manual<'_> {
 }
 
 /// What is looked up while the manual of a sound block is written. The only error is want of memory.
-pub fn prepare<'m>(alloc: Global, block: Block, notes: Notes<'m>) -> Result<Manual<'m>, NoMemory>
+pub fn prepare<'m>(
+    alloc: Global,
+    block: Block,
+    notes: Notes<'m>,
+    encodings: Encodings<'m>,
+) -> Result<Manual<'m>, NoMemory>
     requires { IsSound block }
-    ensures { IfOk result (λ m. spec.text_of m ≡ spec.page block notes.entry) }
+    ensures { IfOk result (λ m. spec.text_of m ≡ spec.page block notes.entry encodings.entry) }
 {
-    let lots = lots_of(alloc, &block, &notes)?;
+    let lots = lots_of(alloc, &block, &notes, &encodings)?;
     let fields = field_marks(alloc, &block, &lots)?;
     let regs = reg_marks(alloc, &block, &lots)?;
     let units = units_of(alloc, &block, &lots)?;
@@ -161,6 +175,7 @@ pub fn prepare<'m>(alloc: Global, block: Block, notes: Notes<'m>) -> Result<Manu
     Ok(Manual {
         block,
         notes,
+        encodings,
         units,
         fields,
         regs,

@@ -10,7 +10,7 @@ use Rattle.word_groups.specs.declared.parts.Part.{Part}
 use Rattle.block_effects.specs.Effects.{effects}
 use Rattle.block_effects.specs.Notes.{Said}
 use Rattle.block_effects.specs.declared.kinds.Effect.{Effect}
-use Rattle.manual_words.specs.Names.{Sight, field_item, pin_name}
+use Rattle.manual_words.specs.Names.{Sight, encoded_by, enumeration_item, field_item, pin_name}
 use Rattle.manual_words.specs.Sentences.{points}
 use Rattle.html_text.specs.Tags.{hex, paragraph}
 
@@ -79,12 +79,21 @@ reset_text (Some n) = hex n
 abbrev pub reset_cell : Option ℕ → List ℕ
 reset_cell r = codes "<td class=\"n\">" ++ reset_text r ++ codes "</td>"
 
-abbrev pub meaning_cell : List Said → Sight → ℕ → (field view : List ℕ) → List Effect → List ℕ
-meaning_cell notes s k field view es = codes "<td class=\"m\">" ++ paragraph (said_at notes k).name ++ paragraph (said_at notes k).desc ++ points s field view es ++ codes "</td>"
+abbrev pub values_line : Sight → ℕ → List ℕ
+values_line s k = codes "<p>Values: " ++ enumeration_item s k ++ codes "</p>\n"
+
+-- the enumeration by which a field is encoded, if it is
+abbrev pub values_text : Sight → Option ℕ → List ℕ
+values_text s None = []
+values_text s (Some k) = values_line s k
+
+abbrev pub meaning_cell : List Said → Sight → ℕ → (encoded : Option ℕ) → (field view : List ℕ) → List Effect → List ℕ
+meaning_cell notes s k encoded field view es = codes "<td class=\"m\">" ++ paragraph (said_at notes k).name ++ paragraph (said_at notes k).desc ++ values_text s encoded ++ points s field view es
+    ++ codes "</td>"
 
 abbrev pub row : List Said → Sight → (mark : List ℕ) → Part → View → Field → List Effect → List ℕ
 row notes s mark p v f es = codes "<tr>" ++ span_cell p.low p.bits ++ field_cell mark p.name ++ access_cells s v f ++ reset_cell p.reset
-    ++ meaning_cell notes s p.view f.path v.path es ++ codes "</tr>\n"
+    ++ meaning_cell notes s p.view (encoded_by s v.field) f.path v.path es ++ codes "</tr>\n"
 
 -- a part of a sound block has a view and a field
 

@@ -2,6 +2,7 @@
 use Rattle.std.specs.Prelude.{ℕ, suc, zero, ◌+◌, ◌-◌, ◌*◌, ◌==◌, Bool, true, false, ◌&&◌, cond, max, min, nat_le, nat_lt, List, [], ◌∷◌, ◌++◌, codes, decimal, flat_map, length, Option, None, Some, slice_get}
 use Rattle.std.specs.List.{enumerate_from}
 use Rattle.std.specs.Option.{option_map_or}
+use Rattle.encodings.specs.Encodings.{Enumerations}
 use Rattle.rb_model.specs.declared.block.Block.{Block}
 use Rattle.word_groups.specs.declared.entries.Entry.{Entry}
 use Rattle.word_groups.specs.declared.parts.Part.{Part}
@@ -124,8 +125,8 @@ abbrev pub is_shared : Entry → Bool
 is_shared e = nat_lt 0 (length e.lengths)
 
 -- from where a unit's names are seen
-abbrev pub sight : Block → (fields regs : List (List ℕ)) → WordUnit → Sight
-sight b fields regs u = record { block = b; own = u.pieces; named = is_shared u.entry; fields = fields; regs = regs }
+abbrev pub sight : Block → Enumerations → (fields regs : List (List ℕ)) → WordUnit → Sight
+sight b es fields regs u = record { block = b; own = u.pieces; named = is_shared u.entry; fields = fields; regs = regs; encodings = es }
 
 -- Sections.
 
@@ -145,8 +146,8 @@ abbrev pub seen_section : Block → AllSaid → Sight → WordUnit → List ℕ
 seen_section b n s u = heading s u.mark u.entry.path u.entry.number ++ title (said_at n.regs u.entry.reg).name ++ place u.entry ++ paragraph (said_at n.regs u.entry.reg).desc
     ++ diagram b u.entry ++ fields_table b n.views s u ++ codes "</section>\n"
 
-abbrev pub section : Block → AllSaid → (fields regs : List (List ℕ)) → WordUnit → List ℕ
-section b n fields regs u = seen_section b n (sight b fields regs u) u
+abbrev pub section : Block → AllSaid → Enumerations → (fields regs : List (List ℕ)) → WordUnit → List ℕ
+section b n es fields regs u = seen_section b n (sight b es fields regs u) u
 
 -- Addresses.
 
@@ -177,14 +178,14 @@ about_cells regs e = codes "<td class=\"n\">" ++ elements e.lengths ++ codes "</
 abbrev pub seen_address : List Said → Sight → WordUnit → List ℕ
 seen_address regs s u = place_cells u.entry ++ label_cell s u.mark u.entry.path u.entry.number ++ about_cells regs u.entry
 
-abbrev pub address_row : Block → List Said → (fields marks : List (List ℕ)) → WordUnit → List ℕ
-address_row b regs fields marks u = seen_address regs (sight b fields marks u) u
+abbrev pub address_row : Block → List Said → Enumerations → (fields marks : List (List ℕ)) → WordUnit → List ℕ
+address_row b regs es fields marks u = seen_address regs (sight b es fields marks u) u
 
 abbrev pub addresses_head : List ℕ
 addresses_head = codes "<h2>Addresses</h2>\n<p>Offsets count bytes. <code>i0</code>, <code>i1</code>, .. are indices, from 0 on.</p>\n<div class=\"wide\">\n<table>\n<tr><th scope=\"col\">Offset</th><th scope=\"col\">Bits</th><th scope=\"col\">Register</th><th scope=\"col\">Elements</th><th scope=\"col\">Reset</th><th scope=\"col\">Name</th></tr>\n"
 
-abbrev pub addresses : Block → List Said → (fields marks : List (List ℕ)) → List WordUnit → List ℕ
-addresses b regs fields marks us = addresses_head ++ flat_map (address_row b regs fields marks) us ++ codes "</table>\n</div>\n"
+abbrev pub addresses : Block → List Said → Enumerations → (fields marks : List (List ℕ)) → List WordUnit → List ℕ
+addresses b regs es fields marks us = addresses_head ++ flat_map (address_row b regs es fields marks) us ++ codes "</table>\n</div>\n"
 
-abbrev pub sections : Block → AllSaid → (fields regs : List (List ℕ)) → List WordUnit → List ℕ
-sections b n fields regs us = codes "<h2>Registers</h2>\n" ++ flat_map (section b n fields regs) us
+abbrev pub sections : Block → AllSaid → Enumerations → (fields regs : List (List ℕ)) → List WordUnit → List ℕ
+sections b n es fields regs us = codes "<h2>Registers</h2>\n" ++ flat_map (section b n es fields regs) us

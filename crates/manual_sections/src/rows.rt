@@ -3,6 +3,7 @@
 ghost use Rattle.std.specs.Prelude.{◌≡◌, [], decimal, get_or, option_copied, slice_get};
 ghost use Rattle.rb_model.specs.Ports as ports;
 ghost use Rattle.manual_sections.specs.Rows as spec;
+ghost use Rattle.manual_words.specs.Names.{encoded_by as number_of_encoding};
 ghost use Rattle.html_text.specs.Tags as tags;
 ghost use Rattle.html_text.specs.Writing.{Writes, at};
 
@@ -10,7 +11,9 @@ use block_effects::{Effect, Note};
 use html_text::{
     Pen, put, put_decimal, put_hex, put_inline, put_paragraph, put_small, put_three, put_title,
 };
-use manual_words::{Sight, put_field_at, put_pin_name, put_points};
+use manual_words::{
+    Sight, encoded_by, put_enumeration_item, put_field_at, put_pin_name, put_points,
+};
 use rb_edge::Sink;
 use rb_model::{Block, Feed, Field, View};
 use std::marker::Model;
@@ -287,21 +290,40 @@ fn put_reset_cell<K: Sink>(pen: &mut Pen, out: &mut K, reset: Option<u64>)
     put(pen, out, b"</td>");
 }
 
+fn put_values_line<K: Sink>(pen: &mut Pen, out: &mut K, sight: &Sight<'_>, number: u32)
+    ensures { Writes (at (K.told out.old) (K.faults out.old) pen.old) (at (K.told out.new) (K.faults out.new) pen.new) (spec.values_line sight.now number) }
+{
+    put(pen, out, b"<p>Values: ");
+    put_enumeration_item(pen, out, sight, number);
+    put(pen, out, b"</p>\n");
+}
+
+#[tactic(auto, using(html_text::proofs::Wrote::nothing))]
+fn put_values<K: Sink>(pen: &mut Pen, out: &mut K, sight: &Sight<'_>, encoded: Option<u32>)
+    ensures { Writes (at (K.told out.old) (K.faults out.old) pen.old) (at (K.told out.new) (K.faults out.new) pen.new) (spec.values_text sight.now encoded) }
+{
+    if let Some(number) = encoded {
+        put_values_line(pen, out, sight, number);
+    }
+}
+
 fn put_meaning<K: Sink>(
     pen: &mut Pen,
     out: &mut K,
     notes: &[Note<'_>],
     sight: &Sight<'_>,
     number: usize,
+    encoded: Option<u32>,
     field: &[u8],
     view: &[u8],
     effects: &[Effect],
 )
-    ensures { Writes (at (K.told out.old) (K.faults out.old) pen.old) (at (K.told out.new) (K.faults out.new) pen.new) (spec.meaning_cell notes.now sight.now number field.now view.now effects.now) }
+    ensures { Writes (at (K.told out.old) (K.faults out.old) pen.old) (at (K.told out.new) (K.faults out.new) pen.new) (spec.meaning_cell notes.now sight.now number encoded field.now view.now effects.now) }
 {
     put(pen, out, b"<td class=\"m\">");
     put_name_at(pen, out, notes, number);
     put_desc_at(pen, out, notes, number);
+    put_values(pen, out, sight, encoded);
     put_points(pen, out, sight, field, view, effects);
     put(pen, out, b"</td>");
 }
@@ -316,7 +338,7 @@ fn put_meaning_cell<K: Sink>(
     field: &Field,
     effects: &[Effect],
 )
-    ensures { Writes (at (K.told out.old) (K.faults out.old) pen.old) (at (K.told out.new) (K.faults out.new) pen.new) (spec.meaning_cell notes.now sight.now part.now.view field.now.path view.now.path effects.now) }
+    ensures { Writes (at (K.told out.old) (K.faults out.old) pen.old) (at (K.told out.new) (K.faults out.new) pen.new) (spec.meaning_cell notes.now sight.now part.now.view (number_of_encoding sight.now view.now.field) field.now.path view.now.path effects.now) }
 {
     put_meaning(
         pen,
@@ -324,6 +346,7 @@ fn put_meaning_cell<K: Sink>(
         notes,
         sight,
         part.view as usize,
+        encoded_by(sight, view.field),
         &field.path.bytes,
         &view.path.bytes,
         effects,

@@ -9,6 +9,7 @@ ghost use Rattle.html_text.specs.Writing.{Writes, at};
 use crate::rows::{put_desc_at, put_name_title, put_rows, view_at};
 use crate::units::WordUnit;
 use block_effects::Notes;
+use encodings::Encodings;
 use html_text::{
     Pen, put, put_decimal, put_hex, put_number, put_padded, put_place, put_small, put_three,
 };
@@ -481,13 +482,15 @@ fn put_seen_section<K: Sink>(
     put(pen, out, b"</section>\n");
 }
 
+/// From where the names of a unit are seen.
 pub fn sight_of<'s>(
     block: &'s Block,
+    encodings: &'s Encodings<'s>,
     fields: &'s [Text],
     regs: &'s [Text],
     unit: &'s WordUnit,
 ) -> Sight<'s>
-    ensures { result ≡ spec.sight block.now fields.now regs.now unit.now }
+    ensures { result ≡ spec.sight block.now encodings.now fields.now regs.now unit.now }
 {
     Sight {
         block,
@@ -495,6 +498,7 @@ pub fn sight_of<'s>(
         named: is_shared(&unit.entry),
         fields,
         regs,
+        encodings,
     }
 }
 
@@ -503,18 +507,19 @@ fn put_section<K: Sink>(
     out: &mut K,
     block: &Block,
     notes: &Notes<'_>,
+    encodings: &Encodings<'_>,
     fields: &[Text],
     regs: &[Text],
     unit: &WordUnit,
 )
-    ensures { Writes (at (K.told out.old) (K.faults out.old) pen.old) (at (K.told out.new) (K.faults out.new) pen.new) (spec.section block.now notes.now fields.now regs.now unit.now) }
+    ensures { Writes (at (K.told out.old) (K.faults out.old) pen.old) (at (K.told out.new) (K.faults out.new) pen.new) (spec.section block.now notes.now encodings.now fields.now regs.now unit.now) }
 {
     put_seen_section(
         pen,
         out,
         block,
         notes,
-        &sight_of(block, fields, regs, unit),
+        &sight_of(block, encodings, fields, regs, unit),
         unit,
     );
 }
@@ -524,15 +529,16 @@ fn put_each_section<K: Sink>(
     out: &mut K,
     block: &Block,
     notes: &Notes<'_>,
+    encodings: &Encodings<'_>,
     fields: &[Text],
     regs: &[Text],
     units: &[WordUnit],
 )
-    ensures { Writes (at (K.told out.old) (K.faults out.old) pen.old) (at (K.told out.new) (K.faults out.new) pen.new) (flat_map (spec.section block.now notes.now fields.now regs.now) units.now) }
+    ensures { Writes (at (K.told out.old) (K.faults out.old) pen.old) (at (K.told out.new) (K.faults out.new) pen.new) (flat_map (spec.section block.now notes.now encodings.now fields.now regs.now) units.now) }
 {
     let mut rest = units;
     while let [unit, more @ ..] = rest {
-        put_section(pen, out, block, notes, fields, regs, unit);
+        put_section(pen, out, block, notes, encodings, fields, regs, unit);
         rest = more;
     }
 }
@@ -543,12 +549,13 @@ pub fn put_sections<K: Sink>(
     out: &mut K,
     block: &Block,
     notes: &Notes<'_>,
+    encodings: &Encodings<'_>,
     fields: &[Text],
     regs: &[Text],
     units: &[WordUnit],
 )
-    ensures { Writes (at (K.told out.old) (K.faults out.old) pen.old) (at (K.told out.new) (K.faults out.new) pen.new) (spec.sections block.now notes.now fields.now regs.now units.now) }
+    ensures { Writes (at (K.told out.old) (K.faults out.old) pen.old) (at (K.told out.new) (K.faults out.new) pen.new) (spec.sections block.now notes.now encodings.now fields.now regs.now units.now) }
 {
     put(pen, out, b"<h2>Registers</h2>\n");
-    put_each_section(pen, out, block, notes, fields, regs, units);
+    put_each_section(pen, out, block, notes, encodings, fields, regs, units);
 }

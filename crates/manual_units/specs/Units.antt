@@ -1,5 +1,6 @@
 -- What has a section of the page: a word, or the words of all elements of an array of which the page says the same.
 use Rattle.std.specs.Prelude.{cond, List, [], ◌∷◌, flat_map, map, Option, None, Some}
+use Rattle.encodings.specs.Encodings.{Enumerations}
 use Rattle.rb_model.specs.declared.block.Block.{Block}
 use Rattle.word_groups.specs.declared.entries.Entry.{Entry}
 use Rattle.word_groups.specs.Arrays.{array_of, groups_of}
@@ -13,18 +14,18 @@ use Rattle.manual_units.specs.declared.lots.Lot.{Lot}
 
 -- Words that stand together, and the array that they are, if its elements are like.
 
-abbrev pub whole_of : Block → AllSaid → List Entry → Option Entry → Option Entry
-whole_of b n g None = None
-whole_of b n g (Some a) = cond (are_like b n g) (Some a) None
+abbrev pub whole_of : Block → AllSaid → Enumerations → List Entry → Option Entry → Option Entry
+whole_of b n es g None = None
+whole_of b n es g (Some a) = cond (are_like b n es g) (Some a) None
 
-abbrev pub whole : Block → AllSaid → List Entry → Option Entry
-whole b n g = whole_of b n g (array_of g)
+abbrev pub whole : Block → AllSaid → Enumerations → List Entry → Option Entry
+whole b n es g = whole_of b n es g (array_of g)
 
-abbrev pub lot : Block → AllSaid → List Entry → Lot
-lot b n g = record { words = g; whole = whole b n g }
+abbrev pub lot : Block → AllSaid → Enumerations → List Entry → Lot
+lot b n es g = record { words = g; whole = whole b n es g }
 
-abbrev pub lots : Block → AllSaid → List Lot
-lots b n = map (lot b n) (groups_of b)
+abbrev pub lots : Block → AllSaid → Enumerations → List Lot
+lots b n es = map (lot b n es) (groups_of b)
 
 abbrev pub shown_entries : List Entry → Option Entry → List Entry
 shown_entries g None = g

@@ -7,6 +7,7 @@ ghost use Rattle.manual_units.specs.Likeness as spec;
 
 use crate::sheet::Sheet;
 use block_effects::{Note, Notes};
+use encodings::Encodings;
 use html_text::{Pen, finish, new_pen};
 use manual_sections::{Effects, all_effects, put_rows};
 use manual_words::Sight;
@@ -67,11 +68,12 @@ fn put_bare<K: Sink>(
     pen: &mut Pen,
     out: &mut K,
     block: &Block,
+    encodings: &Encodings<'_>,
     own: &[Text],
     parts: &[Part],
     effects: &[Effects],
 )
-    ensures { Writes (at (K.told out.old) (K.faults out.old) pen.old) (at (K.told out.new) (K.faults out.new) pen.new) (rows block.now [] (record { block = block.now; own = own.now; named = true; fields = []; regs = [] }) [] parts.now effects.now) }
+    ensures { Writes (at (K.told out.old) (K.faults out.old) pen.old) (at (K.told out.new) (K.faults out.new) pen.new) (rows block.now [] (record { block = block.now; own = own.now; named = true; fields = []; regs = []; encodings = encodings.now }) [] parts.now effects.now) }
 {
     let sight = Sight {
         block,
@@ -79,6 +81,7 @@ fn put_bare<K: Sink>(
         named: true,
         fields: &[],
         regs: &[],
+        encodings,
     };
     put_rows(pen, out, block, &[], &sight, &[], parts, effects);
 }
@@ -89,14 +92,15 @@ fn put_entry<K: Sink>(
     pen: &mut Pen,
     out: &mut K,
     block: &Block,
+    encodings: &Encodings<'_>,
     entry: &Entry,
 ) -> Result<(), NoMemory>
-    ensures { OnOk result (Writes (at (K.told out.old) (K.faults out.old) pen.old) (at (K.told out.new) (K.faults out.new) pen.new) (spec.bare_rows block.now entry.now)) }
+    ensures { OnOk result (Writes (at (K.told out.old) (K.faults out.old) pen.old) (at (K.told out.new) (K.faults out.new) pen.new) (spec.bare_rows block.now encodings.now entry.now)) }
 {
     let own = names_and_indices(alloc, &entry.path.bytes)?;
     let parts = &entry.parts.items;
     let effects = all_effects(alloc, block, parts)?;
-    put_bare(pen, out, block, &own, parts, &effects);
+    put_bare(pen, out, block, encodings, &own, parts, &effects);
     Ok(())
 }
 
@@ -105,14 +109,15 @@ fn bare_rows(
     alloc: Global,
     pen: &mut Pen,
     block: &Block,
+    encodings: &Encodings<'_>,
     entry: &Entry,
 ) -> Result<Vec<u8>, NoMemory>
     requires { pen.old.page ≡ [] }
-    ensures bytes { IfOk result (λ r. r.items ≡ spec.bare_rows block.now entry.now) }
+    ensures bytes { IfOk result (λ r. r.items ≡ spec.bare_rows block.now encodings.now entry.now) }
     ensures empty { OnOk result (pen.new.page ≡ []) }
 {
     let mut sheet = Sheet::new(alloc);
-    put_entry(alloc, pen, &mut sheet, block, entry)?;
+    put_entry(alloc, pen, &mut sheet, block, encodings, entry)?;
     match finish(pen, &mut sheet) {
         Ok(()) => Ok(sheet.bytes),
         Err(_) => Err(NoMemory),
@@ -132,19 +137,20 @@ fn is_like(
     pen: &mut Pen,
     block: &Block,
     notes: &Notes<'_>,
+    encodings: &Encodings<'_>,
     first: &Entry,
     shown: &[u8],
     entry: &Entry,
 ) -> Result<bool, NoMemory>
     requires page { pen.old.page ≡ [] }
-    requires shown { shown.now ≡ spec.bare_rows block.now first.now }
-    ensures like { IfOk result (λ r. r ≡ spec.is_like block.now notes.now first.now entry.now) }
+    requires shown { shown.now ≡ spec.bare_rows block.now encodings.now first.now }
+    ensures like { IfOk result (λ r. r ≡ spec.is_like block.now notes.now encodings.now first.now entry.now) }
     ensures page { OnOk result (pen.new.page ≡ []) }
 {
     if !noted_alike(notes, first, entry) {
         return Ok(false);
     }
-    let bytes = bare_rows(alloc, pen, block, entry)?;
+    let bytes = bare_rows(alloc, pen, block, encodings, entry)?;
     Ok(*shown == *bytes)
 }
 
@@ -153,17 +159,20 @@ pub(crate) fn are_like(
     alloc: Global,
     block: &Block,
     notes: &Notes<'_>,
+    encodings: &Encodings<'_>,
     group: &[Entry],
 ) -> Result<bool, NoMemory>
-    ensures { IfOk result (λ r. r ≡ spec.are_like block.now notes.now group.now) }
+    ensures { IfOk result (λ r. r ≡ spec.are_like block.now notes.now encodings.now group.now) }
 {
     let [first, rest @ ..] = group else {
         return Ok(true);
     };
     let mut pen = new_pen();
-    let shown = bare_rows(alloc, &mut pen, block, first)?;
+    let shown = bare_rows(alloc, &mut pen, block, encodings, first)?;
     for entry in rest {
-        if !is_like(alloc, &mut pen, block, notes, first, &shown, entry)? {
+        if !is_like(
+            alloc, &mut pen, block, notes, encodings, first, &shown, entry,
+        )? {
             return Ok(false);
         }
     }

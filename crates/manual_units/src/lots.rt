@@ -6,6 +6,7 @@ ghost use Rattle.manual_units.specs.Units as spec;
 
 use crate::likeness::are_like;
 use block_effects::Notes;
+use encodings::Encodings;
 use rb_base::NoMemory;
 use rb_model::Block;
 use std::alloc::Global;
@@ -24,14 +25,15 @@ fn whole_of(
     alloc: Global,
     block: &Block,
     notes: &Notes<'_>,
+    encodings: &Encodings<'_>,
     group: &[Entry],
 ) -> Result<Option<Entry>, NoMemory>
-    ensures { IfOk result (λ r. r ≡ spec.whole block.now notes.now group.now) }
+    ensures { IfOk result (λ r. r ≡ spec.whole block.now notes.now encodings.now group.now) }
 {
     let Some(entry) = array_of(alloc, group)? else {
         return Ok(None);
     };
-    if are_like(alloc, block, notes, group)? {
+    if are_like(alloc, block, notes, encodings, group)? {
         Ok(Some(entry))
     } else {
         Ok(None)
@@ -48,23 +50,34 @@ fn copies(alloc: Global, entries: &[Entry]) -> Result<Group, NoMemory>
     Ok(Group { items })
 }
 
-fn lot_of(alloc: Global, block: &Block, notes: &Notes<'_>, group: &[Entry]) -> Result<Lot, NoMemory>
-    ensures { IfOk result (λ r. r ≡ spec.lot block.now notes.now group.now) }
+fn lot_of(
+    alloc: Global,
+    block: &Block,
+    notes: &Notes<'_>,
+    encodings: &Encodings<'_>,
+    group: &[Entry],
+) -> Result<Lot, NoMemory>
+    ensures { IfOk result (λ r. r ≡ spec.lot block.now notes.now encodings.now group.now) }
 {
-    let whole = whole_of(alloc, block, notes, group)?;
+    let whole = whole_of(alloc, block, notes, encodings, group)?;
     let words = copies(alloc, group)?;
     Ok(Lot { words, whole })
 }
 
 /// The words of a sound block that stand together. The only error is want of memory.
-pub fn lots_of(alloc: Global, block: &Block, notes: &Notes<'_>) -> Result<Vec<Lot>, NoMemory>
+pub fn lots_of(
+    alloc: Global,
+    block: &Block,
+    notes: &Notes<'_>,
+    encodings: &Encodings<'_>,
+) -> Result<Vec<Lot>, NoMemory>
     requires { IsSound block.now }
-    ensures { IfOk result (λ r. r.items ≡ spec.lots block.now notes.now) }
+    ensures { IfOk result (λ r. r.items ≡ spec.lots block.now notes.now encodings.now) }
 {
     let groups = groups_of(alloc, block)?;
     let mut lots = Vec::new(alloc);
     for group in &groups {
-        lots.push(lot_of(alloc, block, notes, &group.items)?)?;
+        lots.push(lot_of(alloc, block, notes, encodings, &group.items)?)?;
     }
     Ok(lots)
 }

@@ -1,6 +1,7 @@
 -- How items and pins are written, seen from a word: an index that is the word's own is written by its name, `i0`, `i1` and so on.
 use Rattle.std.specs.Prelude.{ℕ, ◌+◌, Bool, true, false, ◌&&◌, cond, min, List, [], ◌∷◌, ◌++◌, bytes_eq, codes, decimal, drop, get_or, Option, None, Some, slice_get}
 use Rattle.std.specs.Option.{option_map_or}
+use Rattle.encodings.specs.Encodings.{Enumerations}
 use Rattle.rb_model.specs.declared.kinds.Feed.{Feed}
 use Rattle.rb_model.specs.declared.kinds.Feed.TheVariants as feed
 use Rattle.rb_model.specs.declared.kinds.RefItem.{RefItem}
@@ -56,14 +57,15 @@ pieces_of (Some path) = names_and_indices path
 
 -- Items.
 
--- From where: the pieces of the word's path, whether its own indices are written by their names, and the marks of the fields' and
--- registers' places in the page, by their numbers. A mark may be missing.
+-- From where: the pieces of the word's path, whether its own indices are written by their names, the marks of the fields' and
+-- registers' places in the page, by their numbers, and the enumerations. A mark may be missing.
 pub record Sight : Type 0 where
   pub block : Block
   pub own : List (List ℕ)
   pub named : Bool
   pub fields : List (List ℕ)
   pub regs : List (List ℕ)
+  pub encodings : Enumerations
 
 abbrev pub field_path : Block → ℕ → List ℕ
 field_path b k = of_field b k [] (λ f. f.path)
@@ -86,6 +88,17 @@ reg_item s k property = linked s (get_or s.regs k []) (reg_path s.block k) prope
 
 abbrev pub signal_item : Sight → ℕ → List ℕ
 signal_item s k = codes "<a href=\"#signal:" ++ decimal k ++ codes "\"><code>" ++ relative true s.named s.own (signal_path s.block k) ++ codes "</code></a>"
+
+-- the number of the enumeration by which the field of a number is encoded
+abbrev pub encoded_by : Sight → ℕ → Option ℕ
+encoded_by s k = get_or s.encodings.fields k None
+
+abbrev pub enumeration_name : Sight → ℕ → List ℕ
+enumeration_name s k = option_map_or (λ e. e.name) (slice_get s.encodings.list k) []
+
+-- its mark has two colons, as that of no word has
+abbrev pub enumeration_item : Sight → ℕ → List ℕ
+enumeration_item s k = codes "<a href=\"#enum::" ++ decimal k ++ codes "\"><code>" ++ enumeration_name s k ++ codes "</code></a>"
 
 abbrev pub item_text : Sight → RefItem → List ℕ
 item_text s (item.Field k) = field_item s k []

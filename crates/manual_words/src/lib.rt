@@ -5,7 +5,7 @@ mod names;
 mod sentences;
 
 pub use names::{
-    Sight, path_of_reg, put_feed, put_field_at, put_field_item, put_item, put_path, put_pin,
-    put_pin_name,
+    Sight, encoded_by, put_enumeration_item, put_feed, put_field_at, put_field_item, put_item,
+    put_path, put_pin, put_pin_name, put_reg_item,
 };
 pub use sentences::put_points;

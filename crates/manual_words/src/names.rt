@@ -5,6 +5,7 @@ ghost use Rattle.manual_words.specs.Names as spec;
 ghost use Rattle.word_groups.specs.Paths as paths;
 ghost use Rattle.html_text.specs.Writing.{Writes, at};
 
+use encodings::Encodings;
 use html_text::{Pen, put, put_link_begin, put_link_end, put_number};
 use rb_base::Text;
 use rb_edge::Sink;
@@ -12,8 +13,8 @@ use rb_model::{Block, Feed, RefItem};
 use std::marker::Model;
 use word_groups::is_index;
 
-/// From where names are seen: the pieces of a register's path, whether its own indices are written by their names, and the marks of
-/// the places of fields and registers in the page, by their numbers. A mark may be missing.
+/// From where names are seen: the pieces of a register's path, whether its own indices are written by their names, the marks of the
+/// places of fields and registers in the page, by their numbers, and the enumerations. A mark may be missing.
 #[derive(Drop)]
 pub struct Sight<'s> {
     pub block: &'s Block,
@@ -21,6 +22,7 @@ pub struct Sight<'s> {
     pub named: bool,
     pub fields: &'s [Text],
     pub regs: &'s [Text],
+    pub encodings: &'s Encodings<'s>,
 }
 
 impl<'s> Model for Sight<'s> {
@@ -28,7 +30,7 @@ impl<'s> Model for Sight<'s> {
 
     ghost Value = { Seen };
 
-    ghost view = { λ s. record { block = s.block.now; own = s.own.now; named = s.named; fields = s.fields.now; regs = s.regs.now } };
+    ghost view = { λ s. record { block = s.block.now; own = s.own.now; named = s.named; fields = s.fields.now; regs = s.regs.now; encodings = s.encodings.now } };
 }
 
 // The place of the first `$`.
@@ -204,8 +206,7 @@ fn path_of_field(block: &Block, number: usize) -> &[u8]
     }
 }
 
-/// The path of the register of a number.
-pub fn path_of_reg(block: &Block, number: usize) -> &[u8]
+fn path_of_reg(block: &Block, number: usize) -> &[u8]
     ensures { result.now ≡ spec.reg_path block.now number }
 {
     match block.regs.items.get(number) {
@@ -275,7 +276,8 @@ pub fn put_field_item<K: Sink>(
     );
 }
 
-fn put_reg_item<K: Sink>(
+/// Writes a register's name and what stands behind it, with a reference to its place.
+pub fn put_reg_item<K: Sink>(
     pen: &mut Pen,
     out: &mut K,
     sight: &Sight<'_>,
@@ -321,6 +323,44 @@ pub fn put_signal_item<K: Sink>(pen: &mut Pen, out: &mut K, sight: &Sight<'_>, n
     put_number(pen, out, number);
     put(pen, out, b"\"><code>");
     put_signal_path(pen, out, sight, number);
+    put(pen, out, b"</code></a>");
+}
+
+/// The number of the enumeration by which the field of a number is encoded, if it is.
+pub fn encoded_by(sight: &Sight<'_>, number: u32) -> Option<u32>
+    ensures { result ≡ spec.encoded_by sight.now number }
+{
+    let encodings = sight.encodings;
+    match encodings.fields.get(number as usize) {
+        Some(encoded) => *encoded,
+        None => None,
+    }
+}
+
+fn name_of_enumeration<'s>(sight: &Sight<'s>, number: u32) -> &'s [u8]
+    ensures { result.now ≡ spec.enumeration_name sight.now number }
+{
+    let encodings = sight.encodings;
+    match encodings.list.get(number as usize) {
+        Some(encoding) => encoding.name,
+        None => b"",
+    }
+}
+
+fn put_enumeration_name<K: Sink>(pen: &mut Pen, out: &mut K, sight: &Sight<'_>, number: u32)
+    ensures { Writes (at (K.told out.old) (K.faults out.old) pen.old) (at (K.told out.new) (K.faults out.new) pen.new) (spec.enumeration_name sight.now number) }
+{
+    put(pen, out, name_of_enumeration(sight, number));
+}
+
+/// Writes an enumeration's name, with a reference to its place.
+pub fn put_enumeration_item<K: Sink>(pen: &mut Pen, out: &mut K, sight: &Sight<'_>, number: u32)
+    ensures { Writes (at (K.told out.old) (K.faults out.old) pen.old) (at (K.told out.new) (K.faults out.new) pen.new) (spec.enumeration_item sight.now number) }
+{
+    put(pen, out, b"<a href=\"#enum::");
+    put_number(pen, out, number);
+    put(pen, out, b"\"><code>");
+    put_enumeration_name(pen, out, sight, number);
     put(pen, out, b"</code></a>");
 }
 

@@ -6,9 +6,9 @@ use Rattle.manual_sections.specs.Sections.{address_row}
 use Rattle.html_manual.proofs.addresses.put_rows.Goals as goal
 
 pub loop-rest-init : goal.loop-rest-init
-loop-rest-init g c = begins (at (g.K.Sink.told c.args.out.now) (g.K.Sink.faults c.args.out.now) c.args.pen.now) (flat_map (address_row c.args.block.now c.args.notes.now c.args.fields.now c.args.marks.now) c.args.units.now)
+loop-rest-init g c = begins (at (g.K.Sink.told c.args.out.now) (g.K.Sink.faults c.args.out.now) c.args.pen.now) (flat_map (address_row c.args.block.now c.args.notes.now c.args.encodings.now c.args.fields.now c.args.marks.now) c.args.units.now)
 
 pub loop-rest-preserved : goal.loop-rest-preserved
 loop-rest-preserved g c =
     let rest = c.loop-rest.rest.now in
-    step _ (ap (flat_map (address_row c.args.block.now c.args.notes.now c.args.fields.now c.args.marks.now)) (first rest _ c.in-len1-up.len_at_least ∙ ap (λ u. u ∷ take (length rest - 1) (drop 1 rest)) (sym c.unit-item.is))) c.loop-rest.invariant c.put_address.ensures
+    step _ (ap (flat_map (address_row c.args.block.now c.args.notes.now c.args.encodings.now c.args.fields.now c.args.marks.now)) (first rest _ c.in-len1-up.len_at_least ∙ ap (λ u. u ∷ take (length rest - 1) (drop 1 rest)) (sym c.unit-item.is))) c.loop-rest.invariant c.put_address.ensures

@@ -6,7 +6,7 @@ use Rattle.manual_sections.proofs.sections.put_each_section.Given as goal
 
 abbrev pub invariant-loop-rest : goal.invariant-loop-rest
 invariant-loop-rest g l = Goes (at (g.K.Sink.told l.fn.out) (g.K.Sink.faults l.fn.out) l.fn.pen) (at (g.K.Sink.told l.out) (g.K.Sink.faults l.out) l.pen)
-    (flat_map (section l.block l.notes l.fields l.regs) l.fn.units) (flat_map (section l.block l.notes l.fields l.regs) l.rest)
+    (flat_map (section l.block l.notes l.encodings l.fields l.regs) l.fn.units) (flat_map (section l.block l.notes l.encodings l.fields l.regs) l.rest)
 
 abbrev pub decreases-loop-rest : goal.decreases-loop-rest
 decreases-loop-rest g l = length l.rest

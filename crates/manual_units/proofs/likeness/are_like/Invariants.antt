@@ -5,6 +5,6 @@ use Rattle.manual_units.proofs.likeness.are_like.Given as goal
 
 abbrev pub invariant-loop-entry : goal.invariant-loop-entry
 invariant-loop-entry l = record {
-  like : list_all (is_like l.block l.notes l.first) (take l.entry-index l.rest) ≡ true;
+  like : list_all (is_like l.block l.notes l.encodings l.first) (take l.entry-index l.rest) ≡ true;
   page : l.pen.page ≡ [];
 }
