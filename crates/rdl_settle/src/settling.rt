@@ -9,6 +9,7 @@ use crate::above::assign_all;
 use crate::completing::complete_all;
 use bumpalo::Bump;
 use rb_base::NoMemory;
+use rdl_encodings::encodings_of;
 use rdl_facts::facts_of;
 use rdl_failures::{Failures, PhaseError};
 use rdl_layers::{PropSetting, Props};
@@ -68,8 +69,9 @@ fn refused<'a>(alloc: Global, failures: Failures) -> PhaseError
     }
 }
 
-/// What every property of every node of a tree is set to, and the facts of its fields and signals, or all failures of the phase: rules
-/// P1 to P11, and V rules in values and indices (SystemRDL 2.0, 5.1.3). What is opened stays in the arena.
+/// What every property of every node of a tree is set to, the facts of its fields and signals, and the enumerations by which its fields
+/// are encoded, or all failures of the phase: rules P1 to P11, and V rules in values and indices (SystemRDL 2.0, 5.1.3). What is opened
+/// stays in the arena.
 pub fn settle<'a>(
     alloc: Global,
     arena: &'a Bump,
@@ -94,6 +96,13 @@ pub fn settle<'a>(
     let Ok(facts) = facts_of(alloc, &rows, &tree, &entries) else {
         return Err(PhaseError::NoMemory);
     };
+    let Ok(encodings) = encodings_of(alloc, &rows, &tree, &entries) else {
+        return Err(PhaseError::NoMemory);
+    };
     let props = Props::of(*elab, entries);
-    Ok(Settled { props, facts })
+    Ok(Settled {
+        props,
+        facts,
+        encodings,
+    })
 }

@@ -1,10 +1,10 @@
 -- What is answered, by what the steps answer.
-use Rattle.std.proofs.Common.{◌≡◌, ◌≢◌, ◌∙◌, inl, inr, ℕ, List, [], ◌∷◌, Option, Some, Result, Ok, Err, IfErr, IsErrAnd, Contains, refl, sym, subst}
+use Rattle.std.proofs.Common.{◌≡◌, ◌≢◌, ◌∙◌, inl, inr, ℕ, List, [], ◌∷◌, Option, Some, Result, Ok, Err, IfErr, IsErrAnd, Contains, refl, sym, ap, subst}
 use Rattle.rdl_base.specs.declared.fault.Fault.{Fault}
 use Rattle.rb_model.specs.declared.block.Block.{Block}
 use Rattle.rdl_tree.specs.declared.node.Elab.{Elab}
 use Rattle.rdl_tree.specs.declared.item.Source.{Source}
-use Rattle.rdl_values.specs.Elaborated.{HasWords, top_name}
+use Rattle.rdl_values.specs.Elaborated.{HasWords, nodes_of, top_name}
 use Rattle.rdl_values.specs.Elaboration.{Elaborates, IsClean}
 use Rattle.rdl_values.specs.Phase3.{fails3}
 use Rattle.rdl_values.specs.Top.{top_use_of}
@@ -17,7 +17,9 @@ use Rattle.rdl_addr.specs.Answers.{IsPlaced}
 use Rattle.rdl_refs.specs.Answers.{IsBound}
 use Rattle.rdl_check.specs.Trees.{HaveOneForm}
 use Rattle.rdl_rules.specs.Answers.{meaning_fails}
+use Rattle.rdl_rules.specs.Numbers.{all_fields}
 use Rattle.rdl_rules.specs.declared.settled.Settled.{Settled}
+use Rattle.rdl_encodings.specs.Encoded.{encodings_of}
 use Rattle.rdl_verdict.specs.Answers.{IsJudged, Judges, Refuses}
 use Rattle.rdl_verdict.specs.Steps.{FailsLate, HasAll, HasOne, IsClear, IsGrown}
 use Rattle.rdl_verdict.specs.Verdict.{IsVerdict, tree}
@@ -25,7 +27,7 @@ use Rattle.rdl_verdict.specs.declared.error.JudgeError.{JudgeError}
 use Rattle.rdl_verdict.specs.declared.error.JudgeError.TheVariants as error
 use Rattle.rdl_verdict.specs.declared.judging.Judged.{Judged}
 use Rattle.rdl_verdict.proofs.Parts.{first-in, second-alone, some}
-use Rattle.rdl_verdict.proofs.Same.{later, same-block}
+use Rattle.rdl_verdict.proofs.Same.{later, same-block, same-nodes}
 
 -- one failure
 pub only : (wanted : Option (List ℕ)) (text : List ℕ) (fault : Fault) → IsVerdict wanted text (fault ∷ []) → (err : JudgeError) → HasOne fault err → Refuses wanted text err
@@ -48,11 +50,12 @@ refused-own wanted text e reads h same (error.Faults list) late = record { verdi
 refused-own wanted text e reads h same error.NoMemory late = tt
 
 -- none
-pub judged-own : (wanted : Option (List ℕ)) (text : List ℕ) (e : Elab) (known : Settled) (b : Block) → known.props ≡ e → Reads text e.source.now.items.now → Elaborates wanted e.source.now e → top_use_of wanted e.source.now ≡ top_use_of (Some (top_name e)) e.source.now → IsClean e → IsClear e b → IsJudged wanted text (record { elab = e; settled = known; block = b })
-judged-own wanted text e known b of reads h same clean x = record {
+pub judged-own : (wanted : Option (List ℕ)) (text : List ℕ) (e : Elab) (known : Settled) (b : Block) → known.props ≡ e → known.encodings ≡ encodings_of (all_fields (nodes_of e)) → Reads text e.source.now.items.now → Elaborates wanted e.source.now e → top_use_of wanted e.source.now ≡ top_use_of (Some (top_name e)) e.source.now → IsClean e → IsClear e b → IsJudged wanted text (record { elab = e; settled = known; block = b })
+judged-own wanted text e known b of encoded reads h same clean x = record {
   clean = clean;
   props = of;
   tree = h;
+  encodings = encoded ∙ ap (λ ns. encodings_of (all_fields ns)) (sym (same-nodes wanted (Some (top_name e)) e.source.now same));
   described = record {
     reads = reads;
     clean = inr (h.clean, later wanted (Some (top_name e)) e.source.now same [] (inr (x.settled, inr (second-alone e [] x.placed x.bound, inr (x.block.clean, refl)))));

@@ -2,16 +2,18 @@
 use Rattle.std.specs.Prelude.{◌≡◌, ◌≢◌, ℕ, List, [], Option, Result, Ok, Err}
 use Rattle.rdl_base.specs.declared.fault.Fault.{Fault}
 use Rattle.rdl_values.specs.Elaboration.{Elaborates, IsClean}
+use Rattle.rdl_encodings.specs.Encoded.{source_encodings}
 use Rattle.rdl_verdict.specs.Verdict.{IsDescribed, IsVerdict}
 use Rattle.rdl_verdict.specs.declared.error.JudgeError.{JudgeError}
 use Rattle.rdl_verdict.specs.declared.error.JudgeError.TheVariants as error
 use Rattle.rdl_verdict.specs.declared.judging.Judged.{Judged}
 
--- a source that breaks no rule: its tree, and its block
+-- a source that breaks no rule: its tree, the enumerations by which the fields of its block are encoded, and the block
 pub record IsJudged (wanted : Option (List ℕ)) (text : List ℕ) (j : Judged) : Type 0 where
   pub clean : IsClean j.elab
   pub props : j.settled.props ≡ j.elab
   pub tree : Elaborates wanted j.elab.source.now j.elab
+  pub encodings : j.settled.encodings ≡ source_encodings wanted j.elab.source.now
   pub described : IsDescribed wanted text j.elab.source.now j.block
 
 -- one that breaks some: its verdict

@@ -1,12 +1,14 @@
 //! `judge`.
 
 ghost use Rattle.std.specs.Prelude.{◌≡◌, ◌<◌, ◌^◌, ◌-◌, ℕ, IfErr, IfOk, List, Option, Some, length, option_copied};
-ghost use Rattle.rdl_values.specs.Elaborated.{HasWords, top_name};
+ghost use Rattle.rdl_values.specs.Elaborated.{HasWords, nodes_of, top_name};
 ghost use Rattle.rdl_values.specs.Elaboration.{IsClean};
 ghost use Rattle.rdl_layers.specs.Answers.{IsSettled};
 ghost use Rattle.rb_model.specs.Apart.{IsApart};
 ghost use Rattle.rdl_rules.specs.Facts.{AreFacts};
 ghost use Rattle.rdl_rules.specs.Answers.{IsBlockFor, meaning_fails};
+ghost use Rattle.rdl_rules.specs.Numbers.{all_fields};
+ghost use Rattle.rdl_encodings.specs.Encoded.{encodings_of};
 ghost use Rattle.rdl_check.specs.Trees.{HaveOneForm};
 ghost use Rattle.rdl_verdict.specs.Answers.{IsJudged, Judges, Refuses};
 ghost use Rattle.rdl_verdict.specs.Steps.{FailsLate, HasAll, IsClear, IsGrown, IsStood};
@@ -69,6 +71,7 @@ fn describe<'a>(alloc: Global, arena: &'a Bump, elab: Elab<'a>) -> Result<Judged
     requires forms { HaveOneForm elab }
     ensures tree { IfOk result (λ j. j.elab ≡ elab.entry) }
     ensures props { IfOk result (λ j. j.settled.props ≡ elab.entry) }
+    ensures encodings { IfOk result (λ j. j.settled.encodings ≡ encodings_of (all_fields (nodes_of elab.entry))) }
     ensures clear { IfOk result (λ j. IsClear elab.entry j.block) }
     ensures error { IfErr result (FailsLate elab.entry) }
 {

@@ -2,6 +2,7 @@
 
 ghost use Rattle.std.specs.Prelude.{◌≡◌, ◌≢◌, ◌<◌, ◌^◌, ◌-◌, ◌++◌, ℕ, Contains, IfErr, IfOk, List, Option, length, option_copied};
 ghost use Rattle.rdl_tree.specs.InOrder.{IsInOrder};
+ghost use Rattle.rdl_values.specs.Elaborated.{nodes_of};
 ghost use Rattle.rdl_values.specs.Elaboration.{Elaborates, IsClean};
 ghost use Rattle.rdl_values.specs.Faults.{at_};
 ghost use Rattle.rdl_values.specs.Phase3.{fails3};
@@ -9,6 +10,8 @@ ghost use Rattle.rdl_values.specs.Verdict.{IsListOf, IsRefusal};
 ghost use Rattle.rdl_parser.specs.Verdicts.{HasError, Reads};
 ghost use Rattle.rdl_layers.specs.Answers.{IsSettled, settings_fail};
 ghost use Rattle.rdl_rules.specs.Facts.{AreFacts};
+ghost use Rattle.rdl_rules.specs.Numbers.{all_fields};
+ghost use Rattle.rdl_encodings.specs.Encoded.{encodings_of};
 ghost use Rattle.rdl_addr.specs.Answers.{IsPlaced, places_fail};
 ghost use Rattle.rdl_verdict.specs.Answers.{Refuses};
 ghost use Rattle.rdl_verdict.specs.Steps.{HasAll, HasOne, IsStood, stands_fail};
@@ -110,6 +113,7 @@ pub(crate) fn set<'a>(
     ensures settled { IfOk result (λ s. IsSettled elab.now) }
     ensures props { IfOk result (λ s. s.props ≡ elab.now) }
     ensures facts { IfOk result (λ s. AreFacts elab.now s.facts.items) }
+    ensures encodings { IfOk result (λ s. s.encodings ≡ encodings_of (all_fields (nodes_of elab.now))) }
     ensures error { IfErr result (HasAll (settings_fail elab.now)) }
 {
     match settle(alloc, arena, elab) {

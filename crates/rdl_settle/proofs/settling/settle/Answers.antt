@@ -18,6 +18,11 @@ facts_of-requires c =
     let e = c.args.elab.now in
     ap length c.deref.ensures.value ∙ rows_count e c.in-Ok.gathered.rows.items c.requires c.in-Ok.ensures.rows_ ∙ sym c.in-Ok.ensures.all.all_nodes ∙ sym (ap length c.deref-2.ensures.value)
 
+pub encodings_of-requires : goal.encodings_of-requires
+encodings_of-requires c =
+    let e = c.args.elab.now in
+    ap length c.deref-3.ensures.value ∙ rows_count e c.in-Ok.gathered.rows.items c.requires c.in-Ok.ensures.rows_ ∙ sym c.in-Ok.ensures.all.all_nodes ∙ sym (ap length c.deref-4.ensures.value)
+
 pub of-props-requires : goal.of-props-requires
 of-props-requires c =
     let e = c.args.elab.now in
@@ -30,8 +35,10 @@ returns c =
     let g = c.in-Ok.gathered in
     let found = subst (λ fs. IsGathered e g fs c.gather.new.failures) c.new-failures.ensures c.in-Ok.ensures in
     let none = settled e g.entries.items c.gather.new.failures c.requires found.all (empty_is c.gather.new.failures (sym c.is_empty.ensures ∙ c.if-not-is_empty.false)) in
+    let told = told_all e g.entries.items [] c.gather.new.failures c.requires found.all in
     record {
       settled = none;
       of_tree = c.of-props.ensures;
-      facts = c.in-Ok-facts_of.ensures e c.requires none (subst (AreRows e) (sym c.deref.ensures.value) found.rows_) found.open_ (subst (AreTold e) (sym c.deref-2.ensures.value) (told_all e g.entries.items [] c.gather.new.failures c.requires found.all));
+      facts = c.in-Ok-facts_of.ensures e c.requires none (subst (AreRows e) (sym c.deref.ensures.value) found.rows_) found.open_ (subst (AreTold e) (sym c.deref-2.ensures.value) told);
+      encodings = c.in-Ok-encodings_of.ensures e c.requires (subst (AreRows e) (sym c.deref-3.ensures.value) found.rows_) found.open_ (subst (AreTold e) (sym c.deref-4.ensures.value) told);
     }

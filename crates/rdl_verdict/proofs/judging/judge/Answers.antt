@@ -20,4 +20,4 @@ returns c =
     let j = c.in_ok-judged.judged in
     let is = c.in_ok-judged.ensures in
     let same : record j { elab = e } ≡ j = λ i. record j { elab = sym is.tree i } in
-    subst (λ (x : Judged). IsJudged (option_copied c.args.top) c.args.text.now x) same (judged-own _ c.args.text.now e j.settled j.block is.props g.reads g.tree g.top g.clean is.clear)
+    subst (λ (x : Judged). IsJudged (option_copied c.args.top) c.args.text.now x) same (judged-own _ c.args.text.now e j.settled j.block is.props is.encodings g.reads g.tree g.top g.clean is.clear)

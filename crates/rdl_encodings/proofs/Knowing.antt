@@ -1,0 +1,10 @@
+-- Numbers that are known under bodies and places.
+use Rattle.std.proofs.Common.{◌≡◌, ◌∙◌, ℕ, ◌&&◌, cond, nat_eq, Option, Some, sym, ap}
+use Rattle.std.specs.BTreeMap.{get, is_at}
+use Rattle.std.specs.Cmp.{tied_then, unsigned_tied}
+use Rattle.std.specs.Ordering.{nat_cmp}
+use Rattle.rdl_encodings.specs.Known.{known_at, place_cmp}
+use Rattle.rdl_encodings.specs.declared.known.Known.{Known}
+
+pub known_more : (old new : Known) (body place n : ℕ) → ((q : ℕ × ℕ) → get place_cmp new.numbers q ≡ cond (is_at (place_cmp (body, place)) q) (Some n) (get place_cmp old.numbers q)) → (b p : ℕ) → known_at new b p ≡ cond (nat_eq body b && nat_eq place p) (Some n) (known_at old b p)
+known_more old new body place n updates b p = updates (b, p) ∙ ap (λ t. cond t (Some n) (known_at old b p)) (sym (tied_then (nat_cmp body b) (nat_cmp place p)) ∙ (λ i. unsigned_tied body b i && unsigned_tied place p i))

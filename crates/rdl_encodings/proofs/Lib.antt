@@ -1,0 +1,9 @@
+mod Along
+mod Firsts
+mod Found
+mod Keys
+mod Knowing
+mod Pushing
+mod Rows
+mod Same
+mod Settings

@@ -1,0 +1,10 @@
+pub mod Body
+pub mod Encoded
+pub mod Enums
+pub mod Keyed
+pub mod Known
+pub mod Lists
+pub mod Meant
+pub mod Numbered
+pub mod Same
+pub mod Standing
