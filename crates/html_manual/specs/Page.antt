@@ -16,6 +16,7 @@ use Rattle.manual_units.specs.Units.{lots, units}
 use Rattle.manual_units.specs.declared.lots.Lot.{Lot}
 use Rattle.html_manual.specs.declared.tables.Tables.{Tables}
 use Rattle.html_manual.specs.Enumerations.{enumerations}
+use Rattle.html_manual.specs.Groups.{groups}
 use Rattle.html_manual.specs.Interrupts.{interrupts, tables}
 use Rattle.html_manual.specs.Style.{style}
 
@@ -79,7 +80,7 @@ abbrev pub outputs : Block → AllSaid → Enumerations → Plan → List ℕ
 outputs b n es p = interrupts (far_sight b es p) p.tables ++ signals n.signals b.signals
 
 unfoldable pub planned_page : Block → AllSaid → Enumerations → Plan → List ℕ
-planned_page b n es p = head b.name ++ top_texts n.top ++ registers b n es p ++ outputs b n es p ++ enumerations (far_sight b es p) ++ codes "</body>\n</html>\n"
+planned_page b n es p = head b.name ++ top_texts n.top ++ registers b n es p ++ groups (far_sight b es p) n.groups ++ outputs b n es p ++ enumerations (far_sight b es p) ++ codes "</body>\n</html>\n"
 
 abbrev pub page : Block → AllSaid → Enumerations → List ℕ
 page b n es = planned_page b n es (plan b n es)

@@ -3,6 +3,7 @@
 
 mod addresses;
 mod enumerations;
+mod groups;
 mod head;
 mod interrupts;
 mod page;

@@ -2,6 +2,7 @@
 
 ghost use Rattle.std.specs.Prelude.{◌≡◌, [], IfOk, false};
 ghost use Rattle.html_manual.specs.Enumerations.{enumerations};
+ghost use Rattle.html_manual.specs.Groups.{groups};
 ghost use Rattle.html_manual.specs.Interrupts.{interrupts};
 ghost use Rattle.html_manual.specs.Page as spec;
 ghost use Rattle.html_text.specs.Writing.{Writes, at};
@@ -11,6 +12,7 @@ ghost use Rattle.rb_model.specs.Sound.{IsSound};
 
 use crate::addresses::put_addresses;
 use crate::enumerations::put_enumerations;
+use crate::groups::put_groups;
 use crate::head::{put_head, put_top_texts};
 use crate::interrupts::put_interrupts;
 use crate::signals::put_signals;
@@ -98,6 +100,12 @@ fn put_registers<K: Sink>(pen: &mut Pen, out: &mut K, manual: &Manual<'_>)
     put_all_sections(pen, out, manual);
 }
 
+fn put_all_groups<K: Sink>(pen: &mut Pen, out: &mut K, manual: &Manual<'_>)
+    ensures { Writes (at (K.told out.old) (K.faults out.old) pen.old) (at (K.told out.new) (K.faults out.new) pen.new) (groups (spec.far_sight manual.now.block manual.now.encodings manual.now.plan) manual.now.notes.groups) }
+{
+    put_groups(pen, out, &far_sight(manual), &manual.notes.groups);
+}
+
 fn put_all_interrupts<K: Sink>(pen: &mut Pen, out: &mut K, manual: &Manual<'_>)
     ensures { Writes (at (K.told out.old) (K.faults out.old) pen.old) (at (K.told out.new) (K.faults out.new) pen.new) (interrupts (spec.far_sight manual.now.block manual.now.encodings manual.now.plan) manual.now.plan.tables) }
 {
@@ -141,6 +149,7 @@ fn put_page<K: Sink>(pen: &mut Pen, out: &mut K, manual: &Manual<'_>)
     put_named_head(pen, out, manual);
     put_about(pen, out, manual);
     put_registers(pen, out, manual);
+    put_all_groups(pen, out, manual);
     put_outputs(pen, out, manual);
     put_all_enumerations(pen, out, manual);
     put(pen, out, b"</body>\n</html>\n");

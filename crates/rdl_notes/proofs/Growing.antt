@@ -1,7 +1,8 @@
 -- Lists made node by node.
-use Rattle.std.proofs.Common.{◌≡◌, ◌∙◌, ℕ, ◌+◌, Bool, true, false, cond, List, [], ◌∷◌, ◌++◌, append-nil, append_assoc, map, flat_map, filter, take, Some, slice_get, refl, sym, ap}
+use Rattle.std.proofs.Common.{◌≡◌, ◌∙◌, ℕ, ◌+◌, Bool, true, false, cond, List, [], ◌∷◌, ◌++◌, append-nil, append_assoc, map, flat_map, filter, fold, take, Some, slice_get, refl, sym, ap}
 use Rattle.std.proofs.lemmas.Grind.{flat_map-append}
 use Rattle.std.proofs.lemmas.List.{map-append}
+use Rattle.plain_lemmas.proofs.Lists.{fold-push}
 use Rattle.rdl_values.specs.Instances.{Instance}
 use Rattle.rdl_fields.proofs.Lists.{filter-next}
 
@@ -32,3 +33,19 @@ module _ {X : Type 0} where
       added : (b : Bool) → cond b (g n) [] ≡ flat_map g (cond b (n ∷ []) [])
       added true = sym (append-nil (g n))
       added false = refl
+
+  -- what those become one after the other
+  pub folded-more : (step : List X → X → List X) (g : Instance → X) (p : Instance → Bool) (ns : List Instance) (i : ℕ) (n : Instance) → slice_get ns i ≡ Some n → (old new : List X) → old ≡ fold step [] (map g (filter p (take i ns))) → new ≡ cond (p n) (step old (g n)) old
+      → new ≡ fold step [] (map g (filter p (take (i + 1) ns)))
+  folded-more step g p ns i n here old new before more =
+      more
+      ∙ ((λ j. cond (p n) (step (before j) (g n)) (before j))
+      ∙ (added (p n)
+      ∙ ap (fold step []) (sym (map-append g (filter p (take i ns)) (cond (p n) (n ∷ []) [])) ∙ ap (map g) (sym (filter-next p ns i n here)))))
+    where
+      xs : List X
+      xs = map g (filter p (take i ns))
+
+      added : (b : Bool) → cond b (step (fold step [] xs) (g n)) (fold step [] xs) ≡ fold step [] (xs ++ map g (cond b (n ∷ []) []))
+      added true = sym (fold-push step [] xs (g n))
+      added false = ap (fold step []) (sym (append-nil xs))

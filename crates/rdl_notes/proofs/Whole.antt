@@ -10,7 +10,7 @@ use Rattle.rdl_values.specs.Top.{top_use_of}
 use Rattle.rdl_values.proofs.Clean.{same_nodes, same_tops}
 use Rattle.rdl_layers.specs.Fields.{fields_of}
 use Rattle.rdl_rules.specs.Numbers.{all_signals, registers}
-use Rattle.rdl_notes.specs.Notes.{note_of, note_of_top, notes_of}
+use Rattle.rdl_notes.specs.Notes.{groups_of, note_of, note_of_top, notes_of}
 use Rattle.rdl_notes.proofs.Top.{top-here}
 
 -- The notes are made of the nodes of the tree, and the first of the top's node.
@@ -19,6 +19,7 @@ pub record AreMade (e p : Elab) (a : AllSaid) : Type 0 where
   pub regs_ : a.regs ≡ map note_of (registers (nodes_of p))
   pub views_ : a.views ≡ flat_map (λ r. map note_of (fields_of r)) (registers (nodes_of p))
   pub signals_ : a.signals ≡ map note_of (all_signals (nodes_of p))
+  pub groups_ : a.groups ≡ groups_of (nodes_of p)
 
 -- where the tree of the settings is the tree
 module _ (e : Elab) (clean : IsClean e) (a : AllSaid) (made : AreMade e e a) where
@@ -33,7 +34,8 @@ module _ (e : Elab) (clean : IsClean e) (a : AllSaid) (made : AreMade e e a) whe
       let regs : a.regs ≡ map note_of (registers (nodes wanted e.source.now)) = made.regs_ ∙ ap (λ ns. map note_of (registers ns)) all in
       let views : a.views ≡ flat_map (λ r. map note_of (fields_of r)) (registers (nodes wanted e.source.now)) = made.views_ ∙ ap (λ ns. flat_map (λ r. map note_of (fields_of r)) (registers ns)) all in
       let signals : a.signals ≡ map note_of (all_signals (nodes wanted e.source.now)) = made.signals_ ∙ ap (λ ns. map note_of (all_signals ns)) all in
-      (λ i. record { top = top i; regs = regs i; views = views i; signals = signals i })
+      let groups : a.groups ≡ groups_of (nodes wanted e.source.now) = made.groups_ ∙ ap groups_of all in
+      (λ i. record { top = top i; regs = regs i; views = views i; signals = signals i; groups = groups i })
 
 pub notes-of-props : (e p : Elab) → p ≡ e → IsClean e → (a : AllSaid) → AreMade e p a → (wanted : Option (List ℕ)) → top_use_of wanted e.source.now ≡ top_use_of (Some (top_name e)) e.source.now → a ≡ notes_of wanted e.source.now
 notes-of-props e p same clean a made = notes-are e clean a (subst (λ q. AreMade e q a) same made)

@@ -1,2 +1,4 @@
+pub mod Groups
 pub mod Notes
+pub mod Seen
 pub mod Standing

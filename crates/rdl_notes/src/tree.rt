@@ -4,6 +4,7 @@ ghost use Rattle.std.specs.Prelude.{◌≡◌, ℕ, IfOk, List, Option};
 ghost use Rattle.rdl_values.specs.Elaboration.{Elaborates, IsClean};
 ghost use Rattle.rdl_notes.specs.Notes as spec;
 
+use crate::groups::groups_of;
 use crate::list::{notes_of_kind, view_notes};
 use crate::note::note_at;
 use block_effects::Notes;
@@ -30,11 +31,13 @@ pub fn notes_of<'a>(
     let regs = notes_of_kind(alloc, props, &rows, Kind::Reg)?;
     let views = view_notes(alloc, props, &rows)?;
     let signals = notes_of_kind(alloc, props, &rows, Kind::Signal)?;
+    let groups = groups_of(alloc, props, elab, &rows)?;
     let top = note_at(props, elab.top.id);
     Ok(Notes {
         top,
         regs,
         views,
         signals,
+        groups,
     })
 }

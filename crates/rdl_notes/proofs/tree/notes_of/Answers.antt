@@ -9,5 +9,5 @@ pub returns : goal.returns
 returns c = λ wanted h.
     let e = c.args.elab.now in
     notes-of-props e c.args.props.now c.requires.props c.requires.clean _
-    (record { top_ = c.note_at-top.ensures; regs_ = c.in_ok-regs.ensures; views_ = c.in_ok-views.ensures; signals_ = c.in_ok-signals.ensures })
+    (record { top_ = c.note_at-top.ensures; regs_ = c.in_ok-regs.ensures; views_ = c.in_ok-views.ensures; signals_ = c.in_ok-signals.ensures; groups_ = c.in_ok-groups.ensures })
     wanted (c.name_decides_the_top.ensures.top wanted e.source.now e h)
