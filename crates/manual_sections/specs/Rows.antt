@@ -1,5 +1,5 @@
 -- What the page says of the fields of a word: one row of a table for each part.
-use Rattle.std.specs.Prelude.{ℕ, ◌+◌, ◌-◌, ◌==◌, Bool, true, false, ◌&&◌, cond, get_or, nat_le, nat_lt, List, [], ◌∷◌, ◌++◌, codes, decimal, flat_map, map, Option, None, Some, slice_get}
+use Rattle.std.specs.Prelude.{ℕ, ◌+◌, ◌-◌, Bool, ◌&&◌, cond, get_or, nat_le, nat_lt, List, [], ◌++◌, codes, decimal, flat_map, map, Option, None, Some, slice_get}
 use Rattle.std.specs.List.{enumerate_from}
 use Rattle.rb_model.specs.declared.block.Block.{Block}
 use Rattle.rb_model.specs.declared.block.Field.{Field}
