@@ -1,12 +1,12 @@
 -- Bodies one after the other.
-use Rattle.std.proofs.Common.{◌≡◌, ◌∙◌, ℕ, zero, suc, ◌+◌, ◌<◌, ◌≤◌, ◌⊎◌, inl, inr, List, [], ◌∷◌, ◌++◌, drop, get_or, length, Option, None, Some, option_map, slice_get, refl, sym, ap, subst, arith}
+use Rattle.std.proofs.Common.{◌≡◌, ◌∙◌, ℕ, zero, suc, ◌+◌, ◌<◌, ◌≤◌, ◌⊎◌, inl, inr, List, [], ◌∷◌, ◌++◌, drop, get_or, length, None, Some, option_map, slice_get, refl, sym, ap, subst, arith}
 use Rattle.std.proofs.lemmas.List.{drop_more}
 use Rattle.std.specs.Option.{option_or}
 use Rattle.plain_lemmas.proofs.Lists.{get-end as get-last, get-front, get-within, length-append, none-beyond as get-past}
 use Rattle.plain_lemmas.proofs.Numbers.{below_next-swapped as either}
 use Rattle.rdl_tree.specs.declared.expr.Name.{Name}
 use Rattle.rdl_values.specs.Seen.{around_of}
-use Rattle.rdl_values.specs.Values.{Around, EnumOf, Names, visible_enum}
+use Rattle.rdl_values.specs.Values.{Around, Names, visible_enum}
 use Rattle.rdl_values.specs.Visible.{enum_before}
 use Rattle.rdl_bodies.specs.Sited.{HaveEnvs}
 use Rattle.rdl_bodies.specs.declared.bodies.Bodies.{Bodies}

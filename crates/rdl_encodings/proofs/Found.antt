@@ -1,5 +1,5 @@
 -- What a name means among the enumerations of a body.
-use Rattle.std.proofs.Common.{◌≡◌, ◌∙◌, ℕ, Bool, true, false, ◌&&◌, cond, List, [], ◌∷◌, filter, find, map, nat_lt, bytes_eq, Option, None, Some, option_map, refl, ap, sym}
+use Rattle.std.proofs.Common.{◌≡◌, ◌∙◌, ℕ, Bool, true, false, ◌&&◌, cond, List, [], ◌∷◌, filter, find, map, nat_lt, bytes_eq, Option, Some, option_map, refl, ap, sym}
 use Rattle.std.specs.Cmp.Lexicographic.{bytes_decides}
 use Rattle.rdl_tree.specs.declared.expr.Name.{Name}
 use Rattle.rdl_tree.specs.declared.value.EntryValue.{EntryValue}

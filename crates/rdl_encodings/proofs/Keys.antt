@@ -1,5 +1,5 @@
 -- Enumerations under keys.
-use Rattle.std.proofs.Common.{◌≡◌, ◌∙◌, ℕ, ◌+◌, Bool, true, false, ◌&&◌, cond, nat_eq, bytes_eq, List, [], ◌∷◌, ◌++◌, length, map, Option, None, Some, refl, sym, ap, subst, arith}
+use Rattle.std.proofs.Common.{◌≡◌, ◌∙◌, ℕ, ◌+◌, Bool, true, false, ◌&&◌, cond, nat_eq, bytes_eq, List, [], ◌∷◌, ◌++◌, length, Option, None, Some, refl, sym, ap, subst, arith}
 use Rattle.std.specs.Borrow.{Bor}
 use Rattle.std.specs.BTreeMap.{get, is_at}
 use Rattle.std.specs.Cmp.{tied_then, unsigned_tied}
@@ -9,11 +9,10 @@ use Rattle.std.specs.Option.{option_or}
 use Rattle.std.specs.Ordering.{is_eq, nat_cmp}
 use Rattle.std.proofs.lemmas.List.{length-map, map-append}
 use Rattle.std.proofs.lemmas.Map.Text.{is_eq-slice_cmp}
-use Rattle.encodings.specs.Encodings.{Enumeration}
 use Rattle.rdl_values.specs.Table.{entries_by}
 use Rattle.rdl_values.specs.Values.{EnumOf}
 use Rattle.rdl_encodings.specs.Keyed.{AreDistinct, entry_cmp, enum_of_key, is_key_of, key_cmp}
-use Rattle.rdl_encodings.specs.Same.{number_in, same_entries, same_enum, shown, with_one}
+use Rattle.rdl_encodings.specs.Same.{number_in, same_entries, shown, with_one}
 use Rattle.rdl_encodings.specs.declared.distinct.Distinct.{Distinct}
 use Rattle.rdl_encodings.specs.declared.distinct.EnumKey.{EnumKey}
 use Rattle.rdl_encodings.proofs.Same.{absent, at-end, one-enum, position-push, there}

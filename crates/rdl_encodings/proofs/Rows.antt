@@ -1,12 +1,13 @@
 -- The nodes of rows, and the fields that a block has of them.
-use Rattle.std.proofs.Common.{◌≡◌, ◌∙◌, ℕ, zero, suc, ◌+◌, ◌<◌, ◌≤◌, Bool, true, false, not, ◌&&◌, cond, List, [], ◌∷◌, ◌++◌, append-nil, append_assoc, filter, flat_map, take, length, get_or, Option, None, Some, is_some, slice_get, refl, sym, ap, subst, arith}
+use Rattle.std.proofs.Common.{◌≡◌, ◌∙◌, ℕ, ◌+◌, ◌<◌, Bool, true, false, not, ◌&&◌, cond, List, [], ◌∷◌, ◌++◌, append-nil, filter, flat_map, take, length, get_or, Option, None, Some, is_some, slice_get, refl, sym, ap, subst}
 use Rattle.std.proofs.lemmas.Grind.{flat_map-append}
-use Rattle.std.proofs.lemmas.List.{take_all, take_more}
+use Rattle.std.proofs.lemmas.List.{take_more}
+use Rattle.rdl_tree.specs.Kinds.{same_kind}
+use Rattle.rdl_tree.specs.declared.item.Kind.{Kind}
 use Rattle.rdl_tree.specs.declared.item.Kind.TheVariants as kind
 use Rattle.rdl_tree.specs.declared.node.Elab.{Elab}
 use Rattle.rdl_tree.specs.declared.node.Node.{Node, out-Node}
 use Rattle.rdl_values.specs.Elaborated.{nodes_of}
-use Rattle.rdl_values.specs.Elaboration.{IsClean}
 use Rattle.rdl_values.specs.Instances.{Instance, children, kind_of}
 use Rattle.rdl_values.specs.Lineages.{Lineage, child_of, lineages_of}
 use Rattle.rdl_nodes.specs.declared.table.Row.{Row}
@@ -14,7 +15,7 @@ use Rattle.rdl_nodes.specs.Rows.{AreRows, IsRow}
 use Rattle.rdl_nodes.proofs.Members.{get-read, get-within}
 use Rattle.rdl_layers.specs.Fields.{fields_of, is_a, is_alias}
 use Rattle.rdl_rules.specs.Numbers.{all_fields}
-use Rattle.rdl_sizes.proofs.Facts.{count-is, node-at, row-at}
+use Rattle.rdl_sizes.proofs.Facts.{node-at, row-at}
 use Rattle.rdl_sizes.proofs.Turns.{inside-at, read-at}
 use Rattle.rdl_fields.specs.Primary.{TellsPrimary}
 use Rattle.rdl_encodings.specs.Standing.{IsRowOf, is_primary, own_fields}
@@ -74,3 +75,15 @@ all-own (n ∷ ns) = go (is_a kind.Reg n) (all-own ns)
         → cond (r && not (is_alias n)) (fields_of n) [] ++ flat_map own_fields ns ≡ flat_map fields_of (filter (λ r. not (is_alias r)) (cond r (n ∷ filter (is_a kind.Reg) ns) (filter (is_a kind.Reg) ns)))
     go false h = h
     go true h = ap (λ xs. cond (not (is_alias n)) (fields_of n) [] ++ xs) h ∙ first (is_alias n)
+
+-- a kind is compared from either side
+pub kind-turned : (k : Kind) → same_kind k kind.Field ≡ same_kind kind.Field k
+kind-turned kind.Addrmap = refl
+kind-turned kind.Regfile = refl
+kind-turned kind.Reg = refl
+kind-turned kind.Field = refl
+kind-turned kind.Signal = refl
+
+pub negated : (b : Bool) → false ≡ not b → b ≡ true
+negated true e = refl
+negated false e = cc e

@@ -1,5 +1,5 @@
 -- Which enumerations the fields of a block are encoded by (SystemRDL 2.0, 9.10).
-use Rattle.std.specs.Prelude.{ℕ, Bool, not, List, [], ◌∷◌, length, filter, flat_map, map, Option, None, option_and_then, option_to_list}
+use Rattle.std.specs.Prelude.{ℕ, Bool, not, List, length, filter, flat_map, map, Option, None, option_and_then, option_to_list}
 use Rattle.std.specs.List.{list_any}
 use Rattle.encodings.specs.Encodings.{Enumerations}
 use Rattle.rdl_tree.specs.declared.item.Source.{Source}

@@ -18,7 +18,7 @@ ghost use Rattle.rdl_encodings.specs.Numbered.{AreNumbered};
 ghost use Rattle.rdl_encodings.specs.Standing.{IsRowOf, IsScene, own_fields};
 
 use crate::enums::Enums;
-use crate::meant::{enums_for, meant};
+use crate::meant::{enum_of, enums_for};
 use crate::numbering::Numbering;
 use encodings::Encodings;
 use rb_base::NoMemory;
@@ -47,8 +47,9 @@ fn add_field<'a>(
     let Some(list) = entries.get(node.id as usize) else {
         return Ok(());
     };
-    let at = meant(tree, enums, list);
-    numbering.add(alloc, enums, &at)
+    let at = enum_of(tree, enums, list);
+    numbering.add(alloc, enums, &at)?;
+    Ok(())
 }
 
 // Puts in the fields of a node, where it is a register that is no alias.

@@ -65,11 +65,11 @@ pub(crate) fn enums_for<'a>(
 ) -> Result<Enums<'a>, NoMemory>
     ensures { IfOk result (λ t. Serves t tree.now entries.now) }
 {
-    if some_name(entries) {
-        Enums::of(alloc, &tree.walk.bodies)
-    } else {
-        Ok(Enums::none(alloc))
+    if !some_name(entries) {
+        return Ok(Enums::none(alloc));
     }
+    let enums = Enums::of(alloc, &tree.walk.bodies)?;
+    Ok(enums)
 }
 
 // The enumeration that a name means in the bodies round the text of a setting.
@@ -95,7 +95,7 @@ fn meant_from<'a>(
 }
 
 /// The enumeration by which a field is encoded, from what decides the field's properties.
-pub(crate) fn meant<'a>(
+pub(crate) fn enum_of<'a>(
     tree: &OpenTree<'a>,
     enums: &Enums<'a>,
     entries: &[PropSetting<'a>],

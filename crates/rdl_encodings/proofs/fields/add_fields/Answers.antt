@@ -4,7 +4,7 @@ use Rattle.rdl_tree.specs.declared.node.Node.{out-Node}
 use Rattle.rdl_tree.specs.Kinds.{same_kind}
 use Rattle.rdl_values.specs.Instances.{children}
 use Rattle.rdl_values.specs.Lineages.{lineages_of}
-use Rattle.rdl_layers.specs.Fields.{fields_of, is_a, is_alias}
+use Rattle.rdl_layers.specs.Fields.{is_a, is_alias}
 use Rattle.rdl_sizes.proofs.Turns.{as-many}
 use Rattle.rdl_fields.proofs.Lists.{filter-all, filter-next}
 use Rattle.rdl_encodings.specs.Numbered.{AreNumbered}

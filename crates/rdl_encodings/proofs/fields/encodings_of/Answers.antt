@@ -1,11 +1,6 @@
-use Rattle.std.proofs.Common.{◌≡◌, ◌∙◌, ◌+◌, ap, arith, flat_map, length, subst, sym, take}
+use Rattle.std.proofs.Common.{◌≡◌, ◌∙◌, ap, arith, flat_map, subst, sym, take}
 use Rattle.std.proofs.lemmas.List.{take_all}
-use Rattle.rdl_tree.specs.declared.node.Elab.{Elab}
 use Rattle.rdl_values.specs.Elaborated.{nodes_of}
-use Rattle.rdl_values.specs.Elaboration.{IsClean}
-use Rattle.rdl_nodes.specs.Rows.{AreRows}
-use Rattle.rdl_open_bodies.specs.Spots.{IsOpenTree}
-use Rattle.rdl_facts.specs.Told.{AreTold}
 use Rattle.rdl_rules.specs.Numbers.{all_fields}
 use Rattle.rdl_sizes.proofs.Facts.{count-is, nodes-many, rows-many}
 use Rattle.rdl_encodings.specs.Numbered.{AreNumbered}
@@ -15,7 +10,7 @@ use Rattle.rdl_encodings.proofs.Rows.{all-own, flat-next, row-of}
 use Rattle.rdl_encodings.proofs.fields.encodings_of.Goals as goal
 
 pub loop-row-init : goal.loop-row-init
-loop-row-init c = λ e clean rows open_ told. c.new.ensures c.in_ok-enums.enums
+loop-row-init c = λ e clean rows open_ told. c.new-numbering.ensures c.in_ok-enums.enums
 
 pub loop-row-preserved : goal.loop-row-preserved
 loop-row-preserved c = λ e clean rows open_ told.

@@ -1,9 +1,9 @@
-use Rattle.std.proofs.Common.{◌≡◌, ◌∙◌, true, false, arith, ap, subst, sym}
+use Rattle.std.proofs.Common.{◌≡◌, ◌∙◌, true, false, arith, ap, sym}
 use Rattle.rdl_sizes.proofs.Turns.{read-at}
 use Rattle.rdl_props.specs.declared.prop.Prop.TheVariants as prop
-use Rattle.rdl_layers.specs.Tables.{entries_at, setting_in}
+use Rattle.rdl_layers.specs.Tables.{setting_in}
 use Rattle.rdl_encodings.specs.Meant.{names_enum}
-use Rattle.rdl_encodings.proofs.Settings.{NameNone, name_none_all, name_none_more}
+use Rattle.rdl_encodings.proofs.Settings.{name_none_all, name_none_more}
 use Rattle.rdl_encodings.proofs.meant.some_name.Goals as goal
 
 pub loop-list-init : goal.loop-list-init

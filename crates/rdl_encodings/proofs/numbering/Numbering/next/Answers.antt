@@ -1,4 +1,4 @@
-use Rattle.std.proofs.Common.{◌∙◌, ap, option_map, refl, sym}
+use Rattle.std.proofs.Common.{◌∙◌, ap, option_map, refl}
 use Rattle.rdl_encodings.specs.Meant.{enum_meant}
 use Rattle.rdl_encodings.proofs.Pushing.{next_none, next_some}
 use Rattle.rdl_encodings.proofs.numbering.Numbering.next.Goals as goal
