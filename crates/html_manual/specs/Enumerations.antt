@@ -1,5 +1,5 @@
 -- The section of enumerations: a table of each, to which the fields that are encoded by it link.
-use Rattle.std.specs.Prelude.{ℕ, List, [], ◌∷◌, ◌++◌, codes, decimal, flat_map}
+use Rattle.std.specs.Prelude.{ℕ, cond, nat_lt, List, [], ◌++◌, codes, decimal, flat_map, length}
 use Rattle.std.specs.List.{enumerate_from}
 use Rattle.encodings.specs.Encodings.{Enumeration}
 use Rattle.html_text.specs.Tags.{code, hex}
@@ -32,9 +32,5 @@ abbrev pub enumeration_sections : Sight → List Enumeration → List ℕ
 enumeration_sections s es = codes "<h2>Enumerations</h2>\n" ++ flat_map (enumeration_section s) (enumerate_from 0 es)
 
 -- nothing where there is none
-abbrev pub some_enumerations : Sight → List Enumeration → List ℕ
-some_enumerations s [] = []
-some_enumerations s (e ∷ es) = enumeration_sections s (e ∷ es)
-
 abbrev pub enumerations : Sight → List ℕ
-enumerations s = some_enumerations s s.encodings.list
+enumerations s = cond (nat_lt 0 (length s.encodings.list)) (enumeration_sections s s.encodings.list) []

@@ -1,6 +1,6 @@
 //! The section of enumerations.
 
-ghost use Rattle.std.specs.Prelude.{◌≡◌, ◌<◌, Some, flat_map, length, slice_get};
+ghost use Rattle.std.specs.Prelude.{◌≡◌, ◌<◌, Some, flat_map, length, nat_lt, slice_get};
 ghost use Rattle.std.specs.List.{enumerate_from};
 ghost use Rattle.html_manual.specs.Enumerations as spec;
 ghost use Rattle.html_text.specs.Tags as tags;
@@ -92,6 +92,18 @@ fn put_users<K: Sink>(pen: &mut Pen, out: &mut K, sight: &Sight<'_>, field: u32)
     put(pen, out, b" and of each field that links here</p>\n");
 }
 
+fn put_name<K: Sink>(pen: &mut Pen, out: &mut K, number: usize, encoding: &Encoding<'_>)
+    ensures { Writes (at (K.told out.old) (K.faults out.old) pen.old) (at (K.told out.new) (K.faults out.new) pen.new) (spec.heading number encoding.now.name) }
+{
+    put_heading(pen, out, number, encoding.name);
+}
+
+fn put_first_user<K: Sink>(pen: &mut Pen, out: &mut K, sight: &Sight<'_>, encoding: &Encoding<'_>)
+    ensures { Writes (at (K.told out.old) (K.faults out.old) pen.old) (at (K.told out.new) (K.faults out.new) pen.new) (spec.users_line sight.now encoding.now.field) }
+{
+    put_users(pen, out, sight, encoding.field);
+}
+
 fn put_enumeration<K: Sink>(
     pen: &mut Pen,
     out: &mut K,
@@ -101,8 +113,8 @@ fn put_enumeration<K: Sink>(
 )
     ensures { Writes (at (K.told out.old) (K.faults out.old) pen.old) (at (K.told out.new) (K.faults out.new) pen.new) (spec.enumeration_section sight.now (number, encoding.now)) }
 {
-    put_heading(pen, out, number, encoding.name);
-    put_users(pen, out, sight, encoding.field);
+    put_name(pen, out, number, encoding);
+    put_first_user(pen, out, sight, encoding);
     put_values(pen, out, encoding);
     put(pen, out, b"</section>\n");
 }
@@ -122,19 +134,26 @@ fn put_sections<K: Sink>(pen: &mut Pen, out: &mut K, sight: &Sight<'_>, list: &[
     put_each(pen, out, sight, list);
 }
 
-#[tactic(auto, using(html_text::proofs::Wrote::nothing))]
-fn put_some<K: Sink>(pen: &mut Pen, out: &mut K, sight: &Sight<'_>, list: &[Encoding<'_>])
-    ensures { Writes (at (K.told out.old) (K.faults out.old) pen.old) (at (K.told out.new) (K.faults out.new) pen.new) (spec.some_enumerations sight.now list.now) }
+fn put_all<K: Sink>(pen: &mut Pen, out: &mut K, sight: &Sight<'_>)
+    ensures { Writes (at (K.told out.old) (K.faults out.old) pen.old) (at (K.told out.new) (K.faults out.new) pen.new) (spec.enumeration_sections sight.now sight.now.encodings.list) }
 {
-    if !list.is_empty() {
-        put_sections(pen, out, sight, list);
-    }
+    let encodings = sight.encodings;
+    put_sections(pen, out, sight, &encodings.list);
+}
+
+fn has_enumerations(sight: &Sight<'_>) -> bool
+    ensures { result ≡ nat_lt 0 (length sight.now.encodings.list) }
+{
+    let encodings = sight.encodings;
+    !encodings.list.is_empty()
 }
 
 /// Writes the section of enumerations, if there are any.
+#[tactic(auto, using(html_text::proofs::Wrote::nothing))]
 pub(crate) fn put_enumerations<K: Sink>(pen: &mut Pen, out: &mut K, sight: &Sight<'_>)
     ensures { Writes (at (K.told out.old) (K.faults out.old) pen.old) (at (K.told out.new) (K.faults out.new) pen.new) (spec.enumerations sight.now) }
 {
-    let encodings = sight.encodings;
-    put_some(pen, out, sight, &encodings.list);
+    if has_enumerations(sight) {
+        put_all(pen, out, sight);
+    }
 }
