@@ -9,8 +9,8 @@ use Rattle.replies.proofs.heading.header_source.Goals as goal
 pub header_of_judged-requires : goal.header_of_judged-requires
 header_of_judged-requires c = (option_copied c.args.top, (c.args.source.now, c.in-Ok.ensures))
 
-pub returns-in_ok-text-in-Ok : goal.returns-in_ok-text-in-Ok
-returns-in_ok-text-in-Ok c =
+pub returns-in-Ok : goal.returns-in-Ok
+returns-in-Ok c =
     let j = c.in-Ok.judged in
     let top = option_copied c.args.top in
     let source = c.args.source.now in
@@ -20,8 +20,8 @@ returns-in_ok-text-in-Ok c =
     Judges-headed top c.args.file.now source c.done.result.status (texts_of c.done.result) c.done.ensures.status
     (record { tree = j.elab.source.now; block = j.block; described = described; text = text; quiet = c.done.ensures.err })
 
-pub returns-in_ok-answer-in-Err-Faults : goal.returns-in_ok-answer-in-Err-Faults
-returns-in_ok-answer-in-Err-Faults c =
+pub returns-in-Err-Faults : goal.returns-in-Err-Faults
+returns-in-Err-Faults c =
     let answer = c.in_ok-answer-in-Err-Faults.answer in
     let told = c.in_ok-answer-in-Err-Faults.ensures in
     let top = option_copied c.args.top in
