@@ -17,6 +17,7 @@ use html_manual::{Manual, prepare};
 use rb_base::NoMemory;
 use rb_edge::Shelf;
 use rdl_notes::notes_of;
+use rdl_rules::Settled;
 use rdl_verdict::{JudgeError, Judged, judge};
 use std::alloc::Global;
 
@@ -26,8 +27,18 @@ fn manual_of_judged<'a>(alloc: Global, judged: Judged<'a>) -> Result<Manual<'a>,
     ensures { IfOk result (λ m. (wanted : Option (List ℕ)) (text : List ℕ) → IsJudged wanted text judged.entry
         → text_of m ≡ page judged.entry.block (all_notes wanted judged.entry.elab.source.now) (source_encodings wanted judged.entry.elab.source.now)) }
 {
-    let notes = notes_of(alloc, &judged.settled.props, &judged.elab)?;
-    let manual = prepare(alloc, judged.block, notes, judged.settled.encodings)?;
+    let Judged {
+        elab,
+        settled,
+        block,
+    } = judged;
+    let Settled {
+        props,
+        facts: _facts,
+        encodings,
+    } = settled;
+    let notes = notes_of(alloc, &props, &elab)?;
+    let manual = prepare(alloc, block, notes, encodings)?;
     Ok(manual)
 }
 
