@@ -29,7 +29,7 @@ int firmware(void) {
     for (index = 0; index < UART_BAUD_COUNT; index++) want("baud under reset", bus_read(UART_BAUD_OFFSET(index), &error), UART_BAUD_RESVAL);
 
     /* Each write moves one field and leaves the others. */
-    bus_write(UART_CTRL_OFFSET, PUT(bus_read(UART_CTRL_OFFSET, &error), UART_CTRL_PARITY, 2));
+    bus_write(UART_CTRL_OFFSET, PUT(bus_read(UART_CTRL_OFFSET, &error), UART_CTRL_PARITY, UART_PARITY_T_ODD_VALUE));
     want("parity", pin("parity"), 2);
     want("stop2 beside it", pin("stop2"), 0);
     want("loopback beside it", pin("loopback"), 0);
@@ -37,7 +37,7 @@ int firmware(void) {
     want("loopback", pin("loopback"), 1);
     want("parity beside it", pin("parity"), 2);
     ctrl = bus_read(UART_CTRL_OFFSET, &error);
-    want("parity as it is read", GET(ctrl, UART_CTRL_PARITY), 2);
+    want("parity as it is read", GET(ctrl, UART_CTRL_PARITY), UART_PARITY_T_ODD_VALUE);
     want("loopback as it is read", GET(ctrl, UART_CTRL_LOOPBACK), 1);
 
     /* The second element of an array. */
