@@ -1,23 +1,21 @@
 -- The two engines of a simulation.
-use Rattle.std.specs.Prelude.{IfOk, IfSome}
-use Rattle.std.proofs.Common.{◌≡◌, ℕ, List, length, map, ap, sym, subst, ◌∙◌, Option, Some, None, Result, Ok, Err, Vec, Global}
-use Rattle.rb_base.specs.declared.ports.Pin.{Pin}
+use Rattle.std.proofs.Common.{◌≡◌, ℕ, ◌+◌, List, ◌++◌, length, ap, sym, subst, ◌∙◌, length-append, append_assoc, arith}
 use Rattle.v_design.specs.Expr.{Values}
 use Rattle.v_design.specs.Design.{Module, inputs, outputs, registers}
 use Rattle.v_design.specs.Run.{values_at}
 use Rattle.v_design.specs.Fits.{FitsPins}
-use Rattle.cyc_sim.specs.declared.operation.Operation.{Operation}
 use Rattle.cyc_sim.specs.declared.program.Program.{Program}
-use Rattle.cyc_sim.specs.declared.narrow_sim.NarrowProgram.{NarrowProgram}
+use Rattle.cyc_sim.specs.declared.narrow_program.NarrowProgram.{NarrowProgram}
 use Rattle.cyc_sim.specs.declared.narrow_sim.NarrowSim.{NarrowSim}
 use Rattle.cyc_sim.specs.declared.sim.WideSim.{WideSim}
 use Rattle.cyc_sim.specs.declared.sim.Engine.{Engine}
 use Rattle.cyc_sim.specs.declared.sim.Engine.TheVariants.{Wide, Narrow}
 use Rattle.cyc_sim.specs.declared.sim.Sim.{Sim}
-use Rattle.cyc_sim.specs.declared.narrow.NarrowOperation.{NarrowOperation}
-use Rattle.cyc_sim.specs.Narrow.{AreNarrow, low_all, wide_of}
-use Rattle.cyc_sim.specs.Narrowed.{IsNarrowed}
-use Rattle.cyc_sim.specs.Simulation.{EdgesBy, IsEngineOf, IsNarrowOf, IsProgramOf, IsSimOf, IsWideOf, StepsTo, held, held_in, held_narrow, held_wide, inputs_in, outputs_in}
+use Rattle.cyc_sim.specs.Narrow.{AreNarrow, IsNarrowModule, low_all, narrow_after}
+use Rattle.cyc_sim.specs.Narrowed.{Narrows}
+use Rattle.cyc_sim.specs.Operations.{values_in}
+use Rattle.cyc_sim.specs.Simulation.{IsEngineOf, IsNarrowOf, IsNarrowProgramOf, IsProgramOf, IsSimOf, IsWideOf, StepsTo, constants_in, held, held_in, held_narrow, held_wide, inputs_in, narrow_values, next_of, outputs_in, outputs_of}
+use Rattle.cyc_sim.proofs.Stepping.{steps_as}
 use Rattle.cyc_sim.proofs.Lows.{lows_same}
 use Rattle.cyc_sim.proofs.Facts.{fits_length}
 
@@ -32,9 +30,6 @@ engine_gives m (Narrow s) h = h.gives
 pub sim_of : (m : Module) (s : Sim) → IsEngineOf m s.engine → IsSimOf m s
 sim_of m s h = record { takes = engine_takes m s.engine h; gives = engine_gives m s.engine h; engine = h }
 
-edges_as : (m : Module) (os os' : List Operation) (outs outs' nexts nexts' : List ℕ) → os' ≡ os → outs' ≡ outs → nexts' ≡ nexts → EdgesBy m os outs nexts → EdgesBy m os' outs' nexts'
-edges_as m os os' outs outs' nexts nexts' p q r h = rw (p, q, r) h
-
 -- a wide simulation of a module's program
 pub wide_of_program : (m : Module) (p : Program) (s : WideSim) (start : List ℕ) → IsProgramOf m p → s.program ≡ p → held_wide s ≡ start → FitsPins (registers m) start → IsWideOf m s
 wide_of_program m p s start h same is fits =
@@ -48,16 +43,28 @@ narrow_held m s start is narrow fits = is ∙ lows_same (registers m) start narr
 pub start_length : (m : Module) (p : Program) (start : List ℕ) → IsProgramOf m p → FitsPins (registers m) start → length start ≡ length p.registers.items
 start_length m p start h fits = fits_length (registers m) start fits ∙ sym h.keeps
 
-pub narrow_of_program : (m : Module) (p : Program) (q : NarrowProgram) (s : NarrowSim) (start : List ℕ) → IsProgramOf m p → q.inputs ≡ p.inputs → map wide_of q.operations.items ≡ p.operations.items
-    → q.outputs.items ≡ p.outputs.items → q.registers.items ≡ p.registers.items → s.program ≡ q → held_narrow s ≡ low_all start → AreNarrow (inputs m) → AreNarrow (registers m) → FitsPins (registers m) start → IsNarrowOf m s
-narrow_of_program m p q s start h ins ops outs regs same is pins contents fits = record {
-  takes = ap (λ x. x.inputs) same ∙ (ins ∙ h.takes);
-  gives = ap (λ x. length x.outputs.items) same ∙ (ap length outs ∙ h.gives);
-  edges = edges_as m p.operations.items _ p.outputs.items _ p.registers.items _ (ap (λ x. map wide_of x.operations.items) same ∙ ops) (ap (λ x. x.outputs.items) same ∙ outs) (ap (λ x. x.registers.items) same ∙ regs) h.edges;
-  pins = pins;
-  contents = contents;
-  fits = subst (FitsPins (registers m)) (sym (narrow_held m s start is contents fits)) fits;
+pub narrow_start_length : (m : Module) (q : NarrowProgram) (start : List ℕ) → IsNarrowProgramOf m q → FitsPins (registers m) start → length start ≡ length q.registers.items
+narrow_start_length m q start h fits = fits_length (registers m) start fits ∙ sym h.keeps
+
+-- a narrow program that gives what a module's program gives
+pub narrow_program_of : (m : Module) (p : Program) (q : NarrowProgram) → IsProgramOf m p → IsNarrowModule m → Narrows p q → IsNarrowProgramOf m q
+narrow_program_of m p q h narrow n = record {
+  takes = n.inputs ∙ h.takes;
+  gives = n.outputs ∙ h.gives;
+  keeps = n.registers ∙ h.keeps;
+  edges = λ pins numbers contents fit fits kept.
+      let long : length (pins ++ numbers) ≡ p.inputs + length p.registers.items = omega (arith, length-append pins numbers, fits_length (inputs m) pins fit, fits_length (registers m) numbers fits, h.takes, h.keeps) in
+      let same : narrow_values q pins numbers ≡ narrow_after q.operations.items ((pins ++ numbers) ++ q.constants.items) = ap (narrow_after q.operations.items) (sym (append_assoc pins numbers q.constants.items)) in
+      steps_as m contents pins (outputs_of p pins numbers) _ (next_of p pins numbers) _ (ap (λ vs. values_in vs q.outputs.items) same ∙ n.outs (pins ++ numbers) long) (ap (λ vs. values_in vs q.registers.items) same ∙ n.nexts (pins ++ numbers) long)
+      (h.edges pins numbers contents fit fits kept);
+  narrow = narrow;
+  runs = n.runs;
 }
+
+pub narrow_of_program : (m : Module) (q : NarrowProgram) (s : NarrowSim) (start : List ℕ) → IsNarrowProgramOf m q → s.program ≡ q → held_narrow s ≡ low_all start → constants_in s ≡ q.constants.items → FitsPins (registers m) start → IsNarrowOf m s
+narrow_of_program m q s start h same is constants fits =
+    let k : IsNarrowProgramOf m s.program = subst (IsNarrowProgramOf m) (sym same) h in
+    record { takes = k.takes; gives = k.gives; program = k; constants = constants ∙ ap (λ x. x.constants.items) (sym same); fits = subst (FitsPins (registers m)) (sym (narrow_held m s start is h.narrow.contents fits)) fits }
 
 -- a step by either engine
 pub wide_step : (m : Module) (old new : Sim) (a b : WideSim) (pins outs : List ℕ) (contents : Values) → old.engine ≡ Wide a → new.engine ≡ Wide b
@@ -81,10 +88,3 @@ narrow_step m old new a b pins outs contents is is' edge h fits kept =
       subst (λ x. StepsTo m contents pins outs (held_in x)) (sym is') s,
       sim_of m new (subst (IsEngineOf m) (sym is') n),
     )
-
--- the operations of a narrow module's program
-pub narrowed_as : {E : Type 0} (m : Module) (p : Program) (ops : List Operation) (ins regs : List Pin) (r : Result (Option (Vec NarrowOperation Global)) E) → ops ≡ p.operations.items → ins ≡ inputs m → regs ≡ registers m → AreNarrow ins → AreNarrow regs
-    → IfOk r (λ o. IfSome o (λ v. map wide_of v.items ≡ ops)) → IfOk r (λ o. IfSome o (λ v. IsNarrowed m p v.items))
-narrowed_as m p ops ins regs (Ok (Some v)) is same same' pins contents h = record { same = h ∙ is; pins = subst AreNarrow same pins; contents = subst AreNarrow same' contents }
-narrowed_as m p ops ins regs (Ok None) is same same' pins contents h = tt
-narrowed_as m p ops ins regs (Err e) is same same' pins contents h = tt

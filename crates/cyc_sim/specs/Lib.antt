@@ -1,8 +1,10 @@
 pub mod Accepted
+pub mod Arranged
 pub mod Compiled
 pub mod Narrow
 pub mod Narrowed
 pub mod Operations
 pub mod Order
 pub mod Preparing
+pub mod Runs
 pub mod Simulation

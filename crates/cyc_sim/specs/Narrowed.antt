@@ -1,12 +1,18 @@
 -- Programs whose values have at most 64 bits.
-use Rattle.std.specs.Prelude.{◌≡◌, List, map}
-use Rattle.v_design.specs.Design.{Module, inputs, registers}
-use Rattle.cyc_sim.specs.Narrow.{AreNarrow, wide_of}
-use Rattle.cyc_sim.specs.declared.narrow.NarrowOperation.{NarrowOperation}
+use Rattle.std.specs.Prelude.{◌≡◌, ℕ, ◌+◌, List, ◌++◌, length}
+use Rattle.cyc_sim.specs.Operations.{values_after, values_in}
+use Rattle.cyc_sim.specs.Narrow.{narrow_after}
+use Rattle.cyc_sim.specs.Runs.{AreRuns}
+use Rattle.cyc_sim.specs.declared.narrow_program.NarrowProgram.{NarrowProgram}
 use Rattle.cyc_sim.specs.declared.program.Program.{Program}
 
--- a program has these operations, and the pins and the contents of its module have at most 64 bits
-pub record IsNarrowed (m : Module) (p : Program) (operations : List NarrowOperation) : Type 0 where
-  pub same : map wide_of operations ≡ p.operations.items
-  pub pins : AreNarrow (inputs m)
-  pub contents : AreNarrow (registers m)
+-- from the same pins and contents a narrow program gives the same outputs and the same next contents
+pub record Narrows (p : Program) (q : NarrowProgram) : Type 0 where
+  pub inputs : q.inputs ≡ p.inputs
+  pub outputs : length q.outputs.items ≡ length p.outputs.items
+  pub registers : length q.registers.items ≡ length p.registers.items
+  pub runs : AreRuns q.operations.items q.runs.items
+  pub outs : (base : List ℕ) → length base ≡ p.inputs + length p.registers.items
+      → values_in (narrow_after q.operations.items (base ++ q.constants.items)) q.outputs.items ≡ values_in (values_after p.operations.items base) p.outputs.items
+  pub nexts : (base : List ℕ) → length base ≡ p.inputs + length p.registers.items
+      → values_in (narrow_after q.operations.items (base ++ q.constants.items)) q.registers.items ≡ values_in (values_after p.operations.items base) p.registers.items

@@ -1,13 +1,14 @@
 -- What a simulation does at an edge of the clock.
-use Rattle.std.specs.Prelude.{◌≡◌, ℕ, List, ◌++◌, length, map, take, drop}
+use Rattle.std.specs.Prelude.{◌≡◌, ℕ, ◌+◌, List, ◌++◌, length, take, drop}
 use Rattle.v_design.specs.Expr.{Values}
 use Rattle.v_design.specs.Design.{Module, inputs, outputs, registers}
 use Rattle.v_design.specs.Run.{Edge, values_at}
 use Rattle.v_design.specs.Fits.{FitsPins}
 use Rattle.cyc_sim.specs.Operations.{values_after, values_in}
 use Rattle.cyc_sim.specs.declared.program.Program.{Program}
-use Rattle.cyc_sim.specs.Narrow.{AreNarrow, wide_of}
-use Rattle.cyc_sim.specs.declared.operation.Operation.{Operation}
+use Rattle.cyc_sim.specs.Narrow.{IsNarrowModule, narrow_after}
+use Rattle.cyc_sim.specs.Runs.{AreRuns}
+use Rattle.cyc_sim.specs.declared.narrow_program.NarrowProgram.{NarrowProgram}
 use Rattle.cyc_sim.specs.declared.narrow_sim.NarrowSim.{NarrowSim}
 use Rattle.cyc_sim.specs.declared.sim.WideSim.{WideSim}
 use Rattle.cyc_sim.specs.declared.sim.Engine.{Engine}
@@ -30,11 +31,6 @@ pub record StepsTo (m : Module) (contents : Values) (pins outs moved : List ℕ)
   pub kept : values_at after (registers m) ≡ moved
   pub fits : FitsPins (registers m) moved
 
--- operations give what a module gives at an edge, whatever the pins and the contents are
-abbrev pub EdgesBy : Module → List Operation → List ℕ → List ℕ → Type 0
-EdgesBy m operations outs nexts = (pins numbers : List ℕ) (contents : Values) → FitsPins (inputs m) pins → FitsPins (registers m) numbers → values_at contents (registers m) ≡ numbers
-    → StepsTo m contents pins (values_in (values_after operations (pins ++ numbers)) outs) (values_in (values_after operations (pins ++ numbers)) nexts)
-
 -- a program is of a module: it gives what the module gives at an edge, whatever the pins and the contents are
 pub record IsProgramOf (m : Module) (p : Program) : Type 0 where
   pub takes : p.inputs ≡ length (inputs m)
@@ -43,12 +39,30 @@ pub record IsProgramOf (m : Module) (p : Program) : Type 0 where
   pub edges : (pins numbers : List ℕ) (contents : Values) → FitsPins (inputs m) pins → FitsPins (registers m) numbers → values_at contents (registers m) ≡ numbers
       → StepsTo m contents pins (outputs_of p pins numbers) (next_of p pins numbers)
 
+-- the values of all places of a narrow program, for pins and contents
+abbrev pub narrow_values : NarrowProgram → List ℕ → List ℕ → List ℕ
+narrow_values p pins contents = narrow_after p.operations.items (pins ++ (contents ++ p.constants.items))
+
+-- a narrow program is of a module, whose pins and contents have at most 64 bits
+pub record IsNarrowProgramOf (m : Module) (p : NarrowProgram) : Type 0 where
+  pub takes : p.inputs ≡ length (inputs m)
+  pub gives : length p.outputs.items ≡ length (outputs m)
+  pub keeps : length p.registers.items ≡ length (registers m)
+  pub edges : (pins numbers : List ℕ) (contents : Values) → FitsPins (inputs m) pins → FitsPins (registers m) numbers → values_at contents (registers m) ≡ numbers
+      → StepsTo m contents pins (values_in (narrow_values p pins numbers) p.outputs.items) (values_in (narrow_values p pins numbers) p.registers.items)
+  pub narrow : IsNarrowModule m
+  pub runs : AreRuns p.operations.items p.runs.items
+
 -- the contents of a simulation's registers, in order of declaration, by each of the two engines
 abbrev pub held_wide : WideSim → List ℕ
 held_wide s = take (length s.program.registers.items) (drop s.program.inputs s.values.items)
 
 abbrev pub held_narrow : NarrowSim → List ℕ
 held_narrow s = take (length s.program.registers.items) (drop s.program.inputs s.values.items)
+
+-- the values of the places of its constants
+abbrev pub constants_in : NarrowSim → List ℕ
+constants_in s = take (length s.program.constants.items) (drop (s.program.inputs + length s.program.registers.items) s.values.items)
 
 abbrev pub held_in : Engine → List ℕ
 held_in (Wide s) = held_wide s
@@ -83,9 +97,8 @@ pub record IsWideOf (m : Module) (s : WideSim) : Type 0 where
 pub record IsNarrowOf (m : Module) (s : NarrowSim) : Type 0 where
   pub takes : s.program.inputs ≡ length (inputs m)
   pub gives : length s.program.outputs.items ≡ length (outputs m)
-  pub edges : EdgesBy m (map wide_of s.program.operations.items) s.program.outputs.items s.program.registers.items
-  pub pins : AreNarrow (inputs m)
-  pub contents : AreNarrow (registers m)
+  pub program : IsNarrowProgramOf m s.program
+  pub constants : constants_in s ≡ s.program.constants.items
   pub fits : FitsPins (registers m) (held_narrow s)
 
 abbrev pub IsEngineOf : Module → Engine → Type 0

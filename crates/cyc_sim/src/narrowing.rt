@@ -1,147 +1,41 @@
-//! Whether a compiled module is one of at most 64 bits.
-ghost use Rattle.std.specs.Prelude.{◌≡◌, true, IfOk, IfSome, map};
+//! Programs over values of at most 64 bits.
+ghost use Rattle.std.specs.Prelude.{◌≡◌, IfOk};
 ghost use Rattle.std.specs.Bool.{OnTrue};
 ghost use Rattle.v_design.specs.Seen.{module_seen};
-ghost use Rattle.cyc_sim.specs.Narrow.{AreNarrow, wide_of};
-ghost use Rattle.cyc_sim.specs.Narrowed.{IsNarrowed};
-ghost use Rattle.cyc_sim.specs.declared.operation.Operation.TheVariants.{Two};
+ghost use Rattle.cyc_sim.specs.Narrow.{AreBelow, AreNarrow, IsBelow, IsNarrowModule};
 
-use crate::narrow::NarrowOperation;
+use crate::arrangement::Arrangement;
+use crate::fitting::{Unfit, bit_of, width_of};
+use crate::kinds::{guard_kind, one_kind, two_kind};
+use crate::narrow::{Kind, NarrowOperation};
 use crate::operation::Operation;
-use crate::program::Program;
 use crate::width::{Bit, Width};
-use rb_base::{NoMemory, Pin};
+use rb_base::Pin;
 use std::alloc::Global;
-use v_design::{Design, VTwo};
+use v_design::{Design, VOne, VTwo};
 
-/// A number of bits, if it is at most 64.
-fn width_of(bits: u8) -> Option<Width>
-    ensures { IfSome result (λ w. w.bits ≡ bits) }
+/// Whether an operation reads places below a limit alone.
+fn is_below(operation: &NarrowOperation, limit: usize) -> bool
+    ensures { OnTrue result (IsBelow limit operation.now) }
 {
-    if bits <= 64 {
-        Some(Width { bits })
-    } else {
-        None
-    }
+    (operation.first as usize) < limit
+        && (operation.second as usize) < limit
+        && (operation.third as usize) < limit
 }
 
-/// The number of a bit, if it is one of 64.
-fn bit_of(bits: u8) -> Option<Bit>
-    ensures { IfSome result (λ w. w.bits ≡ bits) }
+/// Whether each operation reads places before its own, where the first one's has this number.
+pub(crate) fn are_below(operations: &[NarrowOperation], first: usize) -> bool
+    ensures { OnTrue result (AreBelow first operations.now) }
 {
-    if bits < 64 { Some(Bit { bits }) } else { None }
-}
-
-/// A place, if it is below 2^32.
-fn place_of(place: usize) -> Option<u32>
-    ensures { IfSome result (λ p. p ≡ place) }
-{
-    if place < 1 << 32 {
-        Some(place as u32)
-    } else {
-        None
-    }
-}
-
-/// A number, if it has at most 64 bits.
-fn number_of(number: u128) -> Option<u64>
-    ensures { IfSome result (λ n. n ≡ number) }
-{
-    if number < 1 << 64 {
-        Some(number as u64)
-    } else {
-        None
-    }
-}
-
-/// An operator between two places, if it is narrow.
-fn two_of(op: VTwo, width: Width, left: u32, right: u32) -> NarrowOperation
-    ensures { wide_of result ≡ Two op width.bits left right }
-{
-    match op {
-        VTwo::Add => NarrowOperation::Add { width, left, right },
-        VTwo::And => NarrowOperation::And { width, left, right },
-        VTwo::Or => NarrowOperation::Or { width, left, right },
-        op => NarrowOperation::Two {
-            op,
-            width,
-            left,
-            right,
-        },
-    }
-}
-
-/// An operation that is the same over values of at most 64 bits, if there is one.
-fn narrow_of(operation: Operation) -> Option<NarrowOperation>
-    ensures { IfSome result (λ o. wide_of o ≡ operation) }
-{
-    match operation {
-        Operation::Constant(value) => Some(NarrowOperation::Constant(number_of(value)?)),
-        Operation::Part { from, low, width } => Some(NarrowOperation::Part {
-            from: place_of(from)?,
-            low: bit_of(low)?,
-            width: width_of(width)?,
-        }),
-        Operation::Join {
-            high,
-            low,
-            width,
-            total,
-        } => Some(NarrowOperation::Join {
-            high: place_of(high)?,
-            low: place_of(low)?,
-            width,
-            total: width_of(total)?,
-        }),
-        Operation::One { op, width, of } => Some(NarrowOperation::One {
-            op,
-            width: width_of(width)?,
-            of: place_of(of)?,
-        }),
-        Operation::Two {
-            op,
-            width,
-            left,
-            right,
-        } => Some(two_of(op, width_of(width)?, place_of(left)?, place_of(right)?)),
-        Operation::Pick {
-            test,
-            chosen,
-            other,
-        } => Some(NarrowOperation::Pick {
-            test: place_of(test)?,
-            chosen: place_of(chosen)?,
-            other: place_of(other)?,
-        }),
-        Operation::Guard {
-            pin,
-            low,
-            value,
-            next,
-        } => Some(NarrowOperation::Guard {
-            low,
-            pin: place_of(pin)?,
-            next: place_of(next)?,
-            value: number_of(value)?,
-        }),
-    }
-}
-
-/// The operations over values of at most 64 bits that are the same as these, if there are any.
-fn narrowed(
-    alloc: Global,
-    operations: &[Operation],
-) -> Result<Option<Vec<NarrowOperation>>, NoMemory>
-    ensures { IfOk result (λ o. IfSome o (λ v. map wide_of v.items ≡ operations.now)) }
-{
-    let mut all = Vec::new(alloc);
-    for operation in operations {
-        let Some(narrow) = narrow_of(*operation) else {
-            return Ok(None);
+    for (index, operation) in operations.iter().enumerate() {
+        let Some(limit) = first.checked_add(index) else {
+            return false;
         };
-        all.push(narrow)?;
+        if !is_below(operation, limit) {
+            return false;
+        }
     }
-    Ok(Some(all))
+    true
 }
 
 /// Whether no pin has more than 64 bits.
@@ -156,19 +50,183 @@ fn are_narrow(pins: &[Pin]) -> bool
     true
 }
 
-/// The operations of a module's program, where no value of it has more than 64 bits.
-pub(crate) fn narrow_operations(
-    alloc: Global,
-    design: &Design,
-    program: &Program,
-) -> Result<Option<Vec<NarrowOperation>>, NoMemory>
-    ensures { IfOk result (λ o. IfSome o (λ v. IsNarrowed (module_seen design.now) program.now v.items)) }
+/// Whether no pin and no register of a module has more than 64 bits.
+pub(crate) fn is_narrow(design: &Design) -> bool
+    ensures { OnTrue result (IsNarrowModule (module_seen design.now)) }
 {
-    if !are_narrow(design.inputs()) {
-        return Ok(None);
+    are_narrow(design.inputs()) && are_narrow(design.registers())
+}
+
+impl Arrangement {
+    ghost use Rattle.std.specs.Prelude.{◌≡◌, ℕ, ◌<◌, IfOk, slice_index};
+    ghost use Rattle.std.specs.List.{AllZip};
+    ghost use Rattle.cyc_sim.specs.Arranged.{Stands, StandsAt};
+    ghost use Rattle.cyc_sim.specs.declared.operation.Operation.TheVariants.{Part, Join, One, Two, Pick, Guard};
+
+    fn part(&self, from: usize, low: u8, width: u8) -> Result<NarrowOperation, Unfit>
+        ensures { IfOk result (Stands self.now (Part from low width)) }
+    {
+        let first = self.place(from)?;
+        let width = width_of(width)?;
+        let low = bit_of(low)?;
+        Ok(NarrowOperation {
+            first,
+            second: first,
+            third: first,
+            width,
+            low,
+            kind: Kind::Part,
+        })
     }
-    if !are_narrow(design.registers()) {
-        return Ok(None);
+
+    fn join(&self, high: usize, low: usize, width: u8, total: u8) -> Result<NarrowOperation, Unfit>
+        ensures { IfOk result (Stands self.now (Join high low width total)) }
+    {
+        let first = self.place(high)?;
+        let second = self.place(low)?;
+        let total = width_of(total)?;
+        let bits = bit_of(width)?;
+        Ok(NarrowOperation {
+            first,
+            second,
+            third: second,
+            width: total,
+            low: bits,
+            kind: Kind::Join,
+        })
     }
-    narrowed(alloc, &program.operations)
+
+    fn one(&self, op: VOne, width: u8, of: usize) -> Result<NarrowOperation, Unfit>
+        ensures { IfOk result (Stands self.now (One op width of)) }
+    {
+        let first = self.place(of)?;
+        let width = width_of(width)?;
+        Ok(NarrowOperation {
+            first,
+            second: first,
+            third: first,
+            width,
+            low: Bit { bits: 0 },
+            kind: one_kind(op),
+        })
+    }
+
+    fn two(&self, op: VTwo, width: u8, left: usize, right: usize) -> Result<NarrowOperation, Unfit>
+        ensures { IfOk result (Stands self.now (Two op width left right)) }
+    {
+        let first = self.place(left)?;
+        let second = self.place(right)?;
+        let width = width_of(width)?;
+        Ok(NarrowOperation {
+            first,
+            second,
+            third: second,
+            width,
+            low: Bit { bits: 0 },
+            kind: two_kind(op),
+        })
+    }
+
+    fn pick(&self, test: usize, chosen: usize, other: usize) -> Result<NarrowOperation, Unfit>
+        ensures { IfOk result (Stands self.now (Pick test chosen other)) }
+    {
+        let first = self.place(test)?;
+        let second = self.place(chosen)?;
+        let third = self.place(other)?;
+        Ok(NarrowOperation {
+            first,
+            second,
+            third,
+            width: Width { bits: 0 },
+            low: Bit { bits: 0 },
+            kind: Kind::Pick,
+        })
+    }
+
+    fn guard(
+        &self,
+        pin: usize,
+        low: bool,
+        value: u128,
+        next: usize,
+    ) -> Result<NarrowOperation, Unfit>
+        ensures { IfOk result (Stands self.now (Guard pin low value next)) }
+    {
+        let first = self.place(pin)?;
+        let second = self.place(next)?;
+        let third = self.constant(value)?;
+        Ok(NarrowOperation {
+            first,
+            second,
+            third,
+            width: Width { bits: 0 },
+            low: Bit { bits: 0 },
+            kind: guard_kind(low),
+        })
+    }
+
+    /// The narrow operation that stands for an operation, if there is one.
+    fn narrow(&self, operation: Operation) -> Result<NarrowOperation, Unfit>
+        ensures { IfOk result (Stands self.now operation) }
+    {
+        match operation {
+            Operation::Constant(_) => Err(Unfit::Wide),
+            Operation::Part { from, low, width } => self.part(from, low, width),
+            Operation::Join {
+                high,
+                low,
+                width,
+                total,
+            } => self.join(high, low, width, total),
+            Operation::One { op, width, of } => self.one(op, width, of),
+            Operation::Two {
+                op,
+                width,
+                left,
+                right,
+            } => self.two(op, width, left, right),
+            Operation::Pick {
+                test,
+                chosen,
+                other,
+            } => self.pick(test, chosen, other),
+            Operation::Guard {
+                pin,
+                low,
+                value,
+                next,
+            } => self.guard(pin, low, value, next),
+        }
+    }
+
+    /// The narrow operation that stands for the one of an old place.
+    fn narrow_at(&self, old: usize, operations: &[Operation]) -> Result<NarrowOperation, Unfit>
+        ensures { IfOk result (StandsAt self.now operations.now old) }
+    {
+        if old < self.first {
+            return Err(Unfit::Wide);
+        }
+        let index = old - self.first;
+        if index < operations.len() {
+            self.narrow(operations[index])
+        } else {
+            Err(Unfit::Wide)
+        }
+    }
+
+    /// The narrow operations that stand for those in order.
+    pub fn operations(
+        &self,
+        alloc: Global,
+        operations: &[Operation],
+    ) -> Result<Vec<NarrowOperation>, Unfit>
+        ensures { IfOk result (λ v. AllZip (StandsAt self.now operations.now) self.now.order.items v.items) }
+    {
+        let mut all = Vec::new(alloc);
+        for old in &self.order {
+            let narrow = self.narrow_at(*old, operations)?;
+            all.push(narrow)?;
+        }
+        Ok(all)
+    }
 }

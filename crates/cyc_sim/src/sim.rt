@@ -2,9 +2,10 @@
 ghost use Rattle.std.specs.Prelude.{◌≡◌, ◌+◌, ◌≤◌, ◌++◌, true, take, drop, length};
 ghost use Rattle.cyc_sim.specs.Operations.{are_places, values_in};
 
-use crate::narrow::NarrowOperation;
-use crate::narrow_sim::{NarrowProgram, NarrowSim};
-use crate::narrowing::narrow_operations;
+use crate::fitting::Unfit;
+use crate::narrow_program::NarrowProgram;
+use crate::narrow_sim::NarrowSim;
+use crate::narrowing::is_narrow;
 use crate::operation::settle;
 use crate::program::Program;
 use rb_base::NoMemory;
@@ -101,8 +102,7 @@ impl Engine {
     ghost use Rattle.v_design.specs.Design.{registers};
     ghost use Rattle.v_design.specs.Seen.{module_seen};
     ghost use Rattle.v_design.specs.Fits.{FitsPins};
-    ghost use Rattle.cyc_sim.specs.Narrowed.{IsNarrowed};
-    ghost use Rattle.cyc_sim.specs.Simulation.{IsEngineOf, IsProgramOf, held_in};
+    ghost use Rattle.cyc_sim.specs.Simulation.{IsEngineOf, IsNarrowProgramOf, IsProgramOf, held_in};
 
     fn wide(
         alloc: Global,
@@ -122,18 +122,15 @@ impl Engine {
     fn narrow(
         alloc: Global,
         design: &Design,
-        program: Program,
-        operations: Vec<NarrowOperation>,
+        program: NarrowProgram,
         start: &[u128],
     ) -> Result<Engine, NoMemory>
-        requires program { IsProgramOf (module_seen design.now) program }
-        requires narrow { IsNarrowed (module_seen design.now) program operations.items }
+        requires program { IsNarrowProgramOf (module_seen design.now) program }
         requires start { FitsPins (registers (module_seen design.now)) start.now }
         ensures simulates { IfOk result (IsEngineOf (module_seen design.now)) }
         ensures start { IfOk result (λ e. held_in e ≡ start.now) }
     {
-        let narrow = NarrowProgram::of(program, operations);
-        let sim = NarrowSim::new(alloc, narrow, start)?;
+        let sim = NarrowSim::new(alloc, program, start)?;
         Ok(Engine::Narrow(sim))
     }
 
@@ -149,10 +146,13 @@ impl Engine {
         ensures simulates { IfOk result (IsEngineOf (module_seen design.now)) }
         ensures start { IfOk result (λ e. held_in e ≡ start.now) }
     {
-        let operations = narrow_operations(alloc, design, &program)?;
-        match operations {
-            Some(operations) => Engine::narrow(alloc, design, program, operations, start),
-            None => Engine::wide(alloc, design, program, start),
+        if !is_narrow(design) {
+            return Engine::wide(alloc, design, program, start);
+        }
+        match NarrowProgram::of(alloc, &program) {
+            Ok(narrow) => Engine::narrow(alloc, design, narrow, start),
+            Err(Unfit::Wide) => Engine::wide(alloc, design, program, start),
+            Err(Unfit::NoMemory(refused)) => Err(refused),
         }
     }
 }
