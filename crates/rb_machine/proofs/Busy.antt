@@ -1,35 +1,35 @@
--- The places of the fields that aren't quiet.
-use Rattle.std.proofs.Common.{◌≡◌, ◌≢◌, ℕ, ◌+◌, ◌<◌, ◌≤◌, Bool, true, false, Some, List, length, slice_get, get_or, sym, ap, subst, ◌∙◌, arith, get_or-set_other, get_or-set_same, inl, inr, ◌⊎◌}
+-- The places of the fields that aren't light.
+use Rattle.std.proofs.Common.{◌≡◌, ◌≢◌, ℕ, ◌+◌, ◌<◌, ◌≤◌, Bool, true, false, Some, List, length, slice_get, get_or, sym, ap, subst, ◌∙◌, arith, get_or-set_other, get_or-set_same, inl, inr}
 use Rattle.std.proofs.Math.ListN.{set}
 use Rattle.std.proofs.lemmas.Option.{get_or_from_slice_get, same_Some, slice_get_within}
 use Rattle.rb_model.specs.declared.block.Field.{Field}
-use Rattle.rb_machine.specs.Quiet.{AreNextBusy, IsNextBusy, is_quiet, rests}
+use Rattle.rb_machine.specs.Quiet.{AreNextBusy, IsNextBusy, is_light, rests}
 use Rattle.plain_lemmas.proofs.Numbers.{same_or_above}
 
 -- past the last place there is none
 pub none_left : (fields : List Field) (n : ℕ) → n ≡ length fields → IsNextBusy fields n n
 none_left fields n e = record {
   onward = omega arith;
-  quiet = λ m f from to here. absurd (omega (arith, from, to));
+  light = λ m f from to here. absurd (omega (arith, from, to));
   busy = λ f here. let low : n < length fields = slice_get_within fields n f here in absurd (omega (arith, low, e));
 }
 
 -- one place lower
-pub quiet_below : (fields : List Field) (i j : ℕ) (f : Field) → slice_get fields i ≡ Some f → is_quiet f ≡ true → IsNextBusy fields (i + 1) j → IsNextBusy fields i j
-quiet_below fields i j f here q after = record {
+pub light_below : (fields : List Field) (i j : ℕ) (f : Field) → slice_get fields i ≡ Some f → is_light f ≡ true → IsNextBusy fields (i + 1) j → IsNextBusy fields i j
+light_below fields i j f here q after = record {
   onward = omega (arith, after.onward);
-  quiet = λ m g from to there. elim (same_or_above i m from) [
-    | inl e ↦ ap is_quiet (sym (same_Some f g (sym here ∙ (ap (slice_get fields) (sym e) ∙ there)))) ∙ q
-    | inr above ↦ after.quiet m g above to there
+  light = λ m g from to there. elim (same_or_above i m from) [
+    | inl e ↦ ap is_light (sym (same_Some f g (sym here ∙ (ap (slice_get fields) (sym e) ∙ there)))) ∙ q
+    | inr above ↦ after.light m g above to there
   ];
   busy = after.busy;
 }
 
-pub busy_here : (fields : List Field) (i : ℕ) (f : Field) → slice_get fields i ≡ Some f → is_quiet f ≡ false → IsNextBusy fields i i
+pub busy_here : (fields : List Field) (i : ℕ) (f : Field) → slice_get fields i ≡ Some f → is_light f ≡ false → IsNextBusy fields i i
 busy_here fields i f here q = record {
   onward = omega arith;
-  quiet = λ m g from to there. absurd (omega (arith, from, to));
-  busy = λ g there. ap is_quiet (sym (same_Some f g (sym here ∙ there))) ∙ q;
+  light = λ m g from to there. absurd (omega (arith, from, to));
+  busy = λ g there. ap is_light (sym (same_Some f g (sym here ∙ there))) ∙ q;
 }
 
 -- what is known from place i on
@@ -50,7 +50,7 @@ known_more fields next i y sized low is after k from to = elim (same_or_above i 
 pub found_at : (fields : List Field) (next : List ℕ) (k j : ℕ) → AreNextBusy fields next → slice_get next k ≡ Some j → IsNextBusy fields k j
 found_at fields next k j are at = let low : k < length next = slice_get_within next k j at in subst (IsNextBusy fields k) (get_or_from_slice_get next k j 0 at) (are.busy k (omega (arith, low, are.sized)))
 
--- where no field is under reset the quiet ones rest
-pub rests_quiet : (is_reset : Bool) (f : Field) (q : Bool) → is_reset ≡ false → is_quiet f ≡ q → rests is_reset f ≡ q
-rests_quiet false f q calm h = h
-rests_quiet true f q calm h = cc
+-- where no field is under reset the light ones rest
+pub rests_light : (is_reset : Bool) (f : Field) (q : Bool) → is_reset ≡ false → is_light f ≡ q → rests is_reset f ≡ q
+rests_light false f q calm h = h
+rests_light true f q calm h = cc

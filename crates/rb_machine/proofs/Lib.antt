@@ -8,9 +8,11 @@ mod Lines
 mod Moving
 mod Narrow
 mod Placing
+mod Plainly
 mod Resetting
 mod Resting
 mod Scenes
 mod Settling
+mod Sourcing
 mod Stepping
 mod Touching

@@ -1,6 +1,6 @@
 -- The numbers of pins by their places in a vector.
 use Rattle.std.specs.Str.{bytes_eq}
-use Rattle.std.proofs.Common.{◌≡◌, ℕ, suc, ◌<◌, if◌then◌else◌, false, Option, Some, None, List, [], ◌∷◌, codes, length, get_or, slice_get, refl, sym, ap, ◌∙◌, arith, inl, inr, ◌⊎◌}
+use Rattle.std.proofs.Common.{◌≡◌, ℕ, suc, ◌<◌, if◌then◌else◌, false, Option, Some, None, List, [], ◌∷◌, codes, length, get_or, slice_get, refl, sym, ap, ◌∙◌, arith, inl, inr}
 use Rattle.rb_base.specs.declared.ports.Pin.{Pin}
 use Rattle.rb_model.specs.declared.block.Block.{Block}
 use Rattle.rb_model.specs.Ports.{by_name, input_pins, signal_name}

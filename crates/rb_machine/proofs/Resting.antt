@@ -25,7 +25,7 @@ use Rattle.rb_model.proofs.Eachs.{Each-from_zero}
 use Rattle.rb_model.proofs.OwnViews.{both_true, not_true}
 use Rattle.rb_machine.specs.declared.sight.FieldState.{FieldState}
 use Rattle.rb_machine.specs.Moves.{ended_state, kept_state, next_state, reset_state, started_state}
-use Rattle.rb_machine.specs.Quiet.{is_quiet, is_spared, keeps_none, rests}
+use Rattle.rb_machine.specs.Quiet.{is_quiet, is_spared, keeps_none}
 use Rattle.rb_machine.specs.Scene.{HoldsKept, no_state, state_at}
 use Rattle.rb_machine.specs.Slots.{access_state}
 use Rattle.std.proofs.lemmas.Option.{get_or_from_slice_get, slice_get_within}
@@ -33,22 +33,22 @@ use Rattle.rb_machine.proofs.Resetting.{fails}
 use Rattle.rb_machine.proofs.Accessing.{software_done, software_last, software_value}
 use Rattle.plain_lemmas.proofs.Bools.{if-same as if_same, or-true as or_true}
 
-none_of : {X : Type 0} (o : Option X) → not (is_some o) ≡ true → o ≡ None
+pub none_of : {X : Type 0} (o : Option X) → not (is_some o) ≡ true → o ≡ None
 none_of None h = refl
 none_of (Some x) h = cc
 
-no_latch : (l : Latch) → not (is_interrupt l) ≡ true → l ≡ latch.Off
+pub no_latch : (l : Latch) → not (is_interrupt l) ≡ true → l ≡ latch.Off
 no_latch latch.Off h = refl
 no_latch (latch.Bits e) h = cc
 no_latch (latch.Whole e) h = cc
 no_latch latch.Plain h = cc
 
-no_feed : (x : Feed) → not (is_fed x) ≡ true → x ≡ feed.Off
+pub no_feed : (x : Feed) → not (is_fed x) ≡ true → x ≡ feed.Off
 no_feed feed.Off h = refl
 no_feed feed.Pin h = cc
 no_feed (feed.Item i) h = cc
 
-no_mask : (m : Mask) → not (is_on m) ≡ true → m ≡ mask.Off
+pub no_mask : (m : Mask) → not (is_on m) ≡ true → m ≡ mask.Off
 no_mask mask.Off h = refl
 no_mask (mask.Enable i) h = cc
 no_mask (mask.Mask i) h = cc
@@ -145,7 +145,7 @@ or_else : (c : Bool) (y z : ℕ) → y ≡ z → (if c then z else y) ≡ z
 or_else true y z e = refl
 or_else false y z e = e
 
-same_state : (p q : FieldState) → p.value ≡ q.value → p.last ≡ q.last → p.done ≡ q.done → p ≡ q
+pub same_state : (p q : FieldState) → p.value ≡ q.value → p.last ≡ q.last → p.done ≡ q.done → p ≡ q
 same_state p q e g h =
     let of : ℕ → ℕ → ℕ → FieldState = λ x y z. record { value = x; last = y; done = z } in
     ap (λ x. of x p.last p.done) e ∙ (ap (λ y. of q.value y p.done) g ∙ ap (of q.value q.last) h)
@@ -161,7 +161,7 @@ module _ (b : Block) (sound : IsSound b) (n : Now) (v : ItemValues) (k : ℕ) (f
   same_done : moved.done ≡ alone.done
   same_done = software_done b n v k f here a (started_state n v k f x) ∙ sym (software_done b n v k f here a x)
 
-  done_left : alone.done ≡ (next_state b n v k f moved).done
+  pub done_left : alone.done ≡ (next_state b n v k f moved).done
   done_left = by f.once refl
     where
       by : (c : Bool) → f.once ≡ c → alone.done ≡ (if f.once then (if is_asserted b n.pins f.reset_by then 0 else moved.done) else 0)
@@ -279,7 +279,7 @@ module _ (b : Block) (sound : IsSound b) (n : Now) (v : ItemValues) (k : ℕ) (f
   pub none_left : access_state b n v a k x ≡ next_state b n v k f started
   none_left = same_state _ _ no_value no_last (done_left b sound n v k f here calm x kept a)
 
-quiet_left : (b : Block) → IsSound b → (n : Now) (v : ItemValues) (k : ℕ) (f : Field) → slice_get b.fields k ≡ Some f → is_quiet f ≡ true → is_asserted b n.pins f.reset_by ≡ false → (x : FieldState) → kept_state f x ≡ x → (a : Access)
+pub quiet_left : (b : Block) → IsSound b → (n : Now) (v : ItemValues) (k : ℕ) (f : Field) → slice_get b.fields k ≡ Some f → is_quiet f ≡ true → is_asserted b n.pins f.reset_by ≡ false → (x : FieldState) → kept_state f x ≡ x → (a : Access)
     → access_state b n v a k x ≡ next_state b n v k f (access_state b n v a k (started_state n v k f x))
 quiet_left b sound n v k f here q calm x kept a = by (is_spared f) refl
   where
@@ -289,24 +289,6 @@ quiet_left b sound n v k f here q calm x kept a = by (is_spared f) refl
         let rest : keeps_none f ≡ true = sym (ap (λ c. c || keeps_none f) e) ∙ q in
         let both = both_true (not (is_storage f.class)) (not (keeps_last f.latch)) rest in
         none_left b sound n v k f here (not_true (is_storage f.class) both.0) (not_true (keeps_last f.latch) both.1) calm x kept a
-
--- so does each field at an edge, whether it rests or moves
-pub at_edge : (b : Block) → IsSound b → (n : Now) (v : ItemValues) (k : ℕ) (f : Field) → slice_get b.fields k ≡ Some f → (a : Access) (is_reset : Bool) (old x begun left new : FieldState)
-    → begun ≡ (if rests is_reset f then old else started_state n v k f x) → left ≡ access_state b n v a k begun → new ≡ (if rests is_reset f then left else next_state b n v k f left)
-    → (is_reset ≡ false → old ≡ x) → (is_reset ≡ false → kept_state f x ≡ x) → (is_reset ≡ false → is_asserted b n.pins f.reset_by ≡ false)
-    → new ≡ next_state b n v k f (access_state b n v a k (started_state n v k f x))
-at_edge b sound n v k f here a is_reset old x begun left new p q r held kept calm = by (rests is_reset f) refl
-  where
-    by : (c : Bool) → rests is_reset f ≡ c → new ≡ next_state b n v k f (access_state b n v a k (started_state n v k f x))
-    by false e =
-        r ∙ (ap (λ c. if c then left else next_state b n v k f left) e
-        ∙ ap (next_state b n v k f) (q ∙ ap (access_state b n v a k) (p ∙ ap (λ c. if c then old else started_state n v k f x) e)))
-    by true e =
-        let both = both_true (not is_reset) (is_quiet f) e in
-        let z : is_reset ≡ false = not_true is_reset both.0 in
-        r ∙ (ap (λ c. if c then left else next_state b n v k f left) e
-        ∙ (q ∙ (ap (access_state b n v a k) (p ∙ (ap (λ c. if c then old else started_state n v k f x) e ∙ held z))
-        ∙ quiet_left b sound n v k f here both.1 (calm z) x (kept z) a)))
 
 -- what is kept of a field is kept of it again
 if_twice : (c : Bool) (x : ℕ) → (if c then (if c then x else 0) else 0) ≡ (if c then x else 0)

@@ -1,9 +1,11 @@
 pub mod Machines
 pub mod Moves
+pub mod Plain
 pub mod Quiet
 pub mod Resets
 pub mod Scene
 pub mod Sight
 pub mod Slots
+pub mod Sources
 pub mod Table
 pub mod Transfers

@@ -10,11 +10,13 @@ use Rattle.rb_model.specs.Ports.{input_pins}
 use Rattle.rb_model.specs.Sound.{IsSound}
 use Rattle.rb_machine.specs.declared.machine.Machine.{Machine}
 use Rattle.block_plan.specs.Plan.{IsPlanOf}
+use Rattle.rb_machine.specs.Plain.{AreSteps}
 use Rattle.rb_machine.specs.Quiet.{AreNextBusy, brief_of}
 use Rattle.rb_machine.specs.Resets.{AreWays}
 use Rattle.block_plan.specs.Wanted.{AreInOrder, IsAllWanted}
 use Rattle.rb_machine.specs.Scene.{HoldsKept, map_of}
-use Rattle.block_plan.specs.Table.{item_place}
+use Rattle.rb_machine.specs.Sources.{AreSources}
+use Rattle.rb_machine.specs.Table.{place_of}
 
 -- the map that a machine holds
 abbrev pub held_map : Machine → Map
@@ -28,6 +30,8 @@ pub record IsReady (m : Machine) : Type 0 where
   pub resets : AreWays m.block.now.fields m.resets.items
   pub briefs : m.briefs.items ≡ map brief_of m.block.now.fields
   pub next : AreNextBusy m.block.now.fields m.next.items
+  pub steps : AreSteps m.block.now.fields m.plan.fields.items m.steps.items
+  pub sources : AreSources m.block.now m.order.items m.sources.items
   pub kept : HoldsKept m.block.now.fields m.held.fields.items
   pub pins : length m.pins.items ≡ length (input_pins m.block.now)
   pub marks : length m.marks.items ≡ length m.block.now.fields
@@ -35,7 +39,7 @@ pub record IsReady (m : Machine) : Type 0 where
   pub wanted : List Bool
   pub needs : IsAllWanted m.block.now wanted
   pub listed : AreInOrder m.block.now wanted m.order.items
-  pub room : (k : ℕ) (i : RefItem) → slice_get m.order.items k ≡ Some i → item_place i < length m.table.items
+  pub room : (k : ℕ) (i : RefItem) → slice_get m.order.items k ≡ Some i → place_of i < length m.table.items
 
 -- what an access finds at an edge
 abbrev pub at_edge : Block → List ℕ → Held → Access → Now

@@ -23,6 +23,10 @@ started_state n v k f x = record {
   done = x.done;
 }
 
+-- before software, where hardware has acted and the last input stays
+abbrev pub begun_state : Now → ItemValues → ℕ → Field → FieldState → FieldState
+begun_state n v k f x = record { value = hardware n v k f x.value; last = x.last; done = x.done }
+
 -- behind software, where hardware has the last word
 abbrev pub ended_state : Now → ItemValues → ℕ → Field → FieldState → FieldState
 ended_state n v k f x = record { value = if f.hw_first then hardware n v k f x.value else x.value; last = x.last; done = x.done }

@@ -1,10 +1,11 @@
--- The fields on which no hardware acts.
+-- The fields on which no hardware acts, or hardware by one pin alone.
 use Rattle.std.specs.Prelude.{◌≡◌, ℕ, ◌≤◌, ◌<◌, Bool, true, false, not, ◌&&◌, ◌||◌, is_some, Some, List, length, slice_get, get_or}
 use Rattle.rb_model.specs.declared.block.Field.{Field}
 use Rattle.rb_model.specs.Effects.{loads}
 use Rattle.rb_model.specs.Items.{is_interrupt, is_on}
 use Rattle.rb_model.specs.Kept.{is_storage, keeps_last}
 use Rattle.rb_model.specs.SoundField.{is_fed}
+use Rattle.rb_machine.specs.Plain.{is_plain}
 use Rattle.rb_machine.specs.declared.quiet.Brief.{Brief}
 
 -- Hardware leaves the kept value of such a field as it is: the field takes no number, is no counter, no interrupt and no
@@ -24,15 +25,23 @@ is_quiet f = is_spared f || keeps_none f
 abbrev pub brief_of : Field → Brief
 brief_of f = record { width = f.width; stores = is_storage f.class }
 
--- it rests at an edge where no field is under reset
-abbrev pub rests : (is_reset : Bool) → Field → Bool
-rests is_reset f = not is_reset && is_quiet f
+-- hardware makes nothing of it, or something by one pin alone
+abbrev pub is_light : Field → Bool
+is_light f = is_quiet f || is_plain f
 
--- from place k on, j is the first whose field isn't quiet, or the end
+-- at an edge where no field is under reset it needs no look at all that it has
+abbrev pub rests : (is_reset : Bool) → Field → Bool
+rests is_reset f = not is_reset && is_light f
+
+-- and one pin tells what hardware makes of it
+abbrev pub begins : (is_reset : Bool) → Field → Bool
+begins is_reset f = not is_reset && is_plain f
+
+-- from place k on, j is the first whose field isn't light, or the end
 pub record IsNextBusy (fields : List Field) (k j : ℕ) : Type 0 where
   pub onward : k ≤ j
-  pub quiet : (m : ℕ) (f : Field) → k ≤ m → m < j → slice_get fields m ≡ Some f → is_quiet f ≡ true
-  pub busy : (f : Field) → slice_get fields j ≡ Some f → is_quiet f ≡ false
+  pub light : (m : ℕ) (f : Field) → k ≤ m → m < j → slice_get fields m ≡ Some f → is_light f ≡ true
+  pub busy : (f : Field) → slice_get fields j ≡ Some f → is_light f ≡ false
 
 -- so for all places of a list of fields
 pub record AreNextBusy (fields : List Field) (next : List ℕ) : Type 0 where

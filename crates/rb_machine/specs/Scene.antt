@@ -16,6 +16,7 @@ use Rattle.rb_machine.specs.declared.scene.Strobes.{Strobes}
 use Rattle.rb_machine.specs.declared.scene.EdgeState.{EdgeState}
 use Rattle.block_plan.specs.Plan.{IsPlanOf}
 use Rattle.rb_machine.specs.Moves.{kept_state}
+use Rattle.rb_machine.specs.Plain.{AreSteps}
 use Rattle.rb_machine.specs.Quiet.{AreNextBusy, brief_of}
 use Rattle.rb_machine.specs.Resets.{NoneReset}
 use Rattle.rb_machine.specs.Sight.{Sees}
@@ -64,6 +65,7 @@ pub record IsEdgeState (s : EdgeState) : Type 0 where
   pub held : length s.held.now.fields.items ≡ length s.block.now.fields
   pub briefs : s.briefs.now ≡ map brief_of s.block.now.fields
   pub next : AreNextBusy s.block.now.fields s.next.now
+  pub steps : AreSteps s.block.now.fields s.plan.now.fields.items s.steps.now
   pub kept : s.is_reset ≡ false → HoldsKept s.block.now.fields s.held.now.fields.items
   pub calm : s.is_reset ≡ false → NoneReset s.block.now (pins_of s.block.now s.pins.now)
 

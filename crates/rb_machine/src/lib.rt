@@ -8,11 +8,13 @@
 mod bus;
 mod machine;
 mod moves;
+mod plain;
 mod quiet;
 mod reset;
 mod scene;
 mod sight;
 mod slots;
+mod sources;
 mod table;
 
 pub use machine::Machine;

@@ -14,12 +14,14 @@ ghost use Rattle.rb_machine.specs.Table.{values_of};
 
 use crate::bus::{BusOuts, Transfer, bus_at, commit, hold, outs_shown, transfer_of};
 use crate::moves::{answer, mark_access, move_fields};
+use crate::plain::{PinStep, pin_steps};
 use crate::quiet::{Brief, briefs, busy_places};
 use crate::reset::{reset_ways, some_asserted};
 use crate::scene::{EdgeState, Held, Strobes};
 use crate::sight::FieldState;
-use crate::table::item_value;
-use block_plan::{Outlet, Plan, table_len, wanted, wanted_items};
+use crate::sources::{Source, item_sources};
+use crate::table::{item_value, table_len};
+use block_plan::{Outlet, Plan, wanted, wanted_items};
 use rb_base::NoMemory;
 use rb_model::{Block, RefItem, ResetBy};
 use std::alloc::Global;
@@ -33,6 +35,8 @@ pub struct Machine<'b> {
     resets: Vec<ResetBy>,
     briefs: Vec<Brief>,
     next: Vec<usize>,
+    steps: Vec<PinStep>,
+    sources: Vec<Source>,
     held: Held,
     pins: Vec<u64>,
     marks: Vec<Strobes>,
@@ -130,6 +134,8 @@ impl<'b> Machine<'b> {
         let resets = reset_ways(alloc, &block.fields.items)?;
         let briefs = briefs(alloc, &block.fields.items)?;
         let next = busy_places(alloc, &block.fields.items)?;
+        let steps = pin_steps(alloc, &block.fields.items, &plan.fields)?;
+        let sources = item_sources(alloc, block, &plan, &order)?;
         let inputs = plan.inputs;
         let fields = block.fields.items.len();
         let state = FieldState {
@@ -148,6 +154,8 @@ impl<'b> Machine<'b> {
             resets,
             briefs,
             next,
+            steps,
+            sources,
             held: Held {
                 fields: vec![in alloc; state; fields]?,
                 waited: false,
@@ -192,6 +200,8 @@ impl<'b> Machine<'b> {
             marks: &self.marks,
             briefs: &self.briefs,
             next: &self.next,
+            steps: &self.steps,
+            sources: &self.sources,
             is_reset: vector.is_reset,
         };
         scene.settle(&self.order, &mut self.table);

@@ -1,18 +1,19 @@
 //! What the fields keep after an edge, and what the access is answered.
 ghost use Rattle.std.specs.Prelude.{◌≡◌, ◌<◌, ℕ, false, Some, if◌then◌else◌, length, slice_get};
 ghost use Rattle.rb_model.specs.declared.block.Field.{Field};
-ghost use Rattle.rb_model.specs.Items.{NoAccess};
+ghost use Rattle.rb_model.specs.Items.{ItemValues, NoAccess};
 ghost use Rattle.rb_model.specs.Machine as spec;
 ghost use Rattle.rb_model.specs.Run.{pins_of};
 ghost use Rattle.rb_model.specs.Sound.{IsSound};
-ghost use Rattle.rb_machine.specs.Moves.{next_state, started_state};
-ghost use Rattle.rb_machine.specs.Quiet.{rests};
+ghost use Rattle.rb_machine.specs.Moves.{begun_state, next_state, started_state};
+ghost use Rattle.rb_machine.specs.Quiet.{begins, rests};
 ghost use Rattle.rb_machine.specs.Scene.{AreStrobes, IsEdgeState, no_mark, now_in, mark_at, state_at};
 ghost use Rattle.rb_machine.specs.Slots.{access_state};
 ghost use Rattle.rb_machine.specs.Table.{values_of};
 ghost use Rattle.rb_machine.specs.Transfers.{IsThere, access_seen};
 
 use crate::bus::Access;
+use crate::plain::begun;
 use crate::reset::{is_asserted, kept_state, reset_state};
 use crate::scene::{EdgeState, Strobes};
 use crate::sight::FieldState;
@@ -135,6 +136,22 @@ fn start(scene: &EdgeState, table: &[u64], states: &mut [FieldState])
     }
 }
 
+/// What each field has before software of which one pin tells it. Under reset this is left to what looks at all of the field.
+fn begin(scene: &EdgeState, states: &mut [FieldState])
+    requires scene { IsEdgeState scene.now }
+    requires sized { length states.old ≡ length scene.now.block.now.fields }
+    ensures { (v : ItemValues) (k : ℕ) (f : Field) → slice_get scene.now.block.now.fields k ≡ Some f
+        → state_at states.new k ≡ (if begins scene.now.is_reset f then begun_state (now_in scene.now NoAccess) v k f (state_at states.old k)
+        else state_at states.old k) }
+{
+    if scene.is_reset {
+        return;
+    }
+    for (number, step) in scene.steps.iter().enumerate() {
+        states[number] = begun(scene.pins, *step, states[number]);
+    }
+}
+
 /// What each field keeps after the edge, of what software left. One that rests keeps all of it.
 fn finish(scene: &EdgeState, table: &[u64], states: &mut [FieldState])
     requires scene { IsEdgeState scene.now }
@@ -167,6 +184,7 @@ pub(crate) fn move_fields(
         (started_state (now_in scene.now NoAccess) (values_of table.now) k f (state_at scene.now.held.now.fields.items k))) }
 {
     start(scene, table, states);
+    begin(scene, states);
     software(scene, table, access, states);
     finish(scene, table, states);
 }

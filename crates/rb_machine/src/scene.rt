@@ -1,11 +1,13 @@
 //! What a block finds at an edge, and the values of its items.
 ghost use Rattle.std.specs.Prelude.{◌≡◌};
 
+use crate::plain::PinStep;
 use crate::quiet::Brief;
 use crate::reset::signal_pin;
 use crate::sight::{FieldNow, FieldState};
-use crate::table::item_value;
-use block_plan::{Plan, item_place};
+use crate::sources::{Source, source_at};
+use crate::table::{item_value, number_at, place_of};
+use block_plan::Plan;
 use rb_effects::ones;
 use rb_model::{Block, RefItem};
 
@@ -27,7 +29,8 @@ pub(crate) struct Strobes {
 }
 
 /// A block at an edge, with the pins, what it holds, the marks of the access, what is looked at of each field, for each place the
-/// next whose field isn't quiet, and whether some reset of a field is asserted.
+/// next whose field isn't light, the fields' steps by one pin, where the
+/// items' values come from, and whether some reset of a field is asserted.
 #[derive(Clone, Copy)]
 pub(crate) struct EdgeState<'a> {
     pub block: &'a Block,
@@ -37,6 +40,8 @@ pub(crate) struct EdgeState<'a> {
     pub marks: &'a [Strobes],
     pub briefs: &'a [Brief],
     pub next: &'a [usize],
+    pub steps: &'a [PinStep],
+    pub sources: &'a [Source],
     pub is_reset: bool,
 }
 
@@ -51,11 +56,12 @@ impl<'a> EdgeState<'a> {
     ghost use Rattle.rb_model.specs.References.{IsOrdered};
     ghost use Rattle.rb_model.specs.Ports.{signal_name};
     ghost use Rattle.rb_model.specs.Run.{pins_of};
-    ghost use Rattle.block_plan.specs.Table as places;
+    ghost use Rattle.rb_machine.specs.Table as places;
     ghost use Rattle.rb_machine.specs.Table.{values_of};
     ghost use Rattle.rb_model.specs.declared.block.Field.{Field};
     ghost use Rattle.rb_model.specs.Kept.{Val, is_storage};
     ghost use Rattle.rb_machine.specs.Quiet.{brief_of, rests};
+    ghost use Rattle.rb_machine.specs.Sources.{AreSources, IsSourceOf};
     ghost use Rattle.rb_machine.specs.Scene.{AreStrobes, IsAt, IsEdgeState, map_of, mark_at, now_in, raises_line};
 
     /// The field of a number, if there is one.
@@ -275,19 +281,34 @@ impl<'a> EdgeState<'a> {
         }
     }
 
+    /// An item's value, which comes from this source.
+    fn drawn(&self, table: &[u64], source: Source, item: RefItem) -> u64
+        requires scene { IsEdgeState self.now }
+        requires source { IsSourceOf self.now.block.now item source }
+        ensures { (a : Access) → AreStrobes self.now.block.now a self.now.marks.now
+            → result ≡ spec.made self.now.block.now (now_in self.now a) (values_of table.now) item }
+    {
+        match source {
+            Source::Made => self.made(table, item),
+            Source::Held(number) => self.held_value(number),
+            Source::Pin(place) => number_at(self.pins, place),
+        }
+    }
+
     /// Computes the values of items, each behind those that it refers to. What is in the table of others is no matter.
     pub fn settle(&self, order: &[RefItem], table: &mut [u64])
         requires scene { IsEdgeState self.now }
+        requires sources { AreSources self.now.block.now order.now self.now.sources.now }
         requires ordered { IsOrdered self.now.block.now order.now }
         requires own { (k : ℕ) (i : RefItem) → slice_get order.now k ≡ Some i → Contains (items self.now.block.now) i }
-        requires room { (k : ℕ) (i : RefItem) → slice_get order.now k ≡ Some i → places.item_place i < length table.old }
+        requires room { (k : ℕ) (i : RefItem) → slice_get order.now k ≡ Some i → places.place_of i < length table.old }
         ensures { (a : Access) (v : ItemValues) → AreStrobes self.now.block.now a self.now.marks.now → AreItemValues self.now.block.now (now_in self.now a) v
             → (i : RefItem) → Contains order.now i → values_of table.new i ≡ v i }
     {
-        for item in order {
+        for (place, item) in order.iter().enumerate() {
             let item = *item;
-            let value = self.made(table, item);
-            table[item_place(item)] = value;
+            let value = self.drawn(table, source_at(self.sources, place), item);
+            table[place_of(item)] = value;
         }
     }
 }

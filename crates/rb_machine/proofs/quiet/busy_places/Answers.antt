@@ -2,9 +2,9 @@ use Rattle.std.proofs.Common.{rules, ◌≡◌, ◌+◌, ◌-◌, ◌<◌, false
 use Rattle.std.proofs.lemmas.Option.{slice_get_read}
 use Rattle.rb_machine.specs.Quiet.{IsNextBusy}
 use Rattle.rb_machine.specs.Quiet as spec
-use Rattle.rb_machine.proofs.Busy.{KnownFrom, busy_here, known_more, none_left, quiet_below}
+use Rattle.rb_machine.proofs.Busy.{KnownFrom, busy_here, known_more, none_left, light_below}
 use Rattle.rb_machine.proofs.quiet.busy_places.Goals as goal
-use Rattle.rb_machine.proofs.quiet.busy_places.Goals.{then-not-is_quiet, else-not-is_quiet}
+use Rattle.rb_machine.proofs.quiet.busy_places.Goals.{then-not-is_light, else-not-is_light}
 
 pub loop-at-init : goal.loop-at-init
 loop-at-init c = record {
@@ -22,18 +22,18 @@ loop-at-preserved c =
     let up : c.loop-at.at ≡ i + 1 = omega (arith, c.loop-at-test.true) in
     let here : slice_get fields i ≡ Some f = slice_get_read fields (length fields) i f refl low c.index-fields-at.is in
     let after : IsNextBusy fields (i + 1) c.loop-at.busy = subst (λ m. IsNextBusy fields m c.loop-at.busy) up c.loop-at.invariant.first in
-    let first : IsNextBusy fields i c.if-not-is_quiet.busy = elim c.if-not-is_quiet.branch [
-      | then-not-is_quiet w ↦
-          let q : spec.is_quiet f ≡ false = sym w.if-not-is_quiet.ensures in
+    let first : IsNextBusy fields i c.if-not-is_light.busy = elim c.if-not-is_light.branch [
+      | then-not-is_light w ↦
+          let q : spec.is_light f ≡ false = sym w.if-not-is_light.ensures in
           subst (IsNextBusy fields i) (sym w.busy-is) (busy_here fields i f here q)
-      | else-not-is_quiet w ↦
-          let q : spec.is_quiet f ≡ true = sym w.if-not-is_quiet.ensures in
-          subst (IsNextBusy fields i) (sym w.busy-is) (quiet_below fields i c.loop-at.busy f here q after)
+      | else-not-is_light w ↦
+          let q : spec.is_light f ≡ true = sym w.if-not-is_light.ensures in
+          subst (IsNextBusy fields i) (sym w.busy-is) (light_below fields i c.loop-at.busy f here q after)
     ] in
     let known : KnownFrom fields c.loop-at.next.items (i + 1) = subst (KnownFrom fields c.loop-at.next.items) up c.loop-at.invariant.known in
     record {
       sized = search rules;
-      known = known_more fields c.loop-at.next.items i c.if-not-is_quiet.busy c.loop-at.invariant.sized low first known;
+      known = known_more fields c.loop-at.next.items i c.if-not-is_light.busy c.loop-at.invariant.sized low first known;
       first = first;
     }
 

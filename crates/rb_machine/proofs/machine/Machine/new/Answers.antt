@@ -10,6 +10,9 @@ use Rattle.rb_machine.specs.Moves.{kept_state}
 use Rattle.rb_machine.specs.Quiet.{AreNextBusy, brief_of}
 use Rattle.block_plan.specs.Wanted.{AreInOrder}
 use Rattle.rb_machine.specs.Resets.{AreWays}
+use Rattle.rb_model.specs.declared.kinds.RefItem.{RefItem}
+use Rattle.rb_machine.specs.Sources.{AreSources}
+use Rattle.rb_machine.proofs.Plainly.{fields_wide, steps_of}
 use Rattle.rb_machine.proofs.Resting.{none_kept}
 use Rattle.rb_machine.proofs.machine.Machine.new.Goals as goal
 
@@ -33,12 +36,18 @@ returns-clause-zeros c = zeros (record { fields = c.in_ok-vec.field-0; waited = 
 held_none : (states : List FieldState) (n : ℕ) → states ≡ replicate n no_state → (f : Field) (k : ℕ) → kept_state f (state_at states k) ≡ state_at states k
 held_none states n e f k = let at : state_at states k ≡ no_state = ap (λ ss. state_at ss k) e ∙ get_or-replicate n no_state k in rw at (none_kept f)
 
+pub pin_steps-requires : goal.pin_steps-requires
+pin_steps-requires c =
+    let fields : c.deref-6.result.now ≡ c.args.block.now.fields = c.deref-6.ensures.value ∙ ap (λ b. b.fields) c.block.view_is in
+    record { wide = fields_wide c.args.block.now c.requires c.deref-6.result.now fields }
+
 pub returns-clause-ready : goal.returns-clause-ready
 returns-clause-ready c =
     let b = c.args.block.now in
     let fields : c.deref-3.result.now ≡ b.fields = c.deref-3.ensures.value ∙ ap (λ b. b.fields) c.block.view_is in
     let again : c.deref-4.result.now ≡ b.fields = c.deref-4.ensures.value ∙ ap (λ b. b.fields) c.block.view_is in
     let third : c.deref-5.result.now ≡ b.fields = c.deref-5.ensures.value ∙ ap (λ b. b.fields) c.block.view_is in
+    let fourth : c.deref-6.result.now ≡ b.fields = c.deref-6.ensures.value ∙ ap (λ b. b.fields) c.block.view_is in
     record {
       sound = c.requires;
       planned = c.in_ok-plan.ensures;
@@ -46,6 +55,8 @@ returns-clause-ready c =
       resets = subst (λ (fs : List Field). AreWays fs c.in_ok-resets.resets.items) fields c.in_ok-resets.ensures;
       briefs = c.in_ok-briefs.ensures ∙ ap (map brief_of) again;
       next = subst (λ (fs : List Field). AreNextBusy fs c.in_ok-next.next.items) third c.in_ok-next.ensures;
+      steps = steps_of b.fields c.deref-6.result.now c.in_ok-plan.plan.fields.items c.deref-7.result.now c.in_ok-steps.steps.items fourth c.deref-7.ensures.value c.in_ok-steps.ensures;
+      sources = subst (λ (is : List RefItem). AreSources b is c.in_ok-sources.sources.items) c.deref-8.ensures.value c.in_ok-sources.ensures;
       kept = λ k f here. held_none c.in_ok-vec.field-0.items c.len-fields.result (c.in_ok-vec.ensures.items_if_clones_equal (λ y e. e)) f k;
       pins = search rules;
       marks = search rules;

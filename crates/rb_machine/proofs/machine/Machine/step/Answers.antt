@@ -17,9 +17,11 @@ use Rattle.block_plan.specs.Plan.{IsPlanOf}
 use Rattle.rb_machine.specs.declared.scene.EdgeState.{EdgeState}
 use Rattle.rb_machine.specs.declared.sight.FieldState.{FieldState}
 use Rattle.rb_machine.specs.Moves.{started_state}
+use Rattle.rb_machine.specs.Plain.{AreSteps}
 use Rattle.rb_machine.specs.Quiet.{AreNextBusy, brief_of}
 use Rattle.rb_machine.specs.Resets.{NoneReset}
 use Rattle.rb_machine.proofs.Resting.{next_kept}
+use Rattle.rb_machine.proofs.Sourcing.{sources_of}
 use Rattle.rb_machine.specs.Scene.{AreStrobes, HoldsKept, IsEdgeState, state_at}
 use Rattle.rb_machine.specs.Slots.{access_state}
 use Rattle.block_plan.specs.Wanted.{AreInOrder}
@@ -44,19 +46,20 @@ pub show-requires : goal.show-requires
 show-requires c =
     let b = c.args.self.now.block.now in
     let o = ap length (output_pins_are b) in
-    let i : length c.deref-9.result.now ≡ length (outlets b) = ap length c.deref-9.ensures.value ∙ (sym (length-map c.args.self.now.plan.outlets.items outlet_seen) ∙ ap length c.requires.ready.planned.outlets) in
+    let i : length c.deref-11.result.now ≡ length (outlets b) = ap length c.deref-11.ensures.value ∙ (sym (length-map c.args.self.now.plan.outlets.items outlet_seen) ∙ ap length c.requires.ready.planned.outlets) in
     omega (arith, c.requires.outs, o, length-map (outlets b) outlet_pin, i)
 
 is_scene : (s : EdgeState) (x : List ℕ) → IsSound s.block.now → IsPlanOf s.block.now s.plan.now → s.pins.now ≡ x → length x ≡ length (input_pins s.block.now) → length s.held.now.fields.items ≡ length s.block.now.fields
-    → s.briefs.now ≡ map brief_of s.block.now.fields → AreNextBusy s.block.now.fields s.next.now → (held : List FieldState) → HoldsKept s.block.now.fields held → (s.is_reset ≡ false → s.held.now.fields.items ≡ held)
+    → s.briefs.now ≡ map brief_of s.block.now.fields → AreNextBusy s.block.now.fields s.next.now → AreSteps s.block.now.fields s.plan.now.fields.items s.steps.now → (held : List FieldState) → HoldsKept s.block.now.fields held → (s.is_reset ≡ false → s.held.now.fields.items ≡ held)
     → (s.is_reset ≡ false → NoneReset s.block.now (pins_of s.block.now x)) → IsEdgeState s
-is_scene s x sound planned pins long sized briefs next held kept still calm = record {
+is_scene s x sound planned pins long sized briefs next steps held kept still calm = record {
   sound = sound;
   planned = planned;
   pins = ap length pins ∙ long;
   held = sized;
   briefs = briefs;
   next = next;
+  steps = steps;
   kept = λ e. subst (HoldsKept s.block.now.fields) (sym (still e)) kept;
   calm = λ e. subst (λ (y : List ℕ). NoneReset s.block.now (pins_of s.block.now y)) (sym pins) (calm e);
 }
@@ -66,14 +69,19 @@ settle-requires-clause-scene c =
     let s = c.args.self.now in
     let pins = with_items_is s.pins c.observe-vector.new.pins (c.observe-vector.auto.pins ∙ c.deref_mut.ensures.len) ∙ c.observe-vector.ensures.pins in
     is_scene _ c.args.pins.now c.requires.ready.sound c.requires.ready.planned (c.deref-2.ensures.value ∙ pins) (fits_length (input_pins s.block.now) c.args.pins.now c.requires.pins)
-    c.observe-vector.ensures.fields (c.deref-4.ensures.value ∙ c.requires.ready.briefs) (subst (AreNextBusy s.block.now.fields) (sym c.deref-5.ensures.value) c.requires.ready.next) s.held.fields.items c.requires.ready.kept c.observe-vector.ensures.still c.observe-vector.ensures.calm
+    c.observe-vector.ensures.fields (c.deref-4.ensures.value ∙ c.requires.ready.briefs) (subst (AreNextBusy s.block.now.fields) (sym c.deref-5.ensures.value) c.requires.ready.next) (subst (AreSteps s.block.now.fields s.plan.fields.items) (sym c.deref-6.ensures.value) c.requires.ready.steps) s.held.fields.items c.requires.ready.kept c.observe-vector.ensures.still c.observe-vector.ensures.calm
+
+pub settle-requires-clause-sources : goal.settle-requires-clause-sources
+settle-requires-clause-sources c =
+    let s = c.args.self.now in
+    sources_of s.block.now s.order.items c.deref-8.result.now s.sources.items c.deref-7.result.now c.deref-8.ensures.value c.deref-7.ensures.value c.requires.ready.sources
 
 pub move_fields-requires-clause-scene : goal.move_fields-requires-clause-scene
 move_fields-requires-clause-scene c =
     let s = c.args.self.now in
     let pins = with_items_is s.pins c.observe-vector.new.pins (c.observe-vector.auto.pins ∙ c.deref_mut.ensures.len) ∙ c.observe-vector.ensures.pins in
     is_scene _ c.args.pins.now c.requires.ready.sound c.requires.ready.planned (c.deref-2.ensures.value ∙ pins) (fits_length (input_pins s.block.now) c.args.pins.now c.requires.pins)
-    c.observe-vector.ensures.fields (c.deref-4.ensures.value ∙ c.requires.ready.briefs) (subst (AreNextBusy s.block.now.fields) (sym c.deref-5.ensures.value) c.requires.ready.next) s.held.fields.items c.requires.ready.kept c.observe-vector.ensures.still c.observe-vector.ensures.calm
+    c.observe-vector.ensures.fields (c.deref-4.ensures.value ∙ c.requires.ready.briefs) (subst (AreNextBusy s.block.now.fields) (sym c.deref-5.ensures.value) c.requires.ready.next) (subst (AreSteps s.block.now.fields s.plan.fields.items) (sym c.deref-6.ensures.value) c.requires.ready.steps) s.held.fields.items c.requires.ready.kept c.observe-vector.ensures.still c.observe-vector.ensures.calm
 
 pub returns-clause-edge : goal.returns-clause-edge
 returns-clause-edge c =
@@ -85,14 +93,14 @@ returns-clause-edge c =
     let marks : AreStrobes b a c.deref-3.result.now = subst (AreStrobes b a) (sym (c.deref-3.ensures.value ∙ marked)) c.mark_access.ensures in
     let table = with_items_is s.table c.settle.new.table (c.settle.auto.table ∙ c.deref_mut-3.ensures.len) in
     let states = with_items_is s.states c.move_fields.new.states (c.move_fields.auto.states ∙ c.deref_mut-4.ensures.len) in
-    let listed = subst (AreInOrder b c.requires.ready.wanted) (sym c.deref-6.ensures.value) c.requires.ready.listed in
-    edge_made b (held_map s) c.args.pins.now c.deref-2.result.now c.settle.new.table c.deref-7.result.now c.deref-8.result.now c.deref-10.result.now c.requires.ready.wanted c.deref-6.result.now c.move_fields.new.states c.deref-11.result.now
-    c.observe-vector.new.held c.commit.new.held c.observe-vector.result.transfer c.answer-answered.result c.outs_shown-bus_outs.result (map (λ o. o.item) c.deref-9.result.now) c.show.new.outs
+    let listed = subst (AreInOrder b c.requires.ready.wanted) (sym c.deref-8.ensures.value) c.requires.ready.listed in
+    edge_made b (held_map s) c.args.pins.now c.deref-2.result.now c.settle.new.table c.deref-9.result.now c.deref-10.result.now c.deref-12.result.now c.requires.ready.wanted c.deref-8.result.now c.move_fields.new.states c.deref-13.result.now
+    c.observe-vector.new.held c.commit.new.held c.observe-vector.result.transfer c.answer-answered.result c.outs_shown-bus_outs.result (map (λ o. o.item) c.deref-11.result.now) c.show.new.outs
     c.requires.ready.sound c.requires.ready.needs listed
-    (c.deref-2.ensures.value ∙ pins) (c.deref-7.ensures.value ∙ table) (c.deref-8.ensures.value ∙ table) (c.deref-10.ensures.value ∙ table) (c.deref-11.ensures.value ∙ states)
+    (c.deref-2.ensures.value ∙ pins) (c.deref-9.ensures.value ∙ table) (c.deref-10.ensures.value ∙ table) (c.deref-12.ensures.value ∙ table) (c.deref-13.ensures.value ∙ states)
     (c.move_fields.auto.states ∙ (ap length c.deref_mut-4.ensures.value ∙ (ap length c.requires.ready.states ∙ c.requires.ready.held)))
     c.observe-vector.ensures.held c.observe-vector.ensures.transfer (λ v vals. c.settle.ensures a v marks vals) c.move_fields.ensures c.answer-answered.ensures c.outs_shown-bus_outs.ensures
-    (items_seen b c.deref-9.result.now (ap (map outlet_seen) c.deref-9.ensures.value ∙ c.requires.ready.planned.outlets)) (c.show.ensures ∙ ap (λ xs. c.outs_shown-bus_outs.result.ready ∷ c.outs_shown-bus_outs.result.«data» ∷ c.outs_shown-bus_outs.result.error ∷ xs) (sym (mapped (values_of c.deref-10.result.now) (λ o. o.item) c.deref-9.result.now))) c.commit.ensures.fields c.commit.ensures.waited c.commit.ensures.answer c.commit.ensures.error
+    (items_seen b c.deref-11.result.now (ap (map outlet_seen) c.deref-11.ensures.value ∙ c.requires.ready.planned.outlets)) (c.show.ensures ∙ ap (λ xs. c.outs_shown-bus_outs.result.ready ∷ c.outs_shown-bus_outs.result.«data» ∷ c.outs_shown-bus_outs.result.error ∷ xs) (sym (mapped (values_of c.deref-12.result.now) (λ o. o.item) c.deref-11.result.now))) c.commit.ensures.fields c.commit.ensures.waited c.commit.ensures.answer c.commit.ensures.error
 
 pub returns-clause-fits : goal.returns-clause-fits
 returns-clause-fits c fits = after_fits c.args.self.now.block.now c.requires.ready.sound (held_map c.args.self.now) fits c.args.pins.now c.requires.pins c.show.new.outs _ (returns-clause-edge c)
@@ -107,7 +115,7 @@ returns-clause-ready c =
     let states = with_items_is s.states c.move_fields.new.states (c.move_fields.auto.states ∙ c.deref_mut-4.ensures.len) in
     let held = c.observe-vector.new.held in
     let n = at_edge s.block.now c.deref-2.result.now held NoAccess in
-    let v = values_of c.deref-7.result.now in
+    let v = values_of c.deref-9.result.now in
     let left : ℕ → Field → FieldState = λ k f. access_state s.block.now n v (access_seen c.observe-vector.result.transfer.access) k (started_state n v k f (state_at held.fields.items k)) in
     let kept : HoldsKept s.block.now.fields c.move_fields.new.states = next_kept s.block.now n v left c.move_fields.new.states c.move_fields.ensures in
     record {
@@ -117,10 +125,12 @@ returns-clause-ready c =
       resets = ready.resets;
       briefs = ready.briefs;
       next = ready.next;
-      kept = subst (HoldsKept s.block.now.fields) (sym (c.commit.ensures.fields ∙ (c.deref-11.ensures.value ∙ states))) kept;
+      steps = ready.steps;
+      sources = ready.sources;
+      kept = subst (HoldsKept s.block.now.fields) (sym (c.commit.ensures.fields ∙ (c.deref-13.ensures.value ∙ states))) kept;
       pins = search rules;
       marks = search rules;
-      states = sym (c.commit.ensures.fields ∙ c.deref-11.ensures.value);
+      states = sym (c.commit.ensures.fields ∙ c.deref-13.ensures.value);
       wanted = ready.wanted;
       needs = ready.needs;
       listed = ready.listed;
