@@ -35,10 +35,11 @@ use Rattle.rdl_merge.specs.Merged.{AreEntries}
 use Rattle.rdl_targets.specs.At.{AreAt, IsAt}
 use Rattle.rdl_dynamic.specs.Given.{IsGoing, dynamic_of, given_to}
 use Rattle.rdl_dynamic.specs.Judged.{IsLed}
-use Rattle.rdl_dynamic.specs.Marks.{AreMarks}
+use Rattle.rdl_dynamic.specs.Known.{AreKnown}
 use Rattle.rdl_dynamic.specs.Pushed.{PushesAll}
 use Rattle.rdl_dynamic.specs.declared.dynamic.Led.{Led}
-use Rattle.rdl_dynamic.specs.declared.marks.Marks.{Marks}
+use Rattle.rdl_dynamic.specs.declared.known.Known.{Known}
+use Rattle.rdl_nodes.specs.declared.table.Row.{Row}
 use Rattle.rdl_dynamic.proofs.Taking.{among-numbers, node-at}
 
 -- One more assignment.
@@ -90,17 +91,17 @@ in-body : (e : Elab) (node : ℕ) (n : Instance) (before : List Item) → IsAt (
 in-body e node n before h = (n, node-at (Some (top_name e)) e.source.now node n h, refl)
 
 -- Nothing has been read.
-pub go-none : (e : Elab) (n : Instance) (m : Marks) (es : List (Vec PropSetting Global)) (fs : List Fault) → AreMarks (lineages_of e) (nested n) m [] → IsGoing e n m es es fs fs []
-go-none e n m es fs h = record { marked = h; noted = refl; same_length = refl; pushed = λ j k xs l at old. subst (AreEntries (nodes_of e) (entries_at es j)) (sym (append-nil xs)) old }
+pub go-none : (e : Elab) (node : ℕ) (rows : List Row) (n : Instance) (k : Known) (es : List (Vec PropSetting Global)) (fs : List Fault) → AreKnown e node rows (nested n) k [] → IsGoing e node rows n k es es fs fs []
+go-none e node rows n k es fs h = record { are_known = h; noted = refl; same_length = refl; pushed = λ j m xs l at old. subst (AreEntries (nodes_of e) (entries_at es j)) (sym (append-nil xs)) old }
 
 -- One more was judged.
-pub go-more : (e : Elab) (node : ℕ) (n : Instance) (old new : Marks) (first before after : List (Vec PropSetting Global)) (start s t : List Fault) (read : List Dynamic) (d : Dynamic) (r : Led) (items : List Item)
-    → d.assigns.scope ≡ scope_at (body n) items → IsAt (lineages_of e) node n → IsGoing e n old first before start s read → IsLed e node (nested n) read d r new s t
+pub go-more : (e : Elab) (node : ℕ) (rows : List Row) (n : Instance) (old new : Known) (first before after : List (Vec PropSetting Global)) (start s t : List Fault) (read : List Dynamic) (d : Dynamic) (r : Led) (items : List Item)
+    → d.assigns.scope ≡ scope_at (body n) items → IsAt (lineages_of e) node n → IsGoing e node rows n old first before start s read → IsLed e node rows (nested n) read d r new s t
     → length after ≡ length before
     → ((j : ℕ) (m : Instance) (xs : List Applied) → j < length before → IsAt (lineages_of e) j m → AreEntries (nodes_of e) (entries_at before j) xs → AreEntries (nodes_of e) (entries_at after j) (xs ++ one_given (nested n) m d (is_some r.given)))
-    → IsGoing e n new first after start t (read ++ (d ∷ []))
-go-more e node n old new first before after start s t read d r items scope at h led size put = record {
-  marked = led.marked;
+    → IsGoing e node rows n new first after start t (read ++ (d ∷ []))
+go-more e node rows n old new first before after start s t read d r items scope at h led size put = record {
+  are_known = led.are_known;
   noted = led.noted.put ∙ ap (with_all (failures_of_dynamic b (read, d))) h.noted ∙ sym (with_all-append (all_failures (failures_of_dynamic b) read) (failures_of_dynamic b (read, d)) start) ∙ ap (λ fs. with_all fs start) (sym (failures-push (failures_of_dynamic b) read d));
   same_length = size ∙ h.same_length;
   pushed = λ j m xs l is old. subst (AreEntries (nodes_of e) (entries_at after j)) (sym (more xs m)) (put j m (xs ++ given_to b m read) (subst (λ k. j < k) (sym h.same_length) l) is (h.pushed j m xs l is old));
@@ -171,12 +172,12 @@ all-of n (w ∷ ws) [] i l h = absurd h
 all-of n (w ∷ ws) (x ∷ ds) zero l h = absurd (omega (arith, l))
 all-of n (w ∷ ws) (x ∷ ds) (suc i) l h = ap (λ xs. x ∷ xs) (all-of n ws ds i (omega (arith, l)) h.1)
 
-pub none-yet : (e : Elab) (n : Instance) (m : Marks) (es : List (Vec PropSetting Global)) (fs : List Fault) (ds : List Dynamic) → AreMarks (lineages_of e) (nested n) m [] → IsGoing e n m es es fs fs (take 0 ds)
-none-yet e n m es fs [] h = go-none e n m es fs h
-none-yet e n m es fs (d ∷ ds) h = go-none e n m es fs h
+pub none-yet : (e : Elab) (node : ℕ) (rows : List Row) (n : Instance) (k : Known) (es : List (Vec PropSetting Global)) (fs : List Fault) (ds : List Dynamic) → AreKnown e node rows (nested n) k [] → IsGoing e node rows n k es es fs fs (take 0 ds)
+none-yet e node rows n k es fs [] h = go-none e node rows n k es fs h
+none-yet e node rows n k es fs (d ∷ ds) h = go-none e node rows n k es fs h
 
-pub go-next : (e : Elab) (n : Instance) (m : Marks) (first now : List (Vec PropSetting Global)) (s t : List Fault) (ws : List Written) (ds : List Dynamic) (i : ℕ) (d : Written) → i < length ws → AreOf n (map parts_of ws) ds
-    → ((before : List Item) → IsGoing e n m first now s t (take i ds ++ (dynamic_of n before (get_or ws i d).target.now (get_or ws i d).assigned.now ∷ []))) → IsGoing e n m first now s t (take (i + 1) ds)
-go-next e n m first now s t ws ds i d l of step =
+pub go-next : (e : Elab) (node : ℕ) (rows : List Row) (n : Instance) (k : Known) (first now : List (Vec PropSetting Global)) (s t : List Fault) (ws : List Written) (ds : List Dynamic) (i : ℕ) (d : Written) → i < length ws → AreOf n (map parts_of ws) ds
+    → ((before : List Item) → IsGoing e node rows n k first now s t (take i ds ++ (dynamic_of n before (get_or ws i d).target.now (get_or ws i d).assigned.now ∷ []))) → IsGoing e node rows n k first now s t (take (i + 1) ds)
+go-next e node rows n k first now s t ws ds i d l of step =
     let one = nth-of n ws ds i d l of in
-    subst (IsGoing e n m first now s t) (sym (ap (λ k. take k ds) (add-one i) ∙ one.more)) (step one.before)
+    subst (IsGoing e node rows n k first now s t) (sym (ap (λ x. take x ds) (add-one i) ∙ one.more)) (step one.before)

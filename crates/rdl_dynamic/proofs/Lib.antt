@@ -1,5 +1,6 @@
 mod Behind
 mod Going
+mod Knowing
 mod Legal
 mod Marking
 mod Meeting

@@ -11,7 +11,7 @@ use Rattle.rdl_props.specs.contracts.prop.Prop as of_prop
 use Rattle.rdl_dynamic.specs.Marks.{any_of, is_marked}
 use Rattle.rdl_dynamic.specs.declared.marks.Marks.{Marks}
 
-same_prop-is : (p q : Prop) → same_prop p q ≡ true → p ≡ q
+pub same_prop-is : (p q : Prop) → same_prop p q ≡ true → p ≡ q
 same_prop-is p q e = same_true of_prop.the_type tt p q e
 
 passes : (f : Prop → Bool) (p : Prop) (qs : List Prop) → list_any (same_prop p) qs ≡ true → f p ≡ true → list_any f qs ≡ true

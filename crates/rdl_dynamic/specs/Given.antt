@@ -11,6 +11,7 @@ use Rattle.rdl_values.specs.Elaborated.{nodes_of}
 use Rattle.rdl_values.specs.Instances.{Instance, body}
 use Rattle.rdl_values.specs.Lineages.{lineages_of}
 use Rattle.rdl_values.specs.Views.{steps_of}
+use Rattle.rdl_nodes.specs.declared.table.Row.{Row}
 use Rattle.rdl_failures.specs.Noted.{with_all}
 use Rattle.rdl_layers.specs.Assignments.{Dynamic, Nested, is_among, targets}
 use Rattle.rdl_layers.specs.Judged.{all_failures, failures_of_dynamic, sound}
@@ -21,8 +22,8 @@ use Rattle.rdl_layers.specs.declared.rank.Rank.TheVariants as rank
 use Rattle.rdl_layers.specs.Nested.{nested}
 use Rattle.rdl_merge.specs.Merged.{AreEntries}
 use Rattle.rdl_targets.specs.At.{IsAt}
-use Rattle.rdl_dynamic.specs.Marks.{AreMarks}
-use Rattle.rdl_dynamic.specs.declared.marks.Marks.{Marks}
+use Rattle.rdl_dynamic.specs.Known.{AreKnown}
+use Rattle.rdl_dynamic.specs.declared.known.Known.{Known}
 
 -- an assignment of this text in the body of a node, behind these items
 abbrev pub dynamic_of : Instance → List Item → Path → Set → Dynamic
@@ -37,10 +38,10 @@ pub record ArePushed (e : Elab) (b : Nested) (old new : List (Vec PropSetting Gl
   pub same_length : length new ≡ length old
   pub pushed : (j : ℕ) (n : Instance) (xs : List Applied) → j < length old → IsAt (lineages_of e) j n → AreEntries (nodes_of e) (entries_at old j) xs → AreEntries (nodes_of e) (entries_at new j) (xs ++ from_above n b)
 
--- These dynamic assignments in the body of a node have been read: their targets are marked, their failures were put in, and what they
--- give was put behind the entries of each node.
-pub record IsGoing (e : Elab) (n : Instance) (marks : Marks) (first now : List (Vec PropSetting Global)) (before after : List Fault) (read : List Dynamic) : Type 0 where
-  pub marked : AreMarks (lineages_of e) (nested n) marks read
+-- These dynamic assignments in the body of a node have been read: they are known, their failures were put in, and what they give was put
+-- behind the entries of each node.
+pub record IsGoing (e : Elab) (node : ℕ) (rows : List Row) (n : Instance) (known : Known) (first now : List (Vec PropSetting Global)) (before after : List Fault) (read : List Dynamic) : Type 0 where
+  pub are_known : AreKnown e node rows (nested n) known read
   pub noted : after ≡ with_all (all_failures (failures_of_dynamic (nested n)) read) before
   pub same_length : length now ≡ length first
   pub pushed : (j : ℕ) (m : Instance) (xs : List Applied) → j < length first → IsAt (lineages_of e) j m → AreEntries (nodes_of e) (entries_at first j) xs → AreEntries (nodes_of e) (entries_at now j) (xs ++ given_to (nested n) m read)

@@ -19,19 +19,20 @@ use Rattle.rdl_assignments.specs.Layers.{IsGiven}
 use Rattle.rdl_targets.specs.At.{AreAt, IsAt}
 use Rattle.rdl_targets.specs.Contents.{AreContents}
 use Rattle.rdl_targets.specs.declared.contents.Contents.{Contents}
-use Rattle.rdl_dynamic.specs.Marks.{AreMarks}
+use Rattle.rdl_targets.specs.Trails as paths
+use Rattle.rdl_dynamic.specs.Known.{AreKnown}
 use Rattle.rdl_dynamic.specs.declared.dynamic.Led.{Led}
-use Rattle.rdl_dynamic.specs.declared.marks.Marks.{Marks}
+use Rattle.rdl_dynamic.specs.declared.known.Known.{Known}
 
 -- what fails at the targets and of the value, where a property has the name
 abbrev pub known_fails : Nested → List Dynamic → Dynamic → List Fault
 known_fails b earlier d = flat_map (λ n. illegal (legal_on n) d.assigns) (targets b d) ++ bad_value d.assigns ++ taken (map (λ x. x.assigns) (filter (meet b d) earlier)) d.assigns
 
--- The assignment has this text, in the body of the node of this number, and stands behind the marked ones.
-pub record CanLead (e : Elab) (rows : List Row) (contents : Contents) (body : ℕ) (path : Path) (set_ : Set) (visible : Chain) (marks : Marks) (b : Nested) (earlier : List Dynamic) (d : Dynamic) : Type 0 where
+-- The assignment has this text, in the body of the node of this number, and stands behind the known ones.
+pub record CanLead (e : Elab) (rows : List Row) (contents : Contents) (body : ℕ) (path : Path) (set_ : Set) (visible : Chain) (known : Known) (b : Nested) (earlier : List Dynamic) (d : Dynamic) : Type 0 where
   pub are_rows : AreRows e rows
   pub are_contents : AreContents e contents
-  pub are_marks : AreMarks (lineages_of e) b marks earlier
+  pub are_known : AreKnown e body rows b known earlier
   pub of : Instance
   pub here : IsAt (lineages_of e) body of
   pub inside : members b ≡ children of
@@ -39,9 +40,9 @@ pub record CanLead (e : Elab) (rows : List Row) (contents : Contents) (body : �
   pub sets : d.assigns.set_ ≡ set_
   pub shown : IsShown visible (around d.assigns.scope)
 
--- It was judged: its failures were put in, its targets marked, and it is given where nothing fails.
-pub record IsLed (e : Elab) (body : ℕ) (b : Nested) (earlier : List Dynamic) (d : Dynamic) (r : Led) (marks : Marks) (before after : List Fault) : Type 0 where
+-- It was judged: its failures were put in, it is known, and it is given where nothing fails.
+pub record IsLed (e : Elab) (body : ℕ) (rows : List Row) (b : Nested) (earlier : List Dynamic) (d : Dynamic) (r : Led) (known : Known) (before after : List Fault) : Type 0 where
   pub noted : IsNoted (failures_of_dynamic b (earlier, d)) (is_some r.given) before after
-  pub marked : AreMarks (lineages_of e) b marks (earlier ++ (d ∷ []))
-  pub at : AreAt (lineages_of e) r.nodes.items (targets b d)
+  pub are_known : AreKnown e body rows b known (earlier ++ (d ∷ []))
+  pub at : AreAt (lineages_of e) (paths.nodes_of known.trails r.path) (targets b d)
   pub given_ : IfSome r.given (λ g. IsGiven body g d.assigns)

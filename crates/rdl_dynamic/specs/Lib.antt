@@ -1,7 +1,9 @@
 pub mod Given
 pub mod Indices
 pub mod Judged
+pub mod Known
 pub mod Marked
 pub mod Marks
 pub mod Pushed
+pub mod Seen
 pub mod Written

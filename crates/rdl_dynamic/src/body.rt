@@ -21,7 +21,7 @@ ghost use Rattle.rdl_targets.specs.Contents.{AreContents};
 ghost use Rattle.rdl_dynamic.specs.Given.{ArePushed, IsGoing, dynamic_of};
 
 use crate::dynamic::judge_dynamic;
-use crate::marks::Marks;
+use crate::known::Known;
 use crate::pushing::push_all;
 use crate::written::Written;
 use rb_base::NoMemory;
@@ -40,13 +40,13 @@ fn judge_written<'a>(
     written: &Written<'a>,
     node: u32,
     visible: &Chain<'_, '_, '_, 'a>,
-    marks: &mut Marks,
+    known: &mut Known<'a>,
     entries: &mut Vec<Vec<PropSetting<'a>>>,
     failures: &mut Failures,
 ) -> Result<(), NoMemory>
     ensures { OnOk result ((e : Elab) (n : Instance) (first : List (Vec AnyEntry Memory)) (start : List Fault) (read : List Dynamic) (before : List Item)
         → AreRows e rows.now → AreContents e contents.now → IsAt (lineages_of e) node n → IsShown visible.now (around_body n)
-        → IsGoing e n marks.old first entries.old.items start failures.old read → IsGoing e n marks.new first entries.new.items start failures.new (read ++ (dynamic_of n before written.now.target.now written.now.assigned.now ∷ []))) }
+        → IsGoing e node rows.now n known.old first entries.old.items start failures.old read → IsGoing e node rows.now n known.new first entries.new.items start failures.new (read ++ (dynamic_of n before written.now.target.now written.now.assigned.now ∷ []))) }
 {
     let led = judge_dynamic(
         alloc,
@@ -56,11 +56,11 @@ fn judge_written<'a>(
         written.assigned,
         node,
         visible,
-        marks,
+        known,
         failures,
     )?;
     match led.given {
-        Some(given) => push_all(entries, &led.nodes, given, node),
+        Some(given) => push_all(entries, known.trails.nodes(led.path), given, node),
         None => Ok(()),
     }
 }
@@ -83,10 +83,10 @@ pub fn judge_dynamics<'a>(
     ensures pushed { OnOk result ((e : Elab) (n : Instance) → AreRows e rows.now → AreContents e contents.now → IsAt (lineages_of e) node n → AreWritten assignments.now (body_of n).items → IsShown visible.now (around_body n)
         → ArePushed e (nested n) entries.old.items entries.new.items) }
 {
-    let mut marks = Marks::new(alloc);
+    let mut known = Known::new(alloc, node)?;
     for written in assignments {
         judge_written(
-            alloc, rows, contents, written, node, visible, &mut marks, entries, failures,
+            alloc, rows, contents, written, node, visible, &mut known, entries, failures,
         )?;
     }
     Ok(())

@@ -1,11 +1,14 @@
 //! One dynamic assignment, behind those of its body.
 
-ghost use Rattle.std.specs.Prelude.{◌≡◌, ◌++◌, ◌&&◌, List, Some, IfOk, IfSome, OnOk, filter, flat_map, is_some, map};
+ghost use Rattle.std.specs.Prelude.{◌≡◌, ◌++◌, ◌&&◌, List, Some, IfOk, IfSome, true, filter, flat_map, is_some, map};
+ghost use Rattle.std.specs.List.{list_all, list_any};
 ghost use Rattle.rdl_tree.specs.declared.node.Elab.{Elab};
 ghost use Rattle.rdl_values.specs.Bodies.{around};
 ghost use Rattle.rdl_values.specs.Lineages.{lineages_of};
 ghost use Rattle.rdl_values.specs.Views.{steps_of};
+ghost use Rattle.rdl_props.specs.Same.{same_prop};
 ghost use Rattle.rdl_nodes.specs.Rows.{AreRows};
+ghost use Rattle.rdl_nodes.specs.declared.table.Row.{Row as AnyRow};
 ghost use Rattle.rdl_failures.specs.Noted.{IsNoted};
 ghost use Rattle.rdl_failures.specs.Shown.{IsShown};
 ghost use Rattle.rdl_layers.specs.Assignments.{Dynamic, Nested, meet, targets as targets_of};
@@ -14,9 +17,11 @@ ghost use Rattle.rdl_layers.specs.Meanings.{Assignment, prop_of};
 ghost use Rattle.rdl_assignments.specs.Layers.{IsGiven};
 ghost use Rattle.rdl_targets.specs.At.{AreAt};
 ghost use Rattle.rdl_dynamic.specs.Judged.{CanLead, IsLed, known_fails};
-ghost use Rattle.rdl_dynamic.specs.Marks.{AreMarks};
+ghost use Rattle.rdl_dynamic.specs.Known.{legal_at};
+ghost use Rattle.rdl_dynamic.specs.Marks.{AreMarks, is_marked};
 
 use crate::indices::judge_indices;
+use crate::known::Known;
 use crate::laws::met_at_targets;
 use crate::marks::Marks;
 use crate::targets::{judge_kinds, judge_target};
@@ -27,16 +32,16 @@ use rdl_failures::Failures;
 use rdl_layers::Setting;
 use rdl_nodes::Row;
 use rdl_props::{Prop, find, left_out};
-use rdl_targets::{Contents, targets};
+use rdl_targets::Contents;
 use rdl_tree::{Path, Set};
 use rdl_values::Chain;
 use std::alloc::Global;
 
-/// The nodes that a dynamic assignment leads to, and what it gives where it fails no rule.
+/// The path of a dynamic assignment, if it leads anywhere, and what it gives where it fails no rule.
 #[derive(Drop)]
 pub(crate) struct Led<'a> {
     pub given: Option<ValidAssignment<'a>>,
-    pub nodes: Vec<u32>,
+    pub path: Option<u32>,
 }
 
 // Puts in P1 where no property has the name, or P2 where it is one that this project leaves out.
@@ -53,19 +58,30 @@ fn note_name(set: &Set, known: bool, failures: &mut Failures) -> Result<bool, No
     }
 }
 
+// Whether the property is assigned at one of the nodes already, as it is where it was assigned to all of them.
+fn is_taken(marks: &Marks, nodes: &[u32], again: bool, prop: Prop) -> bool
+    ensures { (again ≡ true → list_any (λ k. is_marked marks.now k (same_prop prop)) nodes.now ≡ true) → result ≡ list_any (λ k. is_marked marks.now k (same_prop prop)) nodes.now }
+{
+    if again {
+        return true;
+    }
+    marks.is_taken(nodes, prop)
+}
+
 // Puts in P4 where the property is assigned at one of the nodes already, and P5 where one that excludes it is.
 fn note_taken(
     marks: &Marks,
     nodes: &[u32],
+    again: bool,
     prop: Prop,
     place: Place,
     failures: &mut Failures,
 ) -> Result<bool, NoMemory>
-    ensures { IfOk result (λ clean. (e : Elab) (b : Nested) (d : Dynamic) (earlier : List Dynamic) → AreMarks (lineages_of e) b marks.now earlier → AreAt (lineages_of e) nodes.now (targets_of b d) → d.assigns.set_.place ≡ place → prop_of d.assigns ≡ Some prop
+    ensures { IfOk result (λ clean. (e : Elab) (b : Nested) (d : Dynamic) (earlier : List Dynamic) → AreMarks (lineages_of e) b marks.now earlier → AreAt (lineages_of e) nodes.now (targets_of b d) → d.assigns.set_.place ≡ place → prop_of d.assigns ≡ Some prop → (again ≡ true → list_any (λ k. is_marked marks.now k (same_prop prop)) nodes.now ≡ true)
         → IsNoted (taken (map (λ x. x.assigns) (filter (meet b d) earlier)) d.assigns) clean failures.old failures.new) }
 {
     met_at_targets();
-    let fresh = failures.note(marks.is_taken(nodes, prop), Rule::P4, place)?;
+    let fresh = failures.note(is_taken(marks, nodes, again, prop), Rule::P4, place)?;
     let alone = failures.note(marks.is_excluded(nodes, prop), Rule::P5, place)?;
     Ok(fresh & alone)
 }
@@ -98,8 +114,9 @@ fn kept<'a>(clean: bool, setting: Option<Setting<'a>>) -> Option<Setting<'a>>
 
 // Puts in what fails of an assignment of a property, at the nodes and of its value, and answers what it gives where nothing does.
 fn judge_known<'a>(
-    rows: &[Row<'a>],
+    legal: bool,
     nodes: &[u32],
+    again: bool,
     prop: Prop,
     set: &Set<'a>,
     body: u32,
@@ -107,14 +124,14 @@ fn judge_known<'a>(
     marks: &Marks,
     failures: &mut Failures,
 ) -> Result<Option<Setting<'a>>, NoMemory>
-    ensures noted { IfOk result (λ r. (e : Elab) (b : Nested) (d : Dynamic) (earlier : List Dynamic) → AreRows e rows.now → AreMarks (lineages_of e) b marks.now earlier → AreAt (lineages_of e) nodes.now (targets_of b d) → d.assigns.set_ ≡ set.now → prop_of d.assigns ≡ Some prop
-        → IsShown visible.now (around d.assigns.scope) → IsNoted (known_fails b earlier d) (is_some r) failures.old failures.new) }
+    ensures noted { IfOk result (λ r. (e : Elab) (rows : List AnyRow) (b : Nested) (d : Dynamic) (earlier : List Dynamic) → AreRows e rows → AreMarks (lineages_of e) b marks.now earlier → AreAt (lineages_of e) nodes.now (targets_of b d) → d.assigns.set_ ≡ set.now → prop_of d.assigns ≡ Some prop
+        → IsShown visible.now (around d.assigns.scope) → legal ≡ list_all (legal_at rows prop) nodes.now → (again ≡ true → list_any (λ k. is_marked marks.now k (same_prop prop)) nodes.now ≡ true) → IsNoted (known_fails b earlier d) (is_some r) failures.old failures.new) }
     ensures given { IfOk result (λ r. IfSome r (λ s. (a : Assignment) → a.set_ ≡ set.now → prop_of a ≡ Some prop → IsShown visible.now (around a.scope) → IsGiven body (record { prop = prop; setting = s }) a)) }
 {
-    let legal = judge_kinds(rows, nodes, prop, set.place, failures)?;
+    let fits = judge_kinds(legal, set.place, failures)?;
     let setting = failures.value_of(meaning_of(prop, set, body, visible))?;
-    let free = note_taken(marks, nodes, prop, set.place, failures)?;
-    Ok(kept(legal & free, setting))
+    let free = note_taken(marks, nodes, again, prop, set.place, failures)?;
+    Ok(kept(fits & free, setting))
 }
 
 // What an assignment of the property gives, where the rest is clean.
@@ -132,30 +149,49 @@ fn given_by<'a>(
     }
 }
 
-/// Judges a dynamic assignment behind those of its body that are marked, and marks its targets.
+/// Judges a dynamic assignment behind those of its body that are known, and makes it known.
 pub(crate) fn judge_dynamic<'a>(
     alloc: Global,
     rows: &[Row<'a>],
     contents: &Contents<'a>,
-    path: &Path<'a>,
+    target: &Path<'a>,
     set: &Set<'a>,
     body: u32,
     visible: &Chain<'_, '_, '_, 'a>,
-    marks: &mut Marks,
+    known: &mut Known<'a>,
     failures: &mut Failures,
 ) -> Result<Led<'a>, NoMemory>
-    ensures { IfOk result (λ r. (e : Elab) (b : Nested) (earlier : List Dynamic) (d : Dynamic) → CanLead e rows.now contents.now body path.now set.now visible.now marks.old b earlier d → IsLed e body b earlier d r marks.new failures.old failures.new) }
+    ensures { IfOk result (λ r. (e : Elab) (b : Nested) (earlier : List Dynamic) (d : Dynamic) → CanLead e rows.now contents.now body target.now set.now visible.now known.old b earlier d → IsLed e body rows.now b earlier d r known.new failures.old failures.new) }
 {
-    let nodes = targets(alloc, contents, body, path, visible)?;
+    let path = known.trails.find(alloc, rows, contents, target, visible)?;
     let found = find(set.prop.text);
-    let clean = judge_path(path, set, found.is_some(), &nodes, visible, failures)?;
+    let clean = judge_path(
+        target,
+        set,
+        found.is_some(),
+        known.trails.nodes(path),
+        visible,
+        failures,
+    )?;
     let Some(prop) = found else {
-        return Ok(Led { given: None, nodes });
+        return Ok(Led { given: None, path });
     };
-    let setting = judge_known(rows, &nodes, prop, set, body, visible, marks, failures)?;
-    marks.add_all(alloc, &nodes, prop)?;
+    let legal = known.is_legal(rows, path, prop);
+    let again = known.seen.find(path, prop).is_some();
+    let setting = judge_known(
+        legal,
+        known.trails.nodes(path),
+        again,
+        prop,
+        set,
+        body,
+        visible,
+        &known.marks,
+        failures,
+    )?;
+    known.mark(alloc, path, prop, legal)?;
     Ok(Led {
         given: given_by(clean, prop, setting),
-        nodes,
+        path,
     })
 }

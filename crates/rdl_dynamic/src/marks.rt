@@ -9,7 +9,7 @@ ghost use Rattle.rdl_layers.specs.Ranks as ranks;
 use indexmap::IndexMap;
 use rb_base::NoMemory;
 use rdl_layers::is_related;
-use rdl_props::Prop;
+use rdl_props::{Prop, group};
 use std::alloc::Global;
 
 // Whether the property is one of these.
@@ -62,8 +62,8 @@ impl Marks {
         }
     }
 
-    // Whether the property is assigned at the node.
-    fn has(&self, node: u32, prop: Prop) -> bool
+    /// Whether the property is assigned at the node.
+    pub(crate) fn has(&self, node: u32, prop: Prop) -> bool
         ensures { result ≡ is_marked self.now node (same_prop prop) }
     {
         match self.at.get(&node) {
@@ -89,11 +89,14 @@ impl Marks {
         nodes.iter().any(|node| self.has(*node, prop))
     }
 
-    /// Whether one that excludes it is.
+    /// Whether one that excludes it is, which those of no group have none of.
     pub(crate) fn is_excluded(&self, nodes: &[u32], prop: Prop) -> bool
         ensures { result ≡ list_any (λ k. is_marked self.now k (λ q. ranks.is_related prop q && not (same_prop prop q))) nodes.now }
     {
-        nodes.iter().any(|node| self.has_rival(*node, prop))
+        match group(prop) {
+            Some(_) => nodes.iter().any(|node| self.has_rival(*node, prop)),
+            None => false,
+        }
     }
 
     // Takes the properties of a node out.
@@ -115,8 +118,8 @@ impl Marks {
         Ok(())
     }
 
-    // Marks a node with a property.
-    fn add(&mut self, alloc: Global, node: u32, prop: Prop) -> Result<(), NoMemory>
+    /// Marks a node with a property.
+    pub(crate) fn add(&mut self, alloc: Global, node: u32, prop: Prop) -> Result<(), NoMemory>
         ensures { OnOk result ((other : ℕ) (f : AnyProp → Bool) → is_marked self.new other f ≡ (is_marked self.old other f || ((node == other) && f prop))) }
     {
         if self.has(node, prop) {

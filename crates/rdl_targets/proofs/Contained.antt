@@ -22,7 +22,7 @@ use Rattle.rdl_targets.proofs.Numbered.{no_row, row_at}
 
 -- One by one.
 
-under-append : (key : ℕ → Node → Key) (k : Key) (b : ℕ) (rs ss : List Node) → under key k b (rs ++ ss) ≡ under key k b rs ++ under key k b ss
+pub under-append : (key : ℕ → Node → Key) (k : Key) (b : ℕ) (rs ss : List Node) → under key k b (rs ++ ss) ≡ under key k b rs ++ under key k b ss
 under-append key k b rs ss =
     ap (map id_of) (filter-append (λ r. same_key (key b r) k) rs ss) ∙ map-append id_of (filter (λ r. same_key (key b r) k) rs) (filter (λ r. same_key (key b r) k) ss)
 
@@ -120,7 +120,7 @@ module _ (key : ℕ → Node → Key) (of-body : (b : ℕ) (r : Node) → (key b
       (λ i. first i ++ rest i)
 
 -- The nodes of a body that pass a test.
-inside-passing : (all : List Lineage) (above : List Instance) (beside rs : List Node) (ns : List Instance) (p : Node → Bool) (q : Instance → Bool) → ((r : Node) (n : Instance) → Says beside r n → p r ≡ q n) → AreInside all above beside rs ns
+pub inside-passing : (all : List Lineage) (above : List Instance) (beside rs : List Node) (ns : List Instance) (p : Node → Bool) (q : Instance → Bool) → ((r : Node) (n : Instance) → Says beside r n → p r ≡ q n) → AreInside all above beside rs ns
     → AreAt all (map id_of (filter p rs)) (filter q ns)
 inside-passing all above beside [] [] p q same h = tt
 inside-passing all above beside (r ∷ rs) (n ∷ ns) p q same h = go (p r) (q n) (same r n h.0.says) (ap (option_map (λ (l : Lineage). l.node)) h.0.here) (inside-passing all above beside rs ns p q same h.1)
@@ -133,11 +133,11 @@ inside-passing all above beside (r ∷ rs) (n ∷ ns) p q same h = go (p r) (q n
 inside-passing all above beside [] (n ∷ ns) p q same h = absurd h
 inside-passing all above beside (r ∷ rs) [] p q same h = absurd h
 
-named-same : (k : ℕ) (name : List ℕ) (beside : List Node) (r : Node) (n : Instance) → Says beside r n → same_key (name_key k r) (record { body = k; name = name; index = [] }) ≡ is_named name n
+pub named-same : (k : ℕ) (name : List ℕ) (beside : List Node) (r : Node) (n : Instance) → Says beside r n → same_key (name_key k r) (record { body = k; name = name; index = [] }) ≡ is_named name n
 named-same k name beside r n says =
     ap (λ c. c && bytes_eq (out-Node r).name.now name && true) (itself k) ∙ and-true (bytes_eq (out-Node r).name.now name) ∙ bytes-turn (out-Node r).name.now name ∙ ap (bytes_eq name) says.name
 
-element-same : (k : ℕ) (name index : List ℕ) (beside : List Node) (r : Node) (n : Instance) → Says beside r n → same_key (element_key k r) (record { body = k; name = name; index = index }) ≡ is_element name index n
+pub element-same : (k : ℕ) (name index : List ℕ) (beside : List Node) (r : Node) (n : Instance) → Says beside r n → same_key (element_key k r) (record { body = k; name = name; index = index }) ≡ is_element name index n
 element-same k name index beside r n says =
     ap (λ c. c && bytes_eq (out-Node r).name.now name && bytes_eq (out-Node r).index.now index) (itself k)
     ∙ (λ i. (bytes-turn (out-Node r).name.now name ∙ ap (bytes_eq name) says.name) i && (bytes-turn (out-Node r).index.now index ∙ ap (bytes_eq index) says.index) i)

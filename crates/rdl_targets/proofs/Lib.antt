@@ -1,5 +1,7 @@
 pub mod Contained
 mod Leading
+mod Listing
 pub mod Numbered
 mod Stepping
+mod Walking
 mod Wants

@@ -3,7 +3,8 @@
 
 mod contents;
 mod matching;
-mod paths;
+mod noting;
+mod trails;
 
 pub use contents::{Contents, contents_of, row_at};
-pub use paths::targets;
+pub use trails::Trails;

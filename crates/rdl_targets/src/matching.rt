@@ -1,12 +1,18 @@
-//! The indices that a step wants.
+//! The indices that a step wants, and the nodes that have them.
 
-ghost use Rattle.std.specs.Prelude.{◌≡◌, IfOk, option_map, Some};
+ghost use Rattle.std.specs.Prelude.{◌≡◌, List, IfOk, OnOk, option_map, Some, ◌++◌, filter, flat_map};
 ghost use Rattle.std.specs.Result.{result_ok};
+ghost use Rattle.rdl_tree.specs.declared.node.Elab.{Elab};
+ghost use Rattle.rdl_values.specs.Instances.{Instance, children};
+ghost use Rattle.rdl_values.specs.Lineages.{lineages_of};
 ghost use Rattle.rdl_values.specs.Uses.{values};
 ghost use Rattle.rdl_values.specs.Values.{Around};
 ghost use Rattle.rdl_failures.specs.Shown.{IsShown};
+ghost use Rattle.rdl_targets.specs.At.{AreAt};
+ghost use Rattle.rdl_targets.specs.Contents.{AreContents, passes};
 ghost use Rattle.rdl_targets.specs.Steps.{AreNumbers, Wants};
 
+use crate::contents::Contents;
 use rb_base::NoMemory;
 use rdl_failures::number_seen;
 use rdl_tree::Expr;
@@ -57,4 +63,31 @@ pub(crate) fn indices_of<'a>(
         Some(numbers) => Ok(Wanted::These(numbers)),
         None => Ok(Wanted::None),
     }
+}
+
+// Puts nodes behind others.
+fn add_all(list: &mut Vec<u32>, nodes: &[u32]) -> Result<(), NoMemory>
+    ensures { OnOk result (list.new.items ≡ list.old.items ++ nodes.now) }
+{
+    for node in nodes {
+        list.push(*node)?;
+    }
+    Ok(())
+}
+
+/// The nodes in the bodies of some that have a name and the indices that are wanted.
+pub(crate) fn matching(
+    alloc: Global,
+    contents: &Contents<'_>,
+    nodes: &[u32],
+    name: &[u8],
+    wanted: &Wanted,
+) -> Result<Vec<u32>, NoMemory>
+    ensures { IfOk result (λ r. (e : Elab) (ns : List Instance) → AreContents e contents.now → AreAt (lineages_of e) nodes.now ns → AreAt (lineages_of e) r.items (filter (passes wanted.now name.now) (flat_map children ns))) }
+{
+    let mut list = Vec::new(alloc);
+    for node in nodes {
+        add_all(&mut list, (&*contents).all(*node, &*name, &*wanted))?;
+    }
+    Ok(list)
 }

@@ -15,4 +15,4 @@ use Rattle.rdl_dynamic.proofs.body.judge_dynamics.Given as goal
 
 abbrev pub invariant-loop-written : goal.invariant-loop-written
 invariant-loop-written l = (e : Elab) (n : Instance) (ds : List Dynamic) → AreRows e l.rows → AreContents e l.contents → IsAt (lineages_of e) l.node n → IsShown l.visible (around_body n) → AreOf n (map parts_of l.assignments) ds
-    → IsGoing e n l.marks l.initial.entries.items l.entries.items l.initial.failures l.failures (take l.written-index ds)
+    → IsGoing e l.node l.rows n l.known l.initial.entries.items l.entries.items l.initial.failures l.failures (take l.written-index ds)
