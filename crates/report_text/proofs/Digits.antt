@@ -38,7 +38,8 @@ enough (suc k) n acc l =
     either true ih = refl
     either false ih = ih
 
-one : (n : ℕ) → n < 16 → digits 16 false n ≡ digit_glyph false n ∷ []
+-- a number below 16 has one digit
+pub one : (n : ℕ) → n < 16 → digits 16 false n ≡ digit_glyph false n ∷ []
 unfolding digits
 one n l =
     let same : n % 16 ≡ n = omega arith in

@@ -45,6 +45,32 @@ fn digits_behind_first(number: u64) -> u32
     }
 }
 
+/// Adds a number of one digit as a cell, within room that is taken once.
+fn push_digit(text: &mut Vec<u8>, number: u64) -> Result<(), NoMemory>
+    requires { number < 16 }
+    ensures { OnOk result (text.new.items ≡ text.old.items ++ cell number) }
+{
+    text.reserve(3)?;
+    text.push_reserved(b'0');
+    text.push_reserved(b'x');
+    text.push_reserved(hex_digit(number));
+    Ok(())
+}
+
+/// Adds a number of two digits as a cell, within room that is taken once.
+fn push_two_digits(text: &mut Vec<u8>, number: u64) -> Result<(), NoMemory>
+    requires two { 16 ≤ number }
+    requires no_more { number < 256 }
+    ensures { OnOk result (text.new.items ≡ text.old.items ++ cell number) }
+{
+    text.reserve(4)?;
+    text.push_reserved(b'0');
+    text.push_reserved(b'x');
+    text.push_reserved(hex_digit(number / 16));
+    text.push_reserved(hex_digit(number % 16));
+    Ok(())
+}
+
 /// Adds a number below 2^64 as a cell, from the first digit to the last, within room that is taken once.
 fn push_narrow(text: &mut Vec<u8>, number: u64) -> Result<(), NoMemory>
     ensures { OnOk result (text.new.items ≡ text.old.items ++ cell number) }
@@ -76,7 +102,11 @@ fn push_wide(text: &mut Vec<u8>, number: u128) -> Result<(), NoMemory>
 pub fn push_number(text: &mut Vec<u8>, number: u128) -> Result<(), NoMemory>
     ensures { OnOk result (text.new.items ≡ text.old.items ++ cell number) }
 {
-    if number <= u128::from(u64::MAX) {
+    if number < 16 {
+        push_digit(text, number as u64)
+    } else if number < 256 {
+        push_two_digits(text, number as u64)
+    } else if number <= u128::from(u64::MAX) {
         push_narrow(text, number as u64)
     } else {
         push_wide(text, number)
