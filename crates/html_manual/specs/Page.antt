@@ -16,20 +16,17 @@ use Rattle.manual_units.specs.Units.{lots, units}
 use Rattle.manual_units.specs.declared.lots.Lot.{Lot}
 use Rattle.html_manual.specs.declared.tables.Tables.{Tables}
 use Rattle.html_manual.specs.Enumerations.{enumerations}
-use Rattle.html_manual.specs.Groups.{groups}
+use Rattle.html_manual.specs.Groups.{groups, texts}
 use Rattle.html_manual.specs.Interrupts.{interrupts, tables}
 use Rattle.html_manual.specs.Style.{style}
 
 -- Signals.
 
 abbrev pub signal_cells : ℕ → Signal → List ℕ
-signal_cells k g = codes "<tr><td class=\"f\" id=\"signal:" ++ decimal k ++ codes "\">" ++ code (signal_name g) ++ codes "</td><td class=\"n\">" ++ decimal g.width ++ codes "</td><td class=\"m\">"
-
-abbrev pub texts : List Said → ℕ → List ℕ
-texts notes k = paragraph (said_at notes k).name ++ paragraph (said_at notes k).desc
+signal_cells k g = codes "<tr><td class=\"f\" id=\"signal::" ++ decimal k ++ codes "\">" ++ code (signal_name g) ++ codes "</td><td class=\"n\">" ++ decimal g.width ++ codes "</td><td class=\"m\">"
 
 abbrev pub signal_row : List Said → ℕ × Signal → List ℕ
-signal_row notes g = signal_cells g.0 g.1 ++ texts notes g.0 ++ codes "</td></tr>\n"
+signal_row notes g = signal_cells g.0 g.1 ++ texts (said_at notes g.0) ++ codes "</td></tr>\n"
 
 abbrev pub signals_head : List ℕ
 signals_head = codes "<h2>Signals</h2>\n<div class=\"wide\">\n<table>\n<tr><th scope=\"col\">Pin</th><th scope=\"col\">Bits</th><th scope=\"col\">Meaning</th></tr>\n<tr><td class=\"f\"><code>PRESETn</code></td><td class=\"n\">1</td><td class=\"m\">Resets every field that names no other reset; low, asynchronous.</td></tr>\n"
@@ -80,7 +77,7 @@ abbrev pub outputs : Block → AllSaid → Enumerations → Plan → List ℕ
 outputs b n es p = interrupts (far_sight b es p) p.tables ++ signals n.signals b.signals
 
 unfoldable pub planned_page : Block → AllSaid → Enumerations → Plan → List ℕ
-planned_page b n es p = head b.name ++ top_texts n.top ++ registers b n es p ++ groups (far_sight b es p) n.groups ++ outputs b n es p ++ enumerations (far_sight b es p) ++ codes "</body>\n</html>\n"
+planned_page b n es p = head b.name ++ top_texts n.top ++ registers b n es p ++ groups (far_sight b es p) n.groups ++ outputs b n es p ++ enumerations (far_sight b es p) n.enums ++ codes "</body>\n</html>\n"
 
 abbrev pub page : Block → AllSaid → Enumerations → List ℕ
 page b n es = planned_page b n es (plan b n es)

@@ -126,9 +126,9 @@ fn put_outputs<K: Sink>(pen: &mut Pen, out: &mut K, manual: &Manual<'_>)
 }
 
 fn put_all_enumerations<K: Sink>(pen: &mut Pen, out: &mut K, manual: &Manual<'_>)
-    ensures { Writes (at (K.told out.old) (K.faults out.old) pen.old) (at (K.told out.new) (K.faults out.new) pen.new) (enumerations (spec.far_sight manual.now.block manual.now.encodings manual.now.plan)) }
+    ensures { Writes (at (K.told out.old) (K.faults out.old) pen.old) (at (K.told out.new) (K.faults out.new) pen.new) (enumerations (spec.far_sight manual.now.block manual.now.encodings manual.now.plan) manual.now.notes.enums) }
 {
-    put_enumerations(pen, out, &far_sight(manual));
+    put_enumerations(pen, out, &far_sight(manual), &manual.notes.enums);
 }
 
 fn put_named_head<K: Sink>(pen: &mut Pen, out: &mut K, manual: &Manual<'_>)

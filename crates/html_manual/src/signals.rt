@@ -2,7 +2,9 @@
 
 ghost use Rattle.std.specs.Prelude.{◌≡◌, ◌++◌, codes, flat_map, if◌then◌else◌};
 ghost use Rattle.std.specs.List.{enumerate_from};
+ghost use Rattle.html_manual.specs.Groups.{texts};
 ghost use Rattle.html_manual.specs.Page as spec;
+ghost use Rattle.manual_sections.specs.Rows.{said_at};
 ghost use Rattle.html_text.specs.Tags as tags;
 ghost use Rattle.html_text.specs.Writing.{Writes, at};
 ghost use Rattle.rb_model.specs.Ports.{signal_name};
@@ -49,7 +51,7 @@ fn put_pin<K: Sink>(pen: &mut Pen, out: &mut K, signal: &Signal)
 fn put_cells<K: Sink>(pen: &mut Pen, out: &mut K, number: usize, signal: &Signal)
     ensures { Writes (at (K.told out.old) (K.faults out.old) pen.old) (at (K.told out.new) (K.faults out.new) pen.new) (spec.signal_cells number signal.now) }
 {
-    put(pen, out, b"<tr><td class=\"f\" id=\"signal:");
+    put(pen, out, b"<tr><td class=\"f\" id=\"signal::");
     put_place(pen, out, number);
     put(pen, out, b"\">");
     put_pin(pen, out, signal);
@@ -58,8 +60,9 @@ fn put_cells<K: Sink>(pen: &mut Pen, out: &mut K, number: usize, signal: &Signal
     put(pen, out, b"</td><td class=\"m\">");
 }
 
-fn put_texts<K: Sink>(pen: &mut Pen, out: &mut K, notes: &[Note<'_>], number: usize)
-    ensures { Writes (at (K.told out.old) (K.faults out.old) pen.old) (at (K.told out.new) (K.faults out.new) pen.new) (spec.texts notes.now number) }
+/// Writes what the source says of the part of a number.
+pub(crate) fn put_texts<K: Sink>(pen: &mut Pen, out: &mut K, notes: &[Note<'_>], number: usize)
+    ensures { Writes (at (K.told out.old) (K.faults out.old) pen.old) (at (K.told out.new) (K.faults out.new) pen.new) (texts (said_at notes.now number)) }
 {
     put_name_at(pen, out, notes, number);
     put_desc_at(pen, out, notes, number);

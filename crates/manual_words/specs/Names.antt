@@ -86,8 +86,9 @@ field_item s k property = linked s (get_or s.fields k []) (field_path s.block k)
 abbrev pub reg_item : Sight → ℕ → List ℕ → List ℕ
 reg_item s k property = linked s (get_or s.regs k []) (reg_path s.block k) property
 
+-- its mark has two colons, as that of no word has
 abbrev pub signal_item : Sight → ℕ → List ℕ
-signal_item s k = codes "<a href=\"#signal:" ++ decimal k ++ codes "\"><code>" ++ relative true s.named s.own (signal_path s.block k) ++ codes "</code></a>"
+signal_item s k = codes "<a href=\"#signal::" ++ decimal k ++ codes "\"><code>" ++ relative true s.named s.own (signal_path s.block k) ++ codes "</code></a>"
 
 -- the number of the enumeration by which the field of a number is encoded
 abbrev pub encoded_by : Sight → ℕ → Option ℕ
@@ -96,7 +97,7 @@ encoded_by s k = get_or s.encodings.fields k None
 abbrev pub enumeration_name : Sight → ℕ → List ℕ
 enumeration_name s k = option_map_or (λ e. e.name) (slice_get s.encodings.list k) []
 
--- its mark has two colons, as that of no word has
+-- its mark has two colons as well
 abbrev pub enumeration_item : Sight → ℕ → List ℕ
 enumeration_item s k = codes "<a href=\"#enum::" ++ decimal k ++ codes "\"><code>" ++ enumeration_name s k ++ codes "</code></a>"
 

@@ -319,7 +319,7 @@ pub fn put_field_at<K: Sink>(pen: &mut Pen, out: &mut K, sight: &Sight<'_>, numb
 pub fn put_signal_item<K: Sink>(pen: &mut Pen, out: &mut K, sight: &Sight<'_>, number: u32)
     ensures { Writes (at (K.told out.old) (K.faults out.old) pen.old) (at (K.told out.new) (K.faults out.new) pen.new) (spec.signal_item sight.now number) }
 {
-    put(pen, out, b"<a href=\"#signal:");
+    put(pen, out, b"<a href=\"#signal::");
     put_number(pen, out, number);
     put(pen, out, b"\"><code>");
     put_signal_path(pen, out, sight, number);

@@ -23,4 +23,4 @@ with_one ls i e = cond (list_any (λ x. same_enum x.1 e) ls) ls (ls ++ ((i, e) �
 
 -- as documents have it
 abbrev pub shown : ℕ × EnumOf → Enumeration
-shown x = record { name = x.1.name; field = x.0; entries = x.1.entries }
+shown x = record { name = x.1.name; place = x.1.place; field = x.0; entries = x.1.entries }

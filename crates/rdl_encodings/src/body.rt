@@ -1,7 +1,5 @@
 //! The enumerations of one open body.
 
-ghost use Rattle.std.specs.Prelude.{◌≡◌, find, nat_lt};
-
 use crate::lists::EntryLists;
 use rb_base::NoMemory;
 use rdl_facts::Places;
@@ -13,13 +11,6 @@ use std::alloc::Global;
 pub(crate) struct BodyEnums<'a> {
     places: Places<'a>,
     lists: EntryLists<'a>,
-}
-
-// The first of these places before a name's.
-fn first_before(places: &[u32], name: &Name<'_>) -> Option<u32>
-    ensures { result ≡ find (λ p. nat_lt p name.now.place.0) places.now }
-{
-    places.iter().copied().find(|place| *place < name.place.0)
 }
 
 impl<'a> BodyEnums<'a> {
@@ -43,7 +34,7 @@ impl<'a> BodyEnums<'a> {
     pub fn place(&self, name: &Name<'a>) -> Option<u32>
         ensures { result ≡ place_in self.now name.now }
     {
-        first_before(self.places.all(name.text), name)
+        self.places.before(name)
     }
 
     /// The entries of the enumeration that stands at this place.

@@ -68,6 +68,7 @@ impl<'a> Distinct<'a> {
         let entries = copied(alloc, &key.entries)?;
         self.list.push(Encoding {
             name,
+            place: key.place,
             field,
             entries,
         })?;

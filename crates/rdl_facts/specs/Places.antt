@@ -1,5 +1,5 @@
 -- Where the enumerations of a name stand.
-use Rattle.std.specs.Prelude.{◌≡◌, ℕ, List, [], filter, map, bytes_eq, Option, None, Some, Vec}
+use Rattle.std.specs.Prelude.{◌≡◌, ℕ, List, [], filter, find, map, nat_lt, bytes_eq, Option, None, Some, Vec}
 use Rattle.std.specs.Global.{Global}
 use Rattle.std.specs.BTreeMap.{get_by}
 use Rattle.std.specs.Cmp.Lexicographic.{slice_cmp}
@@ -14,6 +14,10 @@ listed (Some v) = v.items
 -- the places that are found under a name
 abbrev pub places_of : Places → List ℕ → List ℕ
 places_of t n = listed (get_by (λ k. slice_cmp nat_cmp n k.now) t.by_name)
+
+-- the first place before a name of those that are found under it
+abbrev pub place_before : Places → Name → Option ℕ
+place_before t n = find (λ p. nat_lt p n.place.0) (places_of t n.text.now)
 
 -- They are those of these names, in order.
 pub record ArePlaces (t : Places) (names : List Name) : Type 0 where

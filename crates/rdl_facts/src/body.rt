@@ -1,7 +1,5 @@
 //! The enumerations of one open body.
 
-ghost use Rattle.std.specs.Prelude.{◌≡◌, find, nat_lt};
-
 use crate::greatest::Greatest;
 use crate::places::Places;
 use rb_base::NoMemory;
@@ -13,13 +11,6 @@ use std::alloc::Global;
 pub(crate) struct BodyEnums<'a> {
     places: Places<'a>,
     greatest: Greatest,
-}
-
-// The first of these places before a name's.
-fn first_before(places: &[u32], name: &Name<'_>) -> Option<u32>
-    ensures { result ≡ find (λ p. nat_lt p name.now.place.0) places.now }
-{
-    places.iter().copied().find(|place| *place < name.place.0)
 }
 
 impl<'a> BodyEnums<'a> {
@@ -42,7 +33,7 @@ impl<'a> BodyEnums<'a> {
     pub fn place(&self, name: &Name<'a>) -> Option<u32>
         ensures { result ≡ place_in self.now name.now }
     {
-        first_before(self.places.all(name.text), name)
+        self.places.before(name)
     }
 
     /// The greatest number of the enumeration that stands at this place.

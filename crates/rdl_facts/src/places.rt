@@ -1,6 +1,8 @@
 //! Where the enumerations of a name stand.
 
-use rb_base::NoMemory;
+ghost use Rattle.std.specs.Prelude.{◌≡◌, find, nat_lt};
+
+use rb_base::{NoMemory, Place};
 use rdl_tree::Name;
 use std::alloc::Global;
 use std::collections::BTreeMap;
@@ -11,18 +13,32 @@ pub struct Places<'a> {
     by_name: BTreeMap<&'a [u8], Vec<u32>>,
 }
 
+// The first of some places before another one.
+fn first_before(places: &[u32], end: Place) -> Option<u32>
+    ensures { result ≡ find (λ p. nat_lt p end.0) places.now }
+{
+    places.iter().copied().find(|place| *place < end.0)
+}
+
 impl<'a> Places<'a> {
     ghost use Rattle.std.specs.Prelude.{◌≡◌, ◌∷◌, ◌++◌, [], ℕ, List, IfOk, OnOk, bytes_eq, cond};
-    ghost use Rattle.rdl_facts.specs.Places.{ArePlaces, places_of};
+    ghost use Rattle.rdl_facts.specs.Places.{ArePlaces, place_before, places_of};
 
-    /// Those of a name.
-    pub fn all<'s>(&'s self, name: &'s [u8]) -> &'s [u32]
+    // Those of a name.
+    fn all<'s>(&'s self, name: &'s [u8]) -> &'s [u32]
         ensures { result.now ≡ places_of self.now name.now }
     {
         match self.by_name.get(name) {
             Some(list) => list,
             None => &[],
         }
+    }
+
+    /// The first place before a name of those of its text.
+    pub fn before(&self, name: &Name<'_>) -> Option<u32>
+        ensures { result ≡ place_before self.now name.now }
+    {
+        first_before(self.all(name.text), name.place)
     }
 
     // Takes those of a name out.

@@ -11,7 +11,7 @@ use Rattle.rdl_nodes.specs.Rows.{AreRows, IsRow}
 use Rattle.rdl_nodes.proofs.Members.{get-within}
 use Rattle.rdl_sizes.proofs.Facts.{count-is, node-at, row-at}
 use Rattle.rdl_sizes.proofs.Turns.{inside-at, read-at}
-use Rattle.rdl_notes.specs.Standing.{IsRowOf}
+use Rattle.rdl_encodings.specs.Standing.{IsRowOf}
 
 -- The node of a number, which says its kind.
 pub record IsNode (e : Elab) (r : Node) (n : Instance) : Type 0 where

@@ -1,4 +1,5 @@
+pub mod Entries
 pub mod Groups
+pub mod Known
 pub mod Notes
 pub mod Seen
-pub mod Standing

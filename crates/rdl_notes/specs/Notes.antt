@@ -1,6 +1,6 @@
 -- What a source says of the parts of its block: the strings of their `name` and `desc` (SystemRDL 2.0, 5.2.1).
-use Rattle.std.specs.Prelude.{ℕ, Bool, not, ◌&&◌, ◌||◌, List, [], ◌∷◌, filter, flat_map, map, Option, None, Some, is_some}
-use Rattle.block_effects.specs.Notes.{AllSaid, Said, SaidGroup}
+use Rattle.std.specs.Prelude.{ℕ, Bool, not, ◌&&◌, List, [], ◌∷◌, filter, flat_map, map, Option, None, Some}
+use Rattle.block_effects.specs.Notes.{AllSaid, Said, SaidGroup, is_said}
 use Rattle.rdl_tree.specs.declared.item.Source.{Source}
 use Rattle.rdl_props.specs.declared.prop.Prop.TheVariants as prop
 use Rattle.rdl_values.specs.Instances.{Instance, is_empty, nodes, top_of}
@@ -8,7 +8,9 @@ use Rattle.rdl_values.specs.Uses.{path_text}
 use Rattle.rdl_layers.specs.Fields.{fields_of, is_container}
 use Rattle.rdl_layers.specs.Forms.{Meaning, text}
 use Rattle.rdl_layers.specs.Settings.{setting}
+use Rattle.rdl_encodings.specs.Encoded.{source_encodings}
 use Rattle.rdl_rules.specs.Numbers.{all_signals, registers}
+use Rattle.rdl_notes.specs.Entries.{entries_said}
 use Rattle.rdl_notes.specs.Groups.{once}
 
 -- the bytes between the quotes, of a property that is set to a string
@@ -26,9 +28,6 @@ note_of_top (n ∷ ns) = note_of n
 
 -- Groups: the address maps and register files below the top, whose own path is empty, of which something is said.
 
-abbrev pub is_said : Said → Bool
-is_said said = is_some said.name || is_some said.desc
-
 abbrev pub is_group : Instance → Bool
 is_group n = is_container n && (not (is_empty (path_text n.path)) && is_said (note_of n))
 
@@ -40,7 +39,8 @@ abbrev pub groups_of : List Instance → List SaidGroup
 groups_of ns = once (map group_of (filter is_group ns))
 
 -- Those of the parts of a source's block, where the definition of a name is wanted as the top: of its registers, of the fields of each,
--- and of its signals, as the lists of the block have them, and of the groups that they stand in.
+-- and of its signals, as the lists of the block have them, of the groups that they stand in, and of the entries of the enumerations that
+-- fields are encoded by.
 abbrev pub notes_of : Option (List ℕ) → Source → AllSaid
 notes_of wanted s = record {
   top = note_of_top (top_of wanted s);
@@ -48,4 +48,5 @@ notes_of wanted s = record {
   views = flat_map (λ r. map note_of (fields_of r)) (registers (nodes wanted s));
   signals = map note_of (all_signals (nodes wanted s));
   groups = groups_of (nodes wanted s);
+  enums = map (λ e. entries_said s e.place) (source_encodings wanted s).list;
 }

@@ -9,25 +9,19 @@ ghost use Rattle.rdl_nodes.specs.Rows.{AreRows};
 ghost use Rattle.rdl_block_numbers.specs.Texts.{AreTexts};
 ghost use Rattle.rdl_notes.specs.Groups.{behind};
 ghost use Rattle.rdl_notes.specs.Notes as spec;
-ghost use Rattle.rdl_notes.specs.Notes.{group_of, is_group, is_said, note_of};
+ghost use Rattle.block_effects.specs.Notes.{is_said};
+ghost use Rattle.rdl_notes.specs.Notes.{group_of, is_group, note_of};
 ghost use Rattle.rdl_notes.specs.Seen.{IsSeenOf};
 
 use crate::note::note_at;
 use crate::seen::{Seen, add_group};
-use block_effects::{Group, Note};
+use block_effects::Group;
 use rb_base::{NoMemory, Text};
 use rdl_block_numbers::path_texts;
 use rdl_layers::Props;
 use rdl_nodes::Row;
 use rdl_tree::{Elab, Node};
 use std::alloc::Global;
-
-/// Whether something is said.
-fn says(note: &Note<'_>) -> bool
-    ensures { result ≡ is_said note.now }
-{
-    note.name.is_some() || note.desc.is_some()
-}
 
 /// The path of the node of this number.
 fn path_at(texts: &[Text], node: u32) -> &[u8]
@@ -54,7 +48,7 @@ fn add_container<'a>(
     ensures seen { OnOk result (IsSeenOf list.new.items seen.new) }
 {
     let note = note_at(props, node);
-    if path.is_empty() || !says(&note) {
+    if path.is_empty() || !note.says() {
         return Ok(());
     }
     add_group(alloc, seen, list, path, note)?;

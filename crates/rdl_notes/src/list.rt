@@ -9,7 +9,7 @@ ghost use Rattle.rdl_nodes.specs.Rows.{AreRows};
 ghost use Rattle.rdl_layers.specs.Fields.{fields_of, is_a};
 ghost use Rattle.rdl_rules.specs.Numbers.{registers};
 ghost use Rattle.rdl_notes.specs.Notes.{note_of};
-ghost use Rattle.rdl_notes.specs.Standing.{IsRowOf};
+ghost use Rattle.rdl_encodings.specs.Standing.{IsRowOf};
 
 use crate::note::add_note;
 use block_effects::Note;

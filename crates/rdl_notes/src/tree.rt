@@ -2,12 +2,15 @@
 
 ghost use Rattle.std.specs.Prelude.{◌≡◌, ℕ, IfOk, List, Option};
 ghost use Rattle.rdl_values.specs.Elaboration.{Elaborates, IsClean};
+ghost use Rattle.rdl_encodings.specs.Encoded.{source_encodings};
 ghost use Rattle.rdl_notes.specs.Notes as spec;
 
+use crate::entries::entry_notes;
 use crate::groups::groups_of;
 use crate::list::{notes_of_kind, view_notes};
 use crate::note::note_at;
 use block_effects::Notes;
+use encodings::Encodings;
 use rb_base::NoMemory;
 use rdl_layers::Props;
 use rdl_nodes::rows;
@@ -15,16 +18,17 @@ use rdl_tree::{Elab, Kind};
 use rdl_values::name_decides_the_top;
 use std::alloc::Global;
 
-/// What the source of a tree says of the parts of its block: slices of the source, in the order of the block's lists. The only error is
-/// want of memory.
+/// What the source of a tree says of the parts of its block, whose enumerations are given: slices of the source, in the order of the
+/// block's lists. The only error is want of memory.
 pub fn notes_of<'a>(
     alloc: Global,
     props: &Props<'a>,
     elab: &Elab<'a>,
+    encodings: &Encodings<'_>,
 ) -> Result<Notes<'a>, NoMemory>
     requires clean { IsClean elab.now }
     requires props { props.now ≡ elab.now }
-    ensures { IfOk result (λ n. (wanted : Option (List ℕ)) → Elaborates wanted elab.now.source.now elab.now → n ≡ spec.notes_of wanted elab.now.source.now) }
+    ensures { IfOk result (λ n. (wanted : Option (List ℕ)) → Elaborates wanted elab.now.source.now elab.now → encodings.now ≡ source_encodings wanted elab.now.source.now → n ≡ spec.notes_of wanted elab.now.source.now) }
 {
     name_decides_the_top();
     let rows = rows(alloc, elab)?;
@@ -32,6 +36,7 @@ pub fn notes_of<'a>(
     let views = view_notes(alloc, props, &rows)?;
     let signals = notes_of_kind(alloc, props, &rows, Kind::Signal)?;
     let groups = groups_of(alloc, props, elab, &rows)?;
+    let enums = entry_notes(alloc, elab.source, encodings)?;
     let top = note_at(props, elab.top.id);
     Ok(Notes {
         top,
@@ -39,5 +44,6 @@ pub fn notes_of<'a>(
         views,
         signals,
         groups,
+        enums,
     })
 }

@@ -37,7 +37,7 @@ fn manual_of_judged<'a>(alloc: Global, judged: Judged<'a>) -> Result<Manual<'a>,
         facts: _facts,
         encodings,
     } = settled;
-    let notes = notes_of(alloc, &props, &elab)?;
+    let notes = notes_of(alloc, &props, &elab, &encodings)?;
     let manual = prepare(alloc, block, notes, encodings)?;
     Ok(manual)
 }

@@ -1,5 +1,5 @@
 use Rattle.std.specs.List.{enumerate_from}
-use Rattle.std.proofs.Common.{arith}
+use Rattle.std.proofs.Common.{arith, map}
 use Rattle.html_text.specs.Writing.{at}
 use Rattle.html_text.proofs.Wrote.{nothing, of_bytes, wrote}
 use Rattle.html_text.proofs.Each.{last, more, numbered, numbered_length, read}
@@ -14,9 +14,9 @@ loop-at-preserved g c =
     let items = c.args.list.now in
     let k = c.loop-at.at in
     let item = c.index-list-at.result in
-    of_bytes (more (enumeration_section c.args.sight.now) (enumerate_from 0 items) k (k, item) (numbered items k item (read items k item c.loop-at-test.true c.index-list-at.is))) (wrote c.loop-at.invariant c.put_enumeration.ensures)
+    of_bytes (more (enumeration_section c.args.sight.now (map (λ v. v.items) c.args.notes.now)) (enumerate_from 0 items) k (k, item) (numbered items k item (read items k item c.loop-at-test.true c.index-list-at.is))) (wrote c.loop-at.invariant c.put_enumeration.ensures)
 
 pub returns : goal.returns
 returns g c =
     let items = c.args.list.now in
-    of_bytes (last (enumeration_section c.args.sight.now) (enumerate_from 0 items) c.loop-at.at (omega (arith, numbered_length 0 items, c.loop-at-test.false))) c.loop-at.invariant
+    of_bytes (last (enumeration_section c.args.sight.now (map (λ v. v.items) c.args.notes.now)) (enumerate_from 0 items) c.loop-at.at (omega (arith, numbered_length 0 items, c.loop-at-test.false))) c.loop-at.invariant

@@ -5,7 +5,8 @@ use Rattle.rdl_tree.specs.Kinds.{same_kind}
 use Rattle.rdl_values.specs.Instances.{is_empty}
 use Rattle.rdl_values.specs.Uses.{path_text}
 use Rattle.rdl_notes.specs.Groups.{behind}
-use Rattle.rdl_notes.specs.Notes.{group_of, is_said, note_of}
+use Rattle.block_effects.specs.Notes.{is_said}
+use Rattle.rdl_notes.specs.Notes.{group_of, note_of}
 use Rattle.rdl_notes.proofs.groups.add_node.Goals as goal
 
 pub returns-then-not-is_container-clause-listed : goal.returns-then-not-is_container-clause-listed

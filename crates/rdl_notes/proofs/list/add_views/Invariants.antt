@@ -4,7 +4,7 @@ use Rattle.rdl_values.specs.Instances.{children}
 use Rattle.rdl_values.specs.Lineages.{Lineage}
 use Rattle.rdl_layers.specs.Fields.{is_a}
 use Rattle.rdl_notes.specs.Notes.{note_of}
-use Rattle.rdl_notes.specs.Standing.{IsRowOf}
+use Rattle.rdl_encodings.specs.Standing.{IsRowOf}
 use Rattle.rdl_notes.proofs.list.add_views.Given as goal
 
 abbrev pub invariant-loop-child : goal.invariant-loop-child

@@ -15,5 +15,5 @@ prepare-requires c = c.requires.1.1.described.sound
 pub returns : goal.returns
 returns c = λ wanted text j.
     let b = c.args.judged.block in
-    let noted = c.in_ok-notes.ensures wanted j.tree in
+    let noted = c.in_ok-notes.ensures wanted j.tree j.encodings in
     c.in_ok-manual.ensures ∙ ap (λ n. page b n c.args.judged.settled.encodings) noted ∙ ap (page b (notes_of wanted c.args.judged.elab.source.now)) j.encodings
