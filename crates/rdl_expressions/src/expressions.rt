@@ -68,12 +68,12 @@ fn level(op: Op) -> u8
     }
 }
 
-impl<'a> Parser<'a> {
+impl<'t, 'a> Parser<'t, 'a> {
     // Takes the next token, if it is an operator that binds at least so tightly.
     fn operator(&mut self, least: u8) -> Option<(Op, Place)>
         ensures { MatchOption result ((self.new ≡ self.old) × IsLooser least self.old) (λ o. TakesOperator least self.old self.new o.0 o.1) }
     {
-        let all: &'a [CompactToken<'a>] = self.rest;
+        let all: &'t [CompactToken<'a>] = self.rest;
         let next = all.first()?;
         let first = next.token();
         let TokenKind::Mark(mark) = first.kind else {

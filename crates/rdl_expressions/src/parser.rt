@@ -100,12 +100,12 @@ fn is_value(word: Keyword) -> bool
 
 /// The tokens that are left, and the arena in which the tree lies.
 #[derive(Drop)]
-pub struct Parser<'a> {
+pub struct Parser<'t, 'a> {
     pub arena: &'a Bump,
-    pub rest: &'a [CompactToken<'a>],
+    pub rest: &'t [CompactToken<'a>],
 }
 
-impl<'a> Model for Parser<'a> {
+impl<'t, 'a> Model for Parser<'t, 'a> {
     ghost use Rattle.std.specs.Prelude.{List};
     ghost use Rattle.rdl_tree.specs.declared.token.Token.{Token};
 
@@ -123,12 +123,12 @@ pub fn add<T: Drop>(list: &mut Vec<T, &Bump>, one: T) -> Result<(), Stop>
     Ok(())
 }
 
-impl<'a> Parser<'a> {
+impl<'t, 'a> Parser<'t, 'a> {
     /// Takes the next token, if it is of the terminal.
     pub fn eat(&mut self, terminal: Terminal) -> Option<Token<'a>>
         ensures { MatchOption result (Misses grammar terminal self.old self.new) (λ t. Takes grammar terminal self.old t self.new) }
     {
-        let all: &'a [CompactToken<'a>] = self.rest;
+        let all: &'t [CompactToken<'a>] = self.rest;
         let next = all.first()?;
         let first = next.token();
         if first.is(terminal) {
@@ -195,7 +195,7 @@ impl<'a> Parser<'a> {
     pub fn word_of(&mut self, sort: Sort) -> Option<(Keyword, Token<'a>)>
         ensures { MatchOption result (LacksWords sort self.old self.new) (λ w. TakesWord sort self.old self.new w.0 w.1) }
     {
-        let all: &'a [CompactToken<'a>] = self.rest;
+        let all: &'t [CompactToken<'a>] = self.rest;
         let next = all.first()?;
         let first = next.token();
         let TokenKind::Reserved(word) = first.kind else {

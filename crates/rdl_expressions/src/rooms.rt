@@ -89,7 +89,7 @@ fn count(tokens: &[CompactToken<'_>], run: Run) -> usize {
     }
 }
 
-impl<'a> Parser<'a> {
+impl<'t, 'a> Parser<'t, 'a> {
     /// A part of the tree in the arena. It is an `Err` where the arena has no room for it.
     pub fn lodged<T: Drop>(&self, one: T) -> Result<&'a T, Stop>
         ensures is { IfOk result (λ r. r.now ≡ one) }

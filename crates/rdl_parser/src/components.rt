@@ -14,7 +14,7 @@ ghost use Rattle.rdl_tree.specs.Tree.{IsWord, IsName, SkipsInternal, DerivesAlia
 ghost use Rattle.rdl_parser.specs.ItemForms.{alias, assigned, assignment, of_type, instances, named_or_bare, behind_internal, simple_item, item_behind_name, role, EndsDef};
 ghost use Rattle.rdl_expressions.specs.Following.{Adds, more_steps, is_kind};
 
-use crate::instances::{inst_list, insts, params};
+use crate::instances::{inst_list, insts, no_arguments, no_parameters, params};
 use crate::properties::{enumeration, local, set, set_from};
 use bumpalo::Bump;
 use bumpalo::collections::into_bump_slice;
@@ -47,14 +47,14 @@ fn kind_of(word: Keyword) -> Kind
 }
 
 // No token is left.
-fn is_done<'a>(parser: &Parser<'a>) -> bool
+fn is_done<'t, 'a>(parser: &Parser<'t, 'a>) -> bool
     ensures { MatchBool result (parser.now ≡ []) (0 < length parser.now) }
 {
     parser.rest.is_empty()
 }
 
 // The next token is of the terminal.
-fn is_at<'a>(parser: &Parser<'a>, terminal: Terminal) -> bool
+fn is_at<'t, 'a>(parser: &Parser<'t, 'a>, terminal: Terminal) -> bool
     ensures { result ≡ at grammar terminal parser.now }
 {
     match parser.rest.first() {
@@ -64,7 +64,7 @@ fn is_at<'a>(parser: &Parser<'a>, terminal: Terminal) -> bool
 }
 
 // What the item is of which the name has been taken.
-fn next_role<'a>(parser: &Parser<'a>) -> Role
+fn next_role<'t, 'a>(parser: &Parser<'t, 'a>) -> Role
     ensures { result ≡ role parser.now }
 {
     let Some(token) = parser.rest.first() else {
@@ -78,7 +78,7 @@ fn next_role<'a>(parser: &Parser<'a>) -> Role
 }
 
 // [ "internal" ] .
-fn skip_internal<'a>(parser: &mut Parser<'a>)
+fn skip_internal<'t, 'a>(parser: &mut Parser<'t, 'a>)
     ensures tree { SkipsInternal parser.old parser.new }
     ensures reads { Same grammar (terminals.Reserved words.Internal ∷ []) (Opt (word words.Internal) ∷ []) parser.old [] parser.new }
 {
@@ -86,7 +86,7 @@ fn skip_internal<'a>(parser: &mut Parser<'a>)
 }
 
 // [ "alias" name ] .
-fn alias<'a>(parser: &mut Parser<'a>) -> Result<Option<Name<'a>>, Stop>
+fn alias<'t, 'a>(parser: &mut Parser<'t, 'a>) -> Result<Option<Name<'a>>, Stop>
     ensures tree { IfOk result (DerivesAlias parser.old parser.new) }
     ensures reads { OnOk result (Same grammar (terminals.Reserved words.Alias ∷ []) (alias ∷ []) parser.old [] parser.new) }
     ensures stops { result ≡ Err Stop.Syntax → Stops grammar (terminals.Reserved words.Alias ∷ []) (alias ∷ []) parser.old parser.new }
@@ -99,7 +99,7 @@ fn alias<'a>(parser: &mut Parser<'a>) -> Result<Option<Name<'a>>, Stop>
 }
 
 // [ "alias" name ] name insts ";" .
-fn made<'a>(parser: &mut Parser<'a>) -> Result<Item<'a>, Stop>
+fn made<'t, 'a>(parser: &mut Parser<'t, 'a>) -> Result<Item<'a>, Stop>
     ensures tree { (ts : List token.Token) → SkipsInternal ts parser.old → IfOk result (DerivesItem ts parser.new) }
     ensures shorter { OnOk result (length parser.new < length parser.old) }
     ensures reads { OnOk result (Same grammar [] (alias ∷ of_type ∷ []) parser.old [] parser.new) }
@@ -111,8 +111,8 @@ fn made<'a>(parser: &mut Parser<'a>) -> Result<Item<'a>, Stop>
 }
 
 // What follows the name of a type: insts ";" .
-fn made_from<'a>(
-    parser: &mut Parser<'a>,
+fn made_from<'t, 'a>(
+    parser: &mut Parser<'t, 'a>,
     alias: Option<Name<'a>>,
     of: Name<'a>,
 ) -> Result<Item<'a>, Stop>
@@ -127,7 +127,7 @@ fn made_from<'a>(
 }
 
 // A local assignment behind its name.
-fn local_from<'a>(parser: &mut Parser<'a>, name: Name<'a>) -> Result<Item<'a>, Stop>
+fn local_from<'t, 'a>(parser: &mut Parser<'t, 'a>, name: Name<'a>) -> Result<Item<'a>, Stop>
     ensures tree { (ts : List token.Token) → IsName ts parser.old name.entry → IfOk result (DerivesItem ts parser.new) }
     ensures shorter { OnOk result (length parser.new < length parser.old) }
     ensures reads { OnOk result (Same grammar [] (assigned ∷ mark marks.Semicolon ∷ []) parser.old [] parser.new) }
@@ -140,7 +140,7 @@ fn local_from<'a>(parser: &mut Parser<'a>, name: Name<'a>) -> Result<Item<'a>, S
 }
 
 // An assignment to an instance below, behind the first name of its path.
-fn dynamic_from<'a>(parser: &mut Parser<'a>, name: Name<'a>) -> Result<Item<'a>, Stop>
+fn dynamic_from<'t, 'a>(parser: &mut Parser<'t, 'a>, name: Name<'a>) -> Result<Item<'a>, Stop>
     ensures tree { (ts : List token.Token) → IsName ts parser.old name.entry → IfOk result (DerivesItem ts parser.new) }
     ensures shorter { OnOk result (length parser.new < length parser.old) }
     ensures reads { OnOk result (Same grammar [] (Many (Non rules.Index) ∷ more_steps ∷ assignment ∷ []) parser.old [] parser.new) }
@@ -156,7 +156,7 @@ fn dynamic_from<'a>(parser: &mut Parser<'a>, name: Name<'a>) -> Result<Item<'a>,
 }
 
 // What follows the name that an item begins with.
-fn item_from<'a>(parser: &mut Parser<'a>, name: Name<'a>) -> Result<Item<'a>, Stop>
+fn item_from<'t, 'a>(parser: &mut Parser<'t, 'a>, name: Name<'a>) -> Result<Item<'a>, Stop>
     ensures tree { (ts : List token.Token) → IsName ts parser.old name.entry → IfOk result (DerivesItem ts parser.new) }
     ensures shorter { OnOk result (length parser.new < length parser.old) }
     ensures reads { OnOk result (Same grammar [] (item_behind_name ∷ []) parser.old [] parser.new) }
@@ -170,7 +170,7 @@ fn item_from<'a>(parser: &mut Parser<'a>, name: Name<'a>) -> Result<Item<'a>, St
 }
 
 // A default, behind its word at this place.
-fn default_at<'a>(parser: &mut Parser<'a>, place: Place) -> Result<Item<'a>, Stop>
+fn default_at<'t, 'a>(parser: &mut Parser<'t, 'a>, place: Place) -> Result<Item<'a>, Stop>
     ensures tree { (t : token.Token) (ts : List token.Token) → IsWord words.Default ts t parser.old → place ≡ t.place → IfOk result (DerivesItem ts parser.new) }
     ensures shorter { OnOk result (length parser.new < length parser.old) }
     ensures reads { OnOk result (Same grammar [] (Non rules.Local ∷ []) parser.old [] parser.new) }
@@ -183,7 +183,7 @@ fn default_at<'a>(parser: &mut Parser<'a>, place: Place) -> Result<Item<'a>, Sto
 }
 
 // A local assignment.
-fn local_item<'a>(parser: &mut Parser<'a>) -> Result<Item<'a>, Stop>
+fn local_item<'t, 'a>(parser: &mut Parser<'t, 'a>) -> Result<Item<'a>, Stop>
     ensures tree { IfOk result (DerivesItem parser.old parser.new) }
     ensures shorter { OnOk result (length parser.new < length parser.old) }
     ensures reads { OnOk result (Same grammar [] (Non rules.Local ∷ []) parser.old [] parser.new) }
@@ -196,7 +196,7 @@ fn local_item<'a>(parser: &mut Parser<'a>) -> Result<Item<'a>, Stop>
 }
 
 // An item that is no component and is not "internal".
-fn simple_item<'a>(parser: &mut Parser<'a>) -> Result<Item<'a>, Stop>
+fn simple_item<'t, 'a>(parser: &mut Parser<'t, 'a>) -> Result<Item<'a>, Stop>
     requires { at grammar (terminals.Reserved words.Internal) parser.old ≡ false }
     ensures tree { IfOk result (DerivesItem parser.old parser.new) }
     ensures shorter { OnOk result (length parser.new < length parser.old) }
@@ -219,7 +219,7 @@ fn simple_item<'a>(parser: &mut Parser<'a>) -> Result<Item<'a>, Stop>
 }
 
 // [ [ "internal" ] insts ] ";" .
-fn end_of_def<'a>(parser: &mut Parser<'a>) -> Result<Option<Insts<'a>>, Stop>
+fn end_of_def<'t, 'a>(parser: &mut Parser<'t, 'a>) -> Result<Option<Insts<'a>>, Stop>
     ensures tree { IfOk result (EndsDef parser.old parser.new) }
     ensures reads { OnOk result (Same grammar [] (instances ∷ mark marks.Semicolon ∷ []) parser.old [] parser.new) }
     ensures stops { result ≡ Err Stop.Syntax → Stops grammar [] (instances ∷ mark marks.Semicolon ∷ []) parser.old parser.new }
@@ -235,7 +235,11 @@ fn end_of_def<'a>(parser: &mut Parser<'a>) -> Result<Option<Insts<'a>>, Stop>
 
 // A component with a name, behind it: [ params ] body [ [ "internal" ] insts ] ";" .
 #[cycle(item)]
-fn named_def<'a>(parser: &mut Parser<'a>, kind: Kind, name: Name<'a>) -> Result<Item<'a>, Stop>
+fn named_def<'t, 'a>(
+    parser: &mut Parser<'t, 'a>,
+    kind: Kind,
+    name: Name<'a>,
+) -> Result<Item<'a>, Stop>
     ensures tree { (k : keyword.Keyword) (t : token.Token) (ts us vs : List token.Token) → SkipsInternal ts us → kind_of k ≡ Some kind → IsWord k us t vs → IsName vs parser.old name.entry → IfOk result (DerivesItem ts parser.new) }
     ensures shorter { OnOk result (length parser.new < length parser.old) }
     ensures reads { OnOk result (Same grammar [] (Opt (Non rules.Params) ∷ (Non rules.Body then instances) ∷ mark marks.Semicolon ∷ []) parser.old [] parser.new) }
@@ -256,7 +260,7 @@ fn named_def<'a>(parser: &mut Parser<'a>, kind: Kind, name: Name<'a>) -> Result<
 
 // A component without a name, behind its kind: body [ "internal" ] instlist ";" .
 #[cycle(item)]
-fn bare_def<'a>(parser: &mut Parser<'a>, kind: Kind, place: Place) -> Result<Item<'a>, Stop>
+fn bare_def<'t, 'a>(parser: &mut Parser<'t, 'a>, kind: Kind, place: Place) -> Result<Item<'a>, Stop>
     ensures tree { (k : keyword.Keyword) (t : token.Token) (ts us : List token.Token) → SkipsInternal ts us → kind_of k ≡ Some kind → IsWord k us t parser.old → place ≡ t.place → IfOk result (DerivesItem ts parser.new) }
     ensures shorter { OnOk result (length parser.new < length parser.old) }
     ensures reads { OnOk result (Same grammar [] (Non rules.Body ∷ (Opt (word words.Internal) then Non rules.InstList) ∷ mark marks.Semicolon ∷ []) parser.old [] parser.new) }
@@ -269,16 +273,19 @@ fn bare_def<'a>(parser: &mut Parser<'a>, kind: Kind, place: Place) -> Result<Ite
     Ok(Item::Def(Def {
         kind,
         name: None,
-        params: &[],
+        params: no_parameters(),
         items,
-        insts: Some(Insts { args: &[], list }),
+        insts: Some(Insts {
+            args: no_arguments(),
+            list,
+        }),
         place,
     }))
 }
 
 // A component behind its kind.
 #[cycle(item)]
-fn def<'a>(parser: &mut Parser<'a>, kind: Kind, place: Place) -> Result<Item<'a>, Stop>
+fn def<'t, 'a>(parser: &mut Parser<'t, 'a>, kind: Kind, place: Place) -> Result<Item<'a>, Stop>
     ensures tree { (k : keyword.Keyword) (t : token.Token) (ts us : List token.Token) → SkipsInternal ts us → kind_of k ≡ Some kind → IsWord k us t parser.old → place ≡ t.place → IfOk result (DerivesItem ts parser.new) }
     ensures shorter { OnOk result (length parser.new < length parser.old) }
     ensures reads { OnOk result (Same grammar [] (named_or_bare ∷ mark marks.Semicolon ∷ []) parser.old [] parser.new) }
@@ -292,7 +299,7 @@ fn def<'a>(parser: &mut Parser<'a>, kind: Kind, place: Place) -> Result<Item<'a>
 
 // body = "{" { item } "}" .
 #[cycle(item)]
-fn body<'a>(parser: &mut Parser<'a>) -> Result<&'a [Item<'a>], Stop>
+fn body<'t, 'a>(parser: &mut Parser<'t, 'a>) -> Result<&'a [Item<'a>], Stop>
     ensures tree { IfOk result (λ is. DerivesBody parser.old parser.new is.now) }
     ensures shorter { OnOk result (length parser.new < length parser.old) }
     ensures reads { OnOk result (Same grammar [] (Non rules.Body ∷ []) parser.old [] parser.new) }
@@ -310,7 +317,10 @@ fn body<'a>(parser: &mut Parser<'a>) -> Result<&'a [Item<'a>], Stop>
 
 // Adds an item to those that were read.
 #[cycle(item)]
-fn add_item<'a>(parser: &mut Parser<'a>, items: &mut Vec<Item<'a>, &'a Bump>) -> Result<(), Stop>
+fn add_item<'t, 'a>(
+    parser: &mut Parser<'t, 'a>,
+    items: &mut Vec<Item<'a>, &'a Bump>,
+) -> Result<(), Stop>
     ensures tree { OnOk result (Adds DerivesItem parser.old parser.new items.old.items items.new.items) }
     ensures shorter { OnOk result (length parser.new < length parser.old) }
     ensures reads { OnOk result (Same grammar [] (Non rules.Item ∷ []) parser.old [] parser.new) }
@@ -324,7 +334,7 @@ fn add_item<'a>(parser: &mut Parser<'a>, items: &mut Vec<Item<'a>, &'a Bump>) ->
 
 // item = component | enum | made | default | local | dynamic .
 #[cycle(item)]
-fn item<'a>(parser: &mut Parser<'a>) -> Result<Item<'a>, Stop>
+fn item<'t, 'a>(parser: &mut Parser<'t, 'a>) -> Result<Item<'a>, Stop>
     ensures tree { IfOk result (DerivesItem parser.old parser.new) }
     ensures shorter { OnOk result (length parser.new < length parser.old) }
     ensures reads { OnOk result (Same grammar [] (Non rules.Item ∷ []) parser.old [] parser.new) }
@@ -341,7 +351,7 @@ fn item<'a>(parser: &mut Parser<'a>) -> Result<Item<'a>, Stop>
 
 // What follows "internal".
 #[cycle(item)]
-fn internal_item<'a>(parser: &mut Parser<'a>) -> Result<Item<'a>, Stop>
+fn internal_item<'t, 'a>(parser: &mut Parser<'t, 'a>) -> Result<Item<'a>, Stop>
     ensures tree { (t : token.Token) (ts : List token.Token) → IsWord words.Internal ts t parser.old → IfOk result (DerivesItem ts parser.new) }
     ensures shorter { OnOk result (length parser.new < length parser.old) }
     ensures reads { OnOk result (Same grammar [] (behind_internal ∷ []) parser.old [] parser.new) }
@@ -354,7 +364,7 @@ fn internal_item<'a>(parser: &mut Parser<'a>) -> Result<Item<'a>, Stop>
 }
 
 /// source = { item } .
-pub fn source<'a>(parser: &mut Parser<'a>) -> Result<&'a [Item<'a>], Stop>
+pub fn source<'t, 'a>(parser: &mut Parser<'t, 'a>) -> Result<&'a [Item<'a>], Stop>
     ensures tree { IfOk result (λ is. DerivesItems parser.old parser.new is.now) }
     ensures whole { OnOk result (parser.new ≡ []) }
     ensures stops { result ≡ Err Stop.Syntax → StopsAt grammar (Non rules.Source) parser.old parser.new }

@@ -39,7 +39,7 @@ fn type_of(word: Keyword) -> PType
 }
 
 /// An expression behind the mark, if it is there.
-pub fn behind<'a>(parser: &mut Parser<'a>, mark: Mark) -> Result<Option<Expr<'a>>, Stop>
+pub fn behind<'t, 'a>(parser: &mut Parser<'t, 'a>, mark: Mark) -> Result<Option<Expr<'a>>, Stop>
     ensures tree { IfOk result (DerivesBehind mark parser.old parser.new) }
     ensures reads { OnOk result (Same grammar (after_behind mark) (Opt (behind mark) ∷ []) parser.old [] parser.new) }
     ensures stops { result ≡ Err Stop.Syntax → Stops grammar (after_behind mark) (Opt (behind mark) ∷ []) parser.old parser.new }
@@ -52,7 +52,10 @@ pub fn behind<'a>(parser: &mut Parser<'a>, mark: Mark) -> Result<Option<Expr<'a>
 }
 
 // An expression behind the mark, if it is there, in the arena.
-fn lodged_behind<'a>(parser: &mut Parser<'a>, mark: Mark) -> Result<Option<&'a Expr<'a>>, Stop>
+fn lodged_behind<'t, 'a>(
+    parser: &mut Parser<'t, 'a>,
+    mark: Mark,
+) -> Result<Option<&'a Expr<'a>>, Stop>
     ensures tree { IfOk result (λ e. DerivesBehind mark parser.old parser.new (option_copied e)) }
     ensures reads { OnOk result (Same grammar (after_behind mark) (Opt (behind mark) ∷ []) parser.old [] parser.new) }
     ensures stops { result ≡ Err Stop.Syntax → Stops grammar (after_behind mark) (Opt (behind mark) ∷ []) parser.old parser.new }
@@ -64,7 +67,7 @@ fn lodged_behind<'a>(parser: &mut Parser<'a>, mark: Mark) -> Result<Option<&'a E
 }
 
 // The dimensions behind the first: "]" { "[" expr "]" } .
-fn dims<'a>(parser: &mut Parser<'a>, first: Expr<'a>) -> Result<&'a [Expr<'a>], Stop>
+fn dims<'t, 'a>(parser: &mut Parser<'t, 'a>, first: Expr<'a>) -> Result<&'a [Expr<'a>], Stop>
     ensures tree { (t : token.Token) (ts us : List token.Token) → IsMark marks.OpenBracket ts t us → DerivesExpr us parser.old first.entry → IfOk result (λ es. DerivesIndices ts parser.new es.now) }
     ensures reads { OnOk result (Same grammar after_indices (mark marks.CloseBracket ∷ Many (Non rules.Index) ∷ []) parser.old [] parser.new) }
     ensures stops { result ≡ Err Stop.Syntax → Stops grammar after_indices (mark marks.CloseBracket ∷ Many (Non rules.Index) ∷ []) parser.old parser.new }
@@ -78,15 +81,23 @@ fn dims<'a>(parser: &mut Parser<'a>, first: Expr<'a>) -> Result<&'a [Expr<'a>], 
     Ok(into_bump_slice(dims))
 }
 
+// No dimensions.
+fn no_dims<'a>() -> &'a [Expr<'a>]
+    ensures { result.now ≡ [] }
+{
+    &[]
+}
+
 // { "[" expr "]" } | "[" expr ":" expr "]" .
-fn inst_shape<'a>(parser: &mut Parser<'a>) -> Result<Shape<'a>, Stop>
+fn inst_shape<'t, 'a>(parser: &mut Parser<'t, 'a>) -> Result<Shape<'a>, Stop>
     ensures tree { IfOk result (DerivesShapeOf parser.old parser.new) }
     ensures reads { OnOk result (Same grammar after_indices (shape ∷ []) parser.old [] parser.new) }
     ensures stops { result ≡ Err Stop.Syntax → Stops grammar after_indices (shape ∷ []) parser.old parser.new }
 {
+    let none = no_dims();
     let Some(_) = parser.mark(Mark::OpenBracket) else {
         return Ok(Shape {
-            dims: &[],
+            dims: none,
             range: None,
         });
     };
@@ -99,13 +110,13 @@ fn inst_shape<'a>(parser: &mut Parser<'a>) -> Result<Shape<'a>, Stop>
     let _close = parser.expect(Mark::CloseBracket)?;
     let range = parser.lodged((first, low))?;
     Ok(Shape {
-        dims: &[],
+        dims: none,
         range: Some(range),
     })
 }
 
 // inst = name ( { "[" expr "]" } | "[" expr ":" expr "]" ) [ "=" expr ] [ "@" expr ] [ "+=" expr ] [ "%=" expr ] .
-fn inst<'a>(parser: &mut Parser<'a>) -> Result<Inst<'a>, Stop>
+fn inst<'t, 'a>(parser: &mut Parser<'t, 'a>) -> Result<Inst<'a>, Stop>
     ensures tree { IfOk result (DerivesInst parser.old parser.new) }
     ensures reads { OnOk result (Same grammar after_inst (Non rules.Inst ∷ []) parser.old [] parser.new) }
     ensures stops { result ≡ Err Stop.Syntax → Stops grammar after_inst (Non rules.Inst ∷ []) parser.old parser.new }
@@ -128,7 +139,7 @@ fn inst<'a>(parser: &mut Parser<'a>) -> Result<Inst<'a>, Stop>
 }
 
 /// instlist = inst { "," inst } .
-pub fn inst_list<'a>(parser: &mut Parser<'a>) -> Result<&'a [Inst<'a>], Stop>
+pub fn inst_list<'t, 'a>(parser: &mut Parser<'t, 'a>) -> Result<&'a [Inst<'a>], Stop>
     ensures tree { IfOk result (λ is. DerivesListed DerivesInst parser.old parser.new is.now) }
     ensures reads { OnOk result (Same grammar after_insts (Non rules.InstList ∷ []) parser.old [] parser.new) }
     ensures stops { result ≡ Err Stop.Syntax → Stops grammar after_insts (Non rules.InstList ∷ []) parser.old parser.new }
@@ -142,7 +153,10 @@ pub fn inst_list<'a>(parser: &mut Parser<'a>) -> Result<&'a [Inst<'a>], Stop>
 }
 
 // Adds an instance to those that were read.
-fn add_inst<'a>(parser: &mut Parser<'a>, list: &mut Vec<Inst<'a>, &'a Bump>) -> Result<(), Stop>
+fn add_inst<'t, 'a>(
+    parser: &mut Parser<'t, 'a>,
+    list: &mut Vec<Inst<'a>, &'a Bump>,
+) -> Result<(), Stop>
     ensures tree { OnOk result (Adds DerivesInst parser.old parser.new list.old.items list.new.items) }
     ensures reads { OnOk result (Same grammar after_inst (Non rules.Inst ∷ []) parser.old [] parser.new) }
     ensures stops { result ≡ Err Stop.Syntax → Stops grammar after_inst (Non rules.Inst ∷ []) parser.old parser.new }
@@ -154,7 +168,7 @@ fn add_inst<'a>(parser: &mut Parser<'a>, list: &mut Vec<Inst<'a>, &'a Bump>) -> 
 }
 
 // arg = "." name "(" expr ")" .
-fn arg<'a>(parser: &mut Parser<'a>) -> Result<Arg<'a>, Stop>
+fn arg<'t, 'a>(parser: &mut Parser<'t, 'a>) -> Result<Arg<'a>, Stop>
     ensures tree { IfOk result (DerivesArg parser.old parser.new) }
     ensures reads { OnOk result (Same grammar [] (Non rules.Arg ∷ []) parser.old [] parser.new) }
     ensures stops { result ≡ Err Stop.Syntax → Stops grammar [] (Non rules.Arg ∷ []) parser.old parser.new }
@@ -167,14 +181,21 @@ fn arg<'a>(parser: &mut Parser<'a>) -> Result<Arg<'a>, Stop>
     Ok(Arg { name, value })
 }
 
+/// No arguments.
+pub(crate) fn no_arguments<'a>() -> &'a [Arg<'a>]
+    ensures { result.now ≡ [] }
+{
+    &[]
+}
+
 // [ "#" "(" arg { "," arg } ")" ] .
-fn args<'a>(parser: &mut Parser<'a>) -> Result<&'a [Arg<'a>], Stop>
+fn args<'t, 'a>(parser: &mut Parser<'t, 'a>) -> Result<&'a [Arg<'a>], Stop>
     ensures tree { IfOk result (λ xs. DerivesHashed DerivesArg parser.old parser.new xs.now) }
     ensures reads { OnOk result (Same grammar after_hashed (Opt (Non rules.Args) ∷ []) parser.old [] parser.new) }
     ensures stops { result ≡ Err Stop.Syntax → Stops grammar after_hashed (Opt (Non rules.Args) ∷ []) parser.old parser.new }
 {
     let Some(_) = parser.mark(Mark::Hash) else {
-        return Ok(&[]);
+        return Ok(no_arguments());
     };
     let _open = parser.expect(Mark::OpenParen)?;
     let args = arg_list(parser)?;
@@ -183,7 +204,7 @@ fn args<'a>(parser: &mut Parser<'a>) -> Result<&'a [Arg<'a>], Stop>
 }
 
 // arg { "," arg } .
-fn arg_list<'a>(parser: &mut Parser<'a>) -> Result<&'a [Arg<'a>], Stop>
+fn arg_list<'t, 'a>(parser: &mut Parser<'t, 'a>) -> Result<&'a [Arg<'a>], Stop>
     ensures tree { IfOk result (λ xs. DerivesListed DerivesArg parser.old parser.new xs.now) }
     ensures reads { OnOk result (Same grammar after_args (Non rules.Arg ∷ Many (mark marks.Comma then Non rules.Arg) ∷ []) parser.old [] parser.new) }
     ensures stops { result ≡ Err Stop.Syntax → Stops grammar after_args (Non rules.Arg ∷ Many (mark marks.Comma then Non rules.Arg) ∷ []) parser.old parser.new }
@@ -197,7 +218,10 @@ fn arg_list<'a>(parser: &mut Parser<'a>) -> Result<&'a [Arg<'a>], Stop>
 }
 
 // Adds an argument to those that were read.
-fn add_arg<'a>(parser: &mut Parser<'a>, list: &mut Vec<Arg<'a>, &'a Bump>) -> Result<(), Stop>
+fn add_arg<'t, 'a>(
+    parser: &mut Parser<'t, 'a>,
+    list: &mut Vec<Arg<'a>, &'a Bump>,
+) -> Result<(), Stop>
     ensures tree { OnOk result (Adds DerivesArg parser.old parser.new list.old.items list.new.items) }
     ensures reads { OnOk result (Same grammar [] (Non rules.Arg ∷ []) parser.old [] parser.new) }
     ensures stops { result ≡ Err Stop.Syntax → Stops grammar [] (Non rules.Arg ∷ []) parser.old parser.new }
@@ -209,7 +233,7 @@ fn add_arg<'a>(parser: &mut Parser<'a>, list: &mut Vec<Arg<'a>, &'a Bump>) -> Re
 }
 
 /// insts = [ args ] instlist .
-pub fn insts<'a>(parser: &mut Parser<'a>) -> Result<Insts<'a>, Stop>
+pub fn insts<'t, 'a>(parser: &mut Parser<'t, 'a>) -> Result<Insts<'a>, Stop>
     ensures tree { IfOk result (DerivesInsts parser.old parser.new) }
     ensures reads { OnOk result (Same grammar after_insts (Non rules.Insts ∷ []) parser.old [] parser.new) }
     ensures stops { result ≡ Err Stop.Syntax → Stops grammar after_insts (Non rules.Insts ∷ []) parser.old parser.new }
@@ -220,7 +244,7 @@ pub fn insts<'a>(parser: &mut Parser<'a>) -> Result<Insts<'a>, Stop>
 }
 
 // paramtype = ( "longint" | "bit" ) [ "unsigned" ] | "boolean" | "string" .
-fn param_type<'a>(parser: &mut Parser<'a>) -> Result<PType, Stop>
+fn param_type<'t, 'a>(parser: &mut Parser<'t, 'a>) -> Result<PType, Stop>
     ensures tree { IfOk result (DerivesType parser.old parser.new) }
     ensures reads { OnOk result (Same grammar after_type (Non rules.ParamType ∷ []) parser.old [] parser.new) }
     ensures stops { result ≡ Err Stop.Syntax → Stops grammar after_type (Non rules.ParamType ∷ []) parser.old parser.new }
@@ -239,7 +263,7 @@ fn param_type<'a>(parser: &mut Parser<'a>) -> Result<PType, Stop>
 }
 
 // param = paramtype name [ "=" expr ] .
-fn param<'a>(parser: &mut Parser<'a>) -> Result<Param<'a>, Stop>
+fn param<'t, 'a>(parser: &mut Parser<'t, 'a>) -> Result<Param<'a>, Stop>
     ensures tree { IfOk result (DerivesParam parser.old parser.new) }
     ensures reads { OnOk result (Same grammar (after_behind marks.Equals) (Non rules.Param ∷ []) parser.old [] parser.new) }
     ensures stops { result ≡ Err Stop.Syntax → Stops grammar (after_behind marks.Equals) (Non rules.Param ∷ []) parser.old parser.new }
@@ -254,14 +278,21 @@ fn param<'a>(parser: &mut Parser<'a>) -> Result<Param<'a>, Stop>
     })
 }
 
+/// No parameters.
+pub(crate) fn no_parameters<'a>() -> &'a [Param<'a>]
+    ensures { result.now ≡ [] }
+{
+    &[]
+}
+
 /// [ "#" "(" param { "," param } ")" ] .
-pub fn params<'a>(parser: &mut Parser<'a>) -> Result<&'a [Param<'a>], Stop>
+pub fn params<'t, 'a>(parser: &mut Parser<'t, 'a>) -> Result<&'a [Param<'a>], Stop>
     ensures tree { IfOk result (λ xs. DerivesHashed DerivesParam parser.old parser.new xs.now) }
     ensures reads { OnOk result (Same grammar after_hashed (Opt (Non rules.Params) ∷ []) parser.old [] parser.new) }
     ensures stops { result ≡ Err Stop.Syntax → Stops grammar after_hashed (Opt (Non rules.Params) ∷ []) parser.old parser.new }
 {
     let Some(_) = parser.mark(Mark::Hash) else {
-        return Ok(&[]);
+        return Ok(no_parameters());
     };
     let _open = parser.expect(Mark::OpenParen)?;
     let params = param_list(parser)?;
@@ -270,7 +301,7 @@ pub fn params<'a>(parser: &mut Parser<'a>) -> Result<&'a [Param<'a>], Stop>
 }
 
 // param { "," param } .
-fn param_list<'a>(parser: &mut Parser<'a>) -> Result<&'a [Param<'a>], Stop>
+fn param_list<'t, 'a>(parser: &mut Parser<'t, 'a>) -> Result<&'a [Param<'a>], Stop>
     ensures tree { IfOk result (λ xs. DerivesListed DerivesParam parser.old parser.new xs.now) }
     ensures reads { OnOk result (Same grammar after_params (Non rules.Param ∷ Many (mark marks.Comma then Non rules.Param) ∷ []) parser.old [] parser.new) }
     ensures stops { result ≡ Err Stop.Syntax → Stops grammar after_params (Non rules.Param ∷ Many (mark marks.Comma then Non rules.Param) ∷ []) parser.old parser.new }
@@ -284,7 +315,10 @@ fn param_list<'a>(parser: &mut Parser<'a>) -> Result<&'a [Param<'a>], Stop>
 }
 
 // Adds a parameter to those that were read.
-fn add_param<'a>(parser: &mut Parser<'a>, list: &mut Vec<Param<'a>, &'a Bump>) -> Result<(), Stop>
+fn add_param<'t, 'a>(
+    parser: &mut Parser<'t, 'a>,
+    list: &mut Vec<Param<'a>, &'a Bump>,
+) -> Result<(), Stop>
     ensures tree { OnOk result (Adds DerivesParam parser.old parser.new list.old.items list.new.items) }
     ensures reads { OnOk result (Same grammar (after_behind marks.Equals) (Non rules.Param ∷ []) parser.old [] parser.new) }
     ensures stops { result ≡ Err Stop.Syntax → Stops grammar (after_behind marks.Equals) (Non rules.Param ∷ []) parser.old parser.new }

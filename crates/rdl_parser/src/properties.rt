@@ -36,7 +36,7 @@ fn trigger_of(word: Keyword) -> Trigger
 }
 
 // given = expr | a word .
-fn given<'a>(parser: &mut Parser<'a>) -> Result<Assigned<'a>, Stop>
+fn given<'t, 'a>(parser: &mut Parser<'t, 'a>) -> Result<Assigned<'a>, Stop>
     ensures tree { IfOk result (DerivesGiven parser.old parser.new) }
     ensures reads { OnOk result (Same grammar after_expr (Non rules.Given ∷ []) parser.old [] parser.new) }
     ensures stops { result ≡ Err Stop.Syntax → Stops grammar after_expr (Non rules.Given ∷ []) parser.old parser.new }
@@ -49,7 +49,7 @@ fn given<'a>(parser: &mut Parser<'a>) -> Result<Assigned<'a>, Stop>
 }
 
 // [ "=" given ] .
-fn assigned<'a>(parser: &mut Parser<'a>) -> Result<Option<Assigned<'a>>, Stop>
+fn assigned<'t, 'a>(parser: &mut Parser<'t, 'a>) -> Result<Option<Assigned<'a>>, Stop>
     ensures tree { IfOk result (DerivesAssigned parser.old parser.new) }
     ensures reads { OnOk result (Same grammar (after_behind marks.Equals) (assigned ∷ []) parser.old [] parser.new) }
     ensures stops { result ≡ Err Stop.Syntax → Stops grammar (after_behind marks.Equals) (assigned ∷ []) parser.old parser.new }
@@ -62,7 +62,11 @@ fn assigned<'a>(parser: &mut Parser<'a>) -> Result<Option<Assigned<'a>>, Stop>
 }
 
 /// The assignment of a property, behind its name: [ "=" given ] ";" .
-pub fn set_from<'a>(parser: &mut Parser<'a>, prop: Name<'a>, place: Place) -> Result<Set<'a>, Stop>
+pub fn set_from<'t, 'a>(
+    parser: &mut Parser<'t, 'a>,
+    prop: Name<'a>,
+    place: Place,
+) -> Result<Set<'a>, Stop>
     ensures tree { IfOk result (Sets prop.entry place parser.old parser.new) }
     ensures shorter { OnOk result (length parser.new < length parser.old) }
     ensures reads { OnOk result (Same grammar [] (assigned ∷ mark marks.Semicolon ∷ []) parser.old [] parser.new) }
@@ -79,7 +83,7 @@ pub fn set_from<'a>(parser: &mut Parser<'a>, prop: Name<'a>, place: Place) -> Re
 }
 
 /// local = prop [ "=" given ] ";" | trigger prop ";" .
-pub fn local<'a>(parser: &mut Parser<'a>, place: Place) -> Result<Set<'a>, Stop>
+pub fn local<'t, 'a>(parser: &mut Parser<'t, 'a>, place: Place) -> Result<Set<'a>, Stop>
     ensures tree { IfOk result (DerivesLocal place parser.old parser.new) }
     ensures place { IfOk result (λ s. s.place ≡ place) }
     ensures shorter { OnOk result (length parser.new < length parser.old) }
@@ -101,7 +105,7 @@ pub fn local<'a>(parser: &mut Parser<'a>, place: Place) -> Result<Set<'a>, Stop>
 }
 
 // The place of the next token.
-fn place<'a>(parser: &Parser<'a>) -> Option<Place>
+fn place<'t, 'a>(parser: &Parser<'t, 'a>) -> Option<Place>
     ensures { MatchOption result (parser.now ≡ []) (StartsAt parser.now) }
 {
     let first = parser.rest.first()?;
@@ -109,7 +113,7 @@ fn place<'a>(parser: &Parser<'a>) -> Option<Place>
 }
 
 /// A local assignment at the place where it begins.
-pub fn set<'a>(parser: &mut Parser<'a>) -> Result<Set<'a>, Stop>
+pub fn set<'t, 'a>(parser: &mut Parser<'t, 'a>) -> Result<Set<'a>, Stop>
     ensures tree { IfOk result (DerivesSet parser.old parser.new) }
     ensures shorter { OnOk result (length parser.new < length parser.old) }
     ensures reads { OnOk result (Same grammar [] (Non rules.Local ∷ []) parser.old [] parser.new) }
@@ -121,14 +125,21 @@ pub fn set<'a>(parser: &mut Parser<'a>) -> Result<Set<'a>, Stop>
     local(parser, place)
 }
 
+// No assignments.
+fn no_sets<'a>() -> &'a [Set<'a>]
+    ensures { result.now ≡ [] }
+{
+    &[]
+}
+
 // [ "{" { local } "}" ] .
-fn sets<'a>(parser: &mut Parser<'a>) -> Result<&'a [Set<'a>], Stop>
+fn sets<'t, 'a>(parser: &mut Parser<'t, 'a>) -> Result<&'a [Set<'a>], Stop>
     ensures tree { IfOk result (λ ss. DerivesSets parser.old parser.new ss.now) }
     ensures reads { OnOk result (Same grammar after_sets (sets ∷ []) parser.old [] parser.new) }
     ensures stops { result ≡ Err Stop.Syntax → Stops grammar after_sets (sets ∷ []) parser.old parser.new }
 {
     let Some(_) = parser.mark(Mark::OpenBrace) else {
-        return Ok(&[]);
+        return Ok(no_sets());
     };
     let mut sets = parser.room(Run::Ended);
     'more: loop {
@@ -140,7 +151,10 @@ fn sets<'a>(parser: &mut Parser<'a>) -> Result<&'a [Set<'a>], Stop>
 }
 
 // Adds an assignment to those that were read.
-fn add_set<'a>(parser: &mut Parser<'a>, sets: &mut Vec<Set<'a>, &'a Bump>) -> Result<(), Stop>
+fn add_set<'t, 'a>(
+    parser: &mut Parser<'t, 'a>,
+    sets: &mut Vec<Set<'a>, &'a Bump>,
+) -> Result<(), Stop>
     ensures tree { OnOk result (Adds DerivesSet parser.old parser.new sets.old.items sets.new.items) }
     ensures shorter { OnOk result (length parser.new < length parser.old) }
     ensures reads { OnOk result (Same grammar [] (Non rules.Local ∷ []) parser.old [] parser.new) }
@@ -153,7 +167,7 @@ fn add_set<'a>(parser: &mut Parser<'a>, sets: &mut Vec<Set<'a>, &'a Bump>) -> Re
 }
 
 // entry = name [ "=" expr ] [ "{" { local } "}" ] ";" .
-fn entry<'a>(parser: &mut Parser<'a>) -> Result<Entry<'a>, Stop>
+fn entry<'t, 'a>(parser: &mut Parser<'t, 'a>) -> Result<Entry<'a>, Stop>
     ensures tree { IfOk result (DerivesEntry parser.old parser.new) }
     ensures shorter { OnOk result (length parser.new < length parser.old) }
     ensures reads { OnOk result (Same grammar [] (Non rules.Entry ∷ []) parser.old [] parser.new) }
@@ -167,7 +181,7 @@ fn entry<'a>(parser: &mut Parser<'a>) -> Result<Entry<'a>, Stop>
 }
 
 /// What follows "enum": name "{" { entry } "}" ";" .
-pub fn enumeration<'a>(parser: &mut Parser<'a>) -> Result<Item<'a>, Stop>
+pub fn enumeration<'t, 'a>(parser: &mut Parser<'t, 'a>) -> Result<Item<'a>, Stop>
     ensures tree { (t : token.Token) (ts : List token.Token) → IsWord words.Enum ts t parser.old → IfOk result (DerivesItem ts parser.new) }
     ensures shorter { OnOk result (length parser.new < length parser.old) }
     ensures reads { OnOk result (Same grammar [] (rest_of_enum ∷ []) parser.old [] parser.new) }
@@ -182,7 +196,7 @@ pub fn enumeration<'a>(parser: &mut Parser<'a>) -> Result<Item<'a>, Stop>
 }
 
 // { entry } "}" ";" .
-fn entries<'a>(parser: &mut Parser<'a>) -> Result<&'a [Entry<'a>], Stop>
+fn entries<'t, 'a>(parser: &mut Parser<'t, 'a>) -> Result<&'a [Entry<'a>], Stop>
     ensures tree { IfOk result (λ es. DerivesEntries parser.old parser.new es.now) }
     ensures shorter { OnOk result (length parser.new < length parser.old) }
     ensures reads { OnOk result (Same grammar [] (Many (Non rules.Entry) ∷ (mark marks.CloseBrace then mark marks.Semicolon) ∷ []) parser.old [] parser.new) }
@@ -199,8 +213,8 @@ fn entries<'a>(parser: &mut Parser<'a>) -> Result<&'a [Entry<'a>], Stop>
 }
 
 // Adds an entry to those that were read.
-fn add_entry<'a>(
-    parser: &mut Parser<'a>,
+fn add_entry<'t, 'a>(
+    parser: &mut Parser<'t, 'a>,
     entries: &mut Vec<Entry<'a>, &'a Bump>,
 ) -> Result<(), Stop>
     ensures tree { OnOk result (Adds DerivesEntry parser.old parser.new entries.old.items entries.new.items) }

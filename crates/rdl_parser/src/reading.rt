@@ -9,18 +9,18 @@ ghost use Rattle.rdl_parser.specs.Stopping.{StopsThere, IsJudged};
 use crate::components::source;
 use crate::error::ParseError;
 use bumpalo::Bump;
-use bumpalo::collections::into_bump_slice;
 use rb_base::Place;
 use rb_grammar::Stop;
 use rdl_base::{Keyword, Rule};
 use rdl_expressions::Parser;
 use rdl_lexer::{CompactToken, Lexer, first_too_deep};
 use rdl_tree::{Item, Mark, Source, TokenKind};
+use std::alloc::Global;
 
 /// Why tokens are not read: these are left where they stop being a source, or memory was refused.
 #[derive(Clone, Copy)]
-pub enum Unread<'a> {
-    Syntax(&'a [CompactToken<'a>]),
+pub enum Unread<'t, 'a> {
+    Syntax(&'t [CompactToken<'a>]),
     NoMemory,
 }
 
@@ -95,24 +95,27 @@ fn count_tokens(src: &[u8]) -> usize {
 }
 
 // All tokens of a source.
-fn tokens<'a>(arena: &'a Bump, src: &'a [u8]) -> Result<&'a [CompactToken<'a>], ParseError>
+fn tokens<'a>(alloc: Global, src: &'a [u8]) -> Result<Vec<CompactToken<'a>>, ParseError>
     requires { length src.now < 2 ^ 32 - 1 }
-    ensures spells { IfOk result (λ ts. SpellsTokens src.now ts.now) }
+    ensures spells { IfOk result (λ ts. SpellsTokens src.now ts.items) }
     ensures fault { IfErr result (λ e. e ≢ ParseError.NoMemory → HasError src.now e) }
 {
     let mut lexer = Lexer::new(src);
-    let mut tokens = Vec::with_capacity(arena, count_tokens(src))?;
+    let mut tokens = Vec::with_capacity(alloc, count_tokens(src))?;
     'more: loop {
         match lexer.next() {
             Ok(Some(token)) => tokens.push(CompactToken::pack(token))?,
-            Ok(None) => return Ok(into_bump_slice(tokens)),
+            Ok(None) => return Ok(tokens),
             Err(fault) => return Err(ParseError::Lex(fault)),
         }
     }
 }
 
 // The items that all tokens derive.
-fn read<'a>(arena: &'a Bump, tokens: &'a [CompactToken<'a>]) -> Result<&'a [Item<'a>], Unread<'a>>
+fn read<'t, 'a>(
+    arena: &'a Bump,
+    tokens: &'t [CompactToken<'a>],
+) -> Result<&'a [Item<'a>], Unread<'t, 'a>>
     ensures tree { IfOk result (λ is. DerivesItems tokens.now [] is.now) }
     ensures stops { IfErr result (StopsThere tokens.now) }
 {
@@ -140,7 +143,7 @@ fn wrong(left: &[CompactToken<'_>], end: Place) -> ParseError
 // The items of tokens, of which none nests too deep.
 fn read_all<'a>(
     arena: &'a Bump,
-    tokens: &'a [CompactToken<'a>],
+    tokens: &[CompactToken<'a>],
     end: Place,
 ) -> Result<&'a [Item<'a>], ParseError>
     requires { StaysWithin tokens.now }
@@ -155,12 +158,7 @@ fn read_all<'a>(
 }
 
 // The error of tokens, of which the one at the index is the first that nests too deep.
-fn read_cut<'a>(
-    arena: &'a Bump,
-    tokens: &'a [CompactToken<'a>],
-    deep: usize,
-    end: Place,
-) -> ParseError
+fn read_cut<'a>(arena: &'a Bump, tokens: &[CompactToken<'a>], deep: usize, end: Place) -> ParseError
     requires { IsFirstTooDeep tokens.now deep }
     ensures { IsJudged tokens.now end result }
 {
@@ -178,7 +176,7 @@ fn read_cut<'a>(
 // The items of tokens, or their error.
 fn items<'a>(
     arena: &'a Bump,
-    tokens: &'a [CompactToken<'a>],
+    tokens: &[CompactToken<'a>],
     end: Place,
 ) -> Result<&'a [Item<'a>], ParseError>
     ensures tree { IfOk result (λ is. DerivesItems tokens.now [] is.now) }
@@ -192,13 +190,13 @@ fn items<'a>(
 }
 
 // The tree of a source, or its error.
-fn tree<'a>(arena: &'a Bump, src: &'a [u8]) -> Result<&'a Source<'a>, ParseError>
+fn tree<'a>(alloc: Global, arena: &'a Bump, src: &'a [u8]) -> Result<&'a Source<'a>, ParseError>
     requires { length src.now < 2 ^ 32 - 1 }
     ensures tree { IfOk result (λ s. Reads src.now s.now.items.now) }
     ensures error { IfErr result (λ e. e ≢ ParseError.NoMemory → HasError src.now e) }
 {
-    let tokens = tokens(arena, src)?;
-    let items = items(arena, tokens, Place(src.len() as u32))?;
+    let tokens = tokens(alloc, src)?;
+    let items = items(arena, &tokens, Place(src.len() as u32))?;
     match arena.try_alloc(Source { items }) {
         Ok(source) => Ok(source),
         Err(_) => Err(ParseError::NoMemory),
@@ -206,18 +204,22 @@ fn tree<'a>(arena: &'a Bump, src: &'a [u8]) -> Result<&'a Source<'a>, ParseError
 }
 
 /// The tree of a source of fewer than 2^32 - 1 bytes (SystemRDL 2.0, annex B), in the arena. Its names are slices of the
-/// source.
+/// source, and its tokens are given up at the end.
 ///
 /// `Lex` is the first lexical fault, L1 to L6, wherever it stands. `Syntax` is the first token with which the tokens no
 /// longer begin a source, or the source's length where all begin one and are none; its rule is S1, or the O rule that
 /// names the token. `TooDeep` is the first token that nests too deep, where all tokens up to it begin a source: the 65th
 /// open bracket, or the 65th operator of one expression outside its inner brackets. `NoMemory` is want of memory. A source
 /// has one of these errors at most, and none where it is accepted (`one_verdict`).
-pub fn parse<'a>(arena: &'a Bump, src: &'a [u8]) -> Result<&'a Source<'a>, ParseError>
+pub fn parse<'a>(
+    alloc: Global,
+    arena: &'a Bump,
+    src: &'a [u8],
+) -> Result<&'a Source<'a>, ParseError>
     requires { length src.now < 2 ^ 32 - 1 }
     ensures tree { IfOk result (λ s. Reads src.now s.now.items.now) }
     ensures error { IfErr result (λ e. e ≢ ParseError.NoMemory → HasError src.now e) }
     ensures accepts { IsAccepted src.now → IfErr result (λ e. e ≡ ParseError.NoMemory) }
 {
-    tree(arena, src)
+    tree(alloc, arena, src)
 }

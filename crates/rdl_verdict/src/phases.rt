@@ -79,7 +79,7 @@ pub(crate) fn read<'a>(
     ensures tree { IfOk result (λ s. Reads text.now s.now.items.now) }
     ensures error { IfErr result (λ e. (wanted : Option (List ℕ)) → Refuses wanted text.now e) }
 {
-    match parse(arena, text) {
+    match parse(alloc, arena, text) {
         Ok(source) => Ok(source),
         Err(error) => Err(of_tokens(alloc, error)),
     }

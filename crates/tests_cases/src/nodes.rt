@@ -41,7 +41,7 @@ fn print_counts(rt: HostRuntime, counts: Counts) -> io::Result<()> {
 pub(crate) fn print_nodes(rt: HostRuntime, text: &str, name: &str) -> io::Result<()> {
     let arena = Bump::new(rt.alloc());
     let top = if name.is_empty() { None } else { Some(name) };
-    let Some(source) = read(&arena, text.as_bytes()) else {
+    let Some(source) = read(rt.alloc(), &arena, text.as_bytes()) else {
         return println!(rt; "  no tree of syntax");
     };
     match count(rt.alloc(), &arena, source, top) {

@@ -15,7 +15,11 @@ use rdl_values::name_decides_the_top;
 use std::alloc::Global;
 
 /// The tree of a source, whose items stand in order. None where it has none.
-pub(crate) fn read<'a>(arena: &'a Bump, text: &'a [u8]) -> Option<&'a Source<'a>>
+pub(crate) fn read<'a>(
+    alloc: Global,
+    arena: &'a Bump,
+    text: &'a [u8],
+) -> Option<&'a Source<'a>>
     ensures { IfSome result (λ s. IsInOrder s.now.items.now) }
 {
     spelled_in_order();
@@ -23,7 +27,7 @@ pub(crate) fn read<'a>(arena: &'a Bump, text: &'a [u8]) -> Option<&'a Source<'a>
     if text.len() >= u32::MAX as usize {
         return None;
     }
-    match parse(arena, text) {
+    match parse(alloc, arena, text) {
         Ok(source) => Some(source),
         Err(_) => None,
     }
@@ -54,7 +58,7 @@ pub(crate) fn instances<'a>(
 ) -> Result<Option<Elab<'a>>, NoMemory>
     ensures { IfOk result (λ o. IfSome o (λ e. IsClean e)) }
 {
-    match read(arena, text.as_bytes()) {
+    match read(alloc, arena, text.as_bytes()) {
         Some(source) => grown(alloc, arena, source),
         None => Ok(None),
     }

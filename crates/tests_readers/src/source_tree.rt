@@ -20,7 +20,7 @@ addrmap uart {
 #[test]
 fn a_source_is_read(rt: HostRuntime) -> Result<(), Fail> {
     let arena = Bump::new(rt.alloc());
-    let source = parse(&arena, UART.as_bytes())?;
+    let source = parse(rt.alloc(), &arena, UART.as_bytes())?;
     assert_eq!(rt; source.items.len(), 3);
     let Some(Item::EnumDef { name, entries }) = source.items.first().copied() else {
         return Err(Fail::new("an enumeration"));
@@ -50,7 +50,7 @@ fn operator<'a>(expr: &Expr<'a>) -> Option<(Op, &'a Expr<'a>, Place)> {
 #[test]
 fn operators(rt: HostRuntime) -> Result<(), Fail> {
     let arena = Bump::new(rt.alloc());
-    let source = parse(&arena, b"a b[1 - 2 * 3 + 4];")?;
+    let source = parse(rt.alloc(), &arena, b"a b[1 - 2 * 3 + 4];")?;
     let Some(Item::Made { insts, .. }) = source.items.first().copied() else {
         return Err(Fail::new("an instance"));
     };

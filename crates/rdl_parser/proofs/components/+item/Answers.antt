@@ -40,7 +40,7 @@ pub bare_def-returns-in_err-_end-clause-stops : goal.bare_def-returns-in_err-_en
 bare_def-returns-in_err-_end-clause-stops t c = λ h. calling right c.in_ok-items.ensures.reads refl ⟫ reading right _ c.skip_internal.ensures.reads refl ⟫ calling right c.in_ok-list.ensures.reads refl ⟫| halting right c.in_err-_end.ensures.err refl
 
 pub bare_def-returns-clause-tree : goal.bare_def-returns-clause-tree
-bare_def-returns-clause-tree t c = λ k u ts us s e i at. bare_tree _ _ _ _ _ s e i at c.in_ok-items.ensures.tree c.skip_internal.ensures.tree c.in_ok-list.ensures.tree c.in_ok-_end.ensures.ok refl refl
+bare_def-returns-clause-tree t c = λ k u ts us s e i at. bare_tree _ _ _ _ _ s e i at c.in_ok-items.ensures.tree c.skip_internal.ensures.tree c.in_ok-list.ensures.tree c.in_ok-_end.ensures.ok c.no_parameters.ensures c.no_arguments.ensures
 
 pub bare_def-returns-clause-reads : goal.bare_def-returns-clause-reads
 bare_def-returns-clause-reads t c = calling right c.in_ok-items.ensures.reads refl ⟫ reading right _ c.skip_internal.ensures.reads refl ⟫ calling right c.in_ok-list.ensures.reads refl ⟫ taking right c.in_ok-_end.ensures.ok refl

@@ -10,7 +10,7 @@ use Rattle.rb_grammar.proofs.Factoring.{reading, reading_stops}
 use Rattle.rdl_parser.proofs.instances.args.Goals as goal
 
 pub returns-in_default-clause-tree : goal.returns-in_default-clause-tree
-returns-in_default-clause-tree c = rw c.in_default.ensures.list tree.none
+returns-in_default-clause-tree c = rw c.no_arguments.ensures (rw c.in_default.ensures.list tree.none)
 
 pub returns-in_default-clause-reads : goal.returns-in_default-clause-reads
 returns-in_default-clause-reads c = missing right c.in_default.ensures refl

@@ -7,7 +7,7 @@ use Rattle.rdl_parser.proofs.Phrases.{shape_step, shape_expr, shape_stops}
 use Rattle.rdl_parser.proofs.instances.inst_shape.Goals as goal
 
 pub returns-in_default-clause-tree : goal.returns-in_default-clause-tree
-returns-in_default-clause-tree c = rw c.in_default.ensures.list (tree.dims tree.no_index)
+returns-in_default-clause-tree c = rw c.no_dims-none.ensures (rw c.in_default.ensures.list (tree.dims tree.no_index))
 
 pub returns-in_default-clause-reads : goal.returns-in_default-clause-reads
 returns-in_default-clause-reads c = missing right c.in_default.ensures refl
@@ -31,7 +31,7 @@ pub returns-in_err-_close-clause-stops : goal.returns-in_err-_close-clause-stops
 returns-in_err-_close-clause-stops c = λ h. shape_step c.in-Some.ensures ⟫ shape_expr c.in_ok-first.ensures.reads ⟫ taking right c.in-Some-mark.ensures refl ⟫ calling right c.in_ok-low.ensures.reads refl ⟫| halting right c.in_err-_close.ensures.err refl
 
 pub returns-clause-tree : goal.returns-clause-tree
-returns-clause-tree c = rw c.in_ok-range.ensures.is (tree.range c.in-Some.ensures c.in_ok-first.ensures.tree c.in-Some-mark.ensures c.in_ok-low.ensures.tree c.in_ok-_close.ensures.ok)
+returns-clause-tree c = rw c.no_dims-none.ensures (rw c.in_ok-range.ensures.is (tree.range c.in-Some.ensures c.in_ok-first.ensures.tree c.in-Some-mark.ensures c.in_ok-low.ensures.tree c.in_ok-_close.ensures.ok))
 
 pub returns-clause-reads : goal.returns-clause-reads
 returns-clause-reads c = shape_step c.in-Some.ensures ⟫ shape_expr c.in_ok-first.ensures.reads ⟫ taking right c.in-Some-mark.ensures refl ⟫ calling right c.in_ok-low.ensures.reads refl ⟫ taking right c.in_ok-_close.ensures.ok refl

@@ -30,7 +30,7 @@ more-preserved c = let start = next_at _ _ _ _ _ _ c.in-Ok-Some.field-0-is c.mor
 pub returns-in-Ok-None-clause-spells : goal.returns-in-Ok-None-clause-spells
 returns-in-Ok-None-clause-spells c =
     let ends = (rw c.in-Ok-None.field-0-is at c.in-Ok-None.ensures.end).0 in
-    rw c.into_bump_slice.ensures (rw append-nil at (c.more.invariant.spells [] (subst (λ (n : ℕ). SpellsFrom systemrdl n c.more.lexer.rest []) c.more.invariant.size ends)))
+    rw append-nil at (c.more.invariant.spells [] (subst (λ (n : ℕ). SpellsFrom systemrdl n c.more.lexer.rest []) c.more.invariant.size ends))
 
 pub returns-in-Err-clause-fault : goal.returns-in-Err-clause-fault
 returns-in-Err-clause-fault c = λ n.
