@@ -126,7 +126,7 @@ fn env_in<'a>(
 fn numbers_in<'a>(arena: &'a Bump, number: usize, outer: &[usize]) -> Result<&'a [usize], NoMemory>
     ensures { IfOk result (λ r. r.now ≡ number ∷ outer.now) }
 {
-    let mut numbers: Vec<usize, &'a Bump> = Vec::new(arena);
+    let mut numbers = Vec::with_capacity(arena, outer.len().saturating_add(1))?;
     numbers.push(number)?;
     for round in outer {
         numbers.push(*round)?;

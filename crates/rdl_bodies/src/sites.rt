@@ -6,7 +6,6 @@ ghost use Rattle.rdl_base.specs.declared.fault.Fault.{Fault as AnyFault};
 use crate::bodies::{Bodies, ParameterKey, Site, SiteKey};
 use crate::same::{are_equal, are_same};
 use bumpalo::Bump;
-use bumpalo::collections::into_bump_slice;
 use rb_base::NoMemory;
 use rdl_tree::{Bound, Def, Value};
 use std::alloc::Global;
@@ -43,22 +42,16 @@ fn key_of<'a>(
 fn numbers_in<'a>(arena: &'a Bump, numbers: &[usize]) -> Result<&'a [usize], NoMemory>
     ensures { IfOk result (λ r. r.now ≡ numbers.now) }
 {
-    let mut copy: Vec<usize, &'a Bump> = Vec::new(arena);
-    for number in numbers {
-        copy.push(*number)?;
-    }
-    Ok(into_bump_slice(copy))
+    let copy = arena.try_alloc_slice_copy(numbers)?;
+    Ok(copy)
 }
 
 // A copy in the arena.
 fn bound_in<'a>(arena: &'a Bump, bound: &[Bound<'a>]) -> Result<&'a [Bound<'a>], NoMemory>
     ensures { IfOk result (λ r. r.now ≡ bound.now) }
 {
-    let mut copy: Vec<Bound<'a>, &'a Bump> = Vec::new(arena);
-    for parameter in bound {
-        copy.push(*parameter)?;
-    }
-    Ok(into_bump_slice(copy))
+    let copy = arena.try_alloc_slice_copy(bound)?;
+    Ok(copy)
 }
 
 impl<'a> Bodies<'a> {
@@ -112,7 +105,7 @@ impl<'a> Bodies<'a> {
         alloc: Global,
         arena: &'a Bump,
         def: &'a Def<'a>,
-        outer: &[usize],
+        outer: &'a [usize],
         uptos: &[usize],
         bound: &[Bound<'a>],
     ) -> Result<usize, NoMemory>
@@ -128,7 +121,7 @@ impl<'a> Bodies<'a> {
         let number = self.sites.len();
         let site = Site {
             def,
-            outer: numbers_in(arena, outer)?,
+            outer,
             uptos: numbers_in(arena, uptos)?,
             bound: bound_in(arena, bound)?,
         };
