@@ -44,6 +44,15 @@ fn judge<'a>(
     Ok(items)
 }
 
+// How many instances some items have.
+fn count_instances(items: &[ItemUses<'_>]) -> usize {
+    let mut count: usize = 0;
+    for item in items {
+        count = count.saturating_add(item.uses.given.len());
+    }
+    count
+}
+
 // The uses that give nodes, one by one.
 fn list_uses<'a>(
     alloc: Global,
@@ -55,7 +64,7 @@ fn list_uses<'a>(
     requires { CanList bodies.old body.now items.now }
     ensures { IfOk result (λ r. Lists bodies.old bodies.new body.now items.now r.now) }
 {
-    let mut list: Vec<Child<'a>, &'a Bump> = Vec::new(arena);
+    let mut list = Vec::with_capacity(arena, count_instances(items))?;
     for item in items {
         add_uses(alloc, arena, bodies, body, item, &mut list)?;
     }

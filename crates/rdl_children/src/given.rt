@@ -7,7 +7,6 @@ ghost use Rattle.rdl_children.specs.Items.{AddsUses, CanAdd};
 use crate::child::Child;
 use crate::item::ItemUses;
 use bumpalo::Bump;
-use bumpalo::collections::into_bump_slice;
 use rb_base::NoMemory;
 use rdl_bodies::{Bodies, Body};
 use rdl_tree::Name;
@@ -18,11 +17,8 @@ use std::alloc::Global;
 fn dims_in<'a>(arena: &'a Bump, dims: &[u64]) -> Result<&'a [u64], NoMemory>
     ensures { IfOk result (λ r. r.now ≡ dims.now) }
 {
-    let mut copy: Vec<u64, &'a Bump> = Vec::new(arena);
-    for dim in dims {
-        copy.push(*dim)?;
-    }
-    Ok(into_bump_slice(copy))
+    let copy = arena.try_alloc_slice_copy(dims)?;
+    Ok(copy)
 }
 
 // Puts an instance behind the others.
