@@ -33,7 +33,7 @@ pub fn row_of<'a>(arena: &'a Bump, dims: &[u64], number: u64) -> Result<&'a [u64
     ensures row { IfOk result (λ r. r.now ≡ row dims.now number) }
     ensures short { IfOk result (λ r. (name : List ℕ) → length (joined (record { name = name; index = r.now } ∷ [])) ≤ length (joined (record { name = name; index = map (λ d. d - 1) dims.now } ∷ []))) }
 {
-    let mut index: Vec<u64, &'a Bump> = Vec::new(arena);
+    let mut index = Vec::with_capacity(arena, dims.len())?;
     let mut left = number;
     for at in 0..dims.len() {
         let below = size_of(&dims[at + 1..]);
