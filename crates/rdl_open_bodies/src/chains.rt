@@ -33,7 +33,7 @@ pub(crate) fn chain_behind<'a>(
 ) -> Result<&'a [Option<u32>], NoMemory>
     ensures { IfOk result (λ r. r.now ≡ Some node ∷ chain.now) }
 {
-    let mut list: Vec<Option<u32>, &'a Bump> = Vec::new(arena);
+    let mut list = Vec::with_capacity(arena, chain.len().saturating_add(1))?;
     list.push(Some(node))?;
     for round in chain {
         list.push(*round)?;
