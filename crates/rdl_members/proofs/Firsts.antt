@@ -1,12 +1,13 @@
 -- The first row under a key.
-use Rattle.std.proofs.Common.{◌≡◌, ◌∙◌, ℕ, zero, suc, ◌+◌, Bool, true, false, cond, List, [], ◌∷◌, ◌++◌, length, take, None, Some, slice_get, refl, sym, ap, subst, arith}
+use Rattle.std.proofs.Common.{◌≡◌, ◌∙◌, All, ℕ, zero, suc, ◌+◌, Bool, true, false, cond, List, [], ◌∷◌, ◌++◌, length, take, None, Some, slice_get, refl, sym, ap, subst, arith}
 use Rattle.std.specs.Option.{option_or}
 use Rattle.std.proofs.lemmas.List.{take_more}
+use Rattle.std.proofs.lemmas.List.Elements.{All-nil, All-push}
 use Rattle.rdl_tree.specs.declared.node.Node.{out-Node}
 use Rattle.rdl_nodes.specs.declared.table.Row.{Row}
 use Rattle.rdl_nodes.proofs.Members.{get-read, get-within}
-use Rattle.rdl_nodes.specs.Keyed.{Key, first_under, nodes_under}
-use Rattle.rdl_members.specs.Listed.{AddsRow, AreFirst, element_key, first_row, has_key, name_key}
+use Rattle.rdl_nodes.specs.Keyed.{Key, nodes_under}
+use Rattle.rdl_members.specs.Listed.{AddsRow, AreFirst, IsIndexed, element_key, first_row, has_key, name_key}
 use Rattle.rdl_members.specs.declared.table.Members.{Members}
 
 abbrev pub id_of : Row → ℕ
@@ -56,6 +57,7 @@ pub first-more : (root : ℕ) (rows : List Row) (i : ℕ) (x : Row) (old new : M
 first-more root rows i x old new at before adds = record {
   elements_ = λ k. ap (λ ns. slice_get ns 0) (adds.elements_ k) ∙ (front-append (nodes_under old.elements k) (has_key element_key root k x) (id_of x) ∙ (ap (λ o. option_or o (cond (has_key element_key root k x) (Some (id_of x)) None)) (before.elements_ k) ∙ (sym (first-append (has_key element_key root k) (take i rows) x) ∙ ap (first_row (has_key element_key root k)) (sym (next-taken rows i x at)))));
   names_ = λ k. ap (λ ns. slice_get ns 0) (adds.names_ k) ∙ (front-append (nodes_under old.names k) (has_key name_key root k x) (id_of x) ∙ (ap (λ o. option_or o (cond (has_key name_key root k x) (Some (id_of x)) None)) (before.names_ k) ∙ (sym (first-append (has_key name_key root k) (take i rows) x) ∙ ap (first_row (has_key name_key root k)) (sym (next-taken rows i x at)))));
+  indexed = subst (All (IsIndexed new.most)) (sym (next-taken rows i x at)) (All-push (IsIndexed new.most) (take i rows) x (λ k d l. let few = before.indexed k d l in let more = adds.more in omega (arith, few, more)) adds.indexed);
 }
 
 pub first-whole : (root : ℕ) (rows : List Row) (i : ℕ) (m : Members) → length rows ≡ i → AreFirst root (take i rows) m → AreFirst root rows m
@@ -68,4 +70,4 @@ first-whole root rows i m long h = subst (λ xs. AreFirst root xs m) (whole rows
     whole (x ∷ xs) (suc i) e = ap (λ ys. x ∷ ys) (whole xs i (omega (arith, e)))
 
 pub none-yet : (root : ℕ) (m : Members) → ((k : Key) → nodes_under m.elements k ≡ []) → ((k : Key) → nodes_under m.names k ≡ []) → AreFirst root [] m
-none-yet root m e n = record { elements_ = λ k. ap (λ ns. slice_get ns 0) (e k); names_ = λ k. ap (λ ns. slice_get ns 0) (n k) }
+none-yet root m e n = record { elements_ = λ k. ap (λ ns. slice_get ns 0) (e k); names_ = λ k. ap (λ ns. slice_get ns 0) (n k); indexed = All-nil (IsIndexed m.most) }

@@ -1,5 +1,5 @@
 -- What the first rows say of the nodes in bodies.
-use Rattle.std.proofs.Common.{◌≡◌, ◌∙◌, ℕ, ◌≤◌, ◌<◌, ◌&&◌, ◌||◌, inl, inr, Bool, true, false, List, [], ◌∷◌, bytes_eq, filter, Option, None, Some, is_some, option_and_then, option_map, option_to_list, slice_get, refl, sym, ap, subst, arith}
+use Rattle.std.proofs.Common.{◌≡◌, ◌∙◌, ℕ, ◌≤◌, ◌<◌, ◌&&◌, ◌||◌, inl, inr, Bool, true, false, List, [], ◌∷◌, bytes_eq, length, filter, Option, None, Some, is_some, option_and_then, option_map, option_to_list, slice_get, refl, sym, ap, subst, arith}
 use Rattle.std.specs.List.{list_any}
 use Rattle.std.specs.Cmp.Lexicographic.{bytes_decides}
 use Rattle.plain_lemmas.proofs.Bools.{and-both as both-true}
@@ -13,13 +13,13 @@ use Rattle.rdl_values.specs.Lineages.{Lineage, lineages_of}
 use Rattle.rdl_nodes.proofs.Lineages.{all_nodes}
 use Rattle.rdl_nodes.specs.declared.table.Row.{Row}
 use Rattle.rdl_nodes.specs.Rows.{AreRows}
-use Rattle.rdl_nodes.proofs.Members.{In, get-within}
+use Rattle.rdl_nodes.proofs.Members.{In, get-read, get-within}
 use Rattle.rdl_refs.proofs.OneTarget.{AtMost, Other, members, members_fine, of_nodes, one_passes, same_members, same_passing}
 use Rattle.rdl_bits.proofs.Filtered.{in-kept, kept-in, kept-passes}
 use Rattle.rdl_sizes.proofs.Facts.{count-is, row-at}
 use Rattle.rdl_members.specs.Found.{AreMembersOf, is_element, is_named, members_at}
 use Rattle.rdl_nodes.specs.Keyed.{Key, first_under}
-use Rattle.rdl_members.specs.Listed.{AreFirst, body_in, element_key, first_row, has_key, key_is, name_key}
+use Rattle.rdl_members.specs.Listed.{AreFirst, IsIndexed, body_in, element_key, first_row, has_key, key_is, name_key}
 use Rattle.rdl_members.specs.declared.table.Members.{Members}
 use Rattle.rdl_members.proofs.Firsts.{first-none, first-some, id_of}
 use Rattle.rdl_nodes.proofs.Keyed.{keys-decide}
@@ -166,9 +166,21 @@ within e rows clean are m firsts key k h =
     let many = count-is e clean in
     omega (arith, low, number, many)
 
+-- a row of a key has its indices
+few-indices : (e : Elab) (rows : List Row) (m : Members) → AreFirst e.count rows m → (key : Key) (k : ℕ) → first_under m.elements key ≡ Some k → length key.index ≤ m.most
+few-indices e rows m firsts key k h =
+    let r = first-some (has_key element_key e.count key) rows k (sym (firsts.elements_ key) ∙ h) in
+    let few = firsts.indexed r.0 r.1 (get-within rows r.0 r.1 r.2) in
+    subst (λ index. length index ≤ m.most) (has-index (body_in e.count r.1) r.1 r.3) (subst (IsIndexed m.most) (get-read rows r.0 r.1 r.1 r.2) few)
+  where
+    has-index : (o : Option ℕ) (x : Row) → key_is element_key key x o ≡ true → (out-Node x.node.now).index.now ≡ key.index
+    has-index None x q = cc q
+    has-index (Some c) x q = ap (λ j. j.index) (keys-decide (element_key c x) key q)
+
 pub are-members : (e : Elab) → IsClean e → (rows : List Row) → AreRows e rows → (m : Members) → AreFirst e.count rows m → AreMembersOf e m
 are-members e clean rows are m firsts = record {
   found = λ b name index low. found-element e clean rows are m firsts b low name index;
   named = λ b name low. found-name e clean rows are m firsts b low name;
   stands = λ b name index k h. within e rows clean are m firsts (record { body = b; name = name; index = index }) k h;
+  few = λ b name index k h. few-indices e rows m firsts (record { body = b; name = name; index = index }) k h;
 }

@@ -1,5 +1,5 @@
 -- The first of a list of rows under a key.
-use Rattle.std.specs.Prelude.{◌≡◌, ℕ, Bool, false, cond, List, [], ◌∷◌, ◌++◌, Option, None, Some}
+use Rattle.std.specs.Prelude.{◌≡◌, ◌≤◌, ℕ, Bool, false, cond, length, List, [], ◌∷◌, ◌++◌, Option, None, Some, All}
 use Rattle.rdl_tree.specs.declared.item.Kind.{Kind}
 use Rattle.rdl_tree.specs.declared.item.Kind.TheVariants as kind
 use Rattle.rdl_tree.specs.declared.node.Node.{out-Node}
@@ -35,12 +35,19 @@ abbrev pub first_row : (Row → Bool) → List Row → Option ℕ
 first_row has [] = None
 first_row has (x ∷ xs) = cond (has x) (Some (out-Node x.node.now).id) (first_row has xs)
 
+-- a row has no more indices than this
+abbrev pub IsIndexed : ℕ → Row → Type 0
+IsIndexed most x = length (out-Node x.node.now).index.now ≤ most
+
 -- A row is added under its keys.
 pub record AddsRow (root : ℕ) (x : Row) (old new : Members) : Type 0 where
   pub elements_ : (k : Key) → nodes_under new.elements k ≡ nodes_under old.elements k ++ cond (has_key element_key root k x) ((out-Node x.node.now).id ∷ []) []
   pub names_ : (k : Key) → nodes_under new.names k ≡ nodes_under old.names k ++ cond (has_key name_key root k x) ((out-Node x.node.now).id ∷ []) []
+  pub more : old.most ≤ new.most
+  pub indexed : IsIndexed new.most x
 
--- The first rows under each key.
+-- The first rows under each key, and a count of indices that none exceeds.
 pub record AreFirst (root : ℕ) (rows : List Row) (m : Members) : Type 0 where
   pub elements_ : (k : Key) → first_under m.elements k ≡ first_row (has_key element_key root k) rows
   pub names_ : (k : Key) → first_under m.names k ≡ first_row (has_key name_key root k) rows
+  pub indexed : All (IsIndexed m.most) rows

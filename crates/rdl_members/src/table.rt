@@ -1,6 +1,6 @@
 //! The nodes of a tree under the bodies that they are in.
 
-ghost use Rattle.std.specs.Prelude.{◌≡◌, IfOk};
+ghost use Rattle.std.specs.Prelude.{◌≡◌, ◌≤◌, IfOk, length};
 ghost use Rattle.rdl_values.specs.Elaboration.{IsClean};
 ghost use Rattle.rdl_nodes.specs.Rows.{AreRows};
 ghost use Rattle.rdl_members.specs.Found.{AreMembersOf};
@@ -17,6 +17,8 @@ use std::alloc::Global;
 pub struct Members<'a> {
     pub(crate) elements: NodeIndex<'a>,
     pub(crate) names: NodeIndex<'a>,
+    /// No node has more indices.
+    pub(crate) most: usize,
 }
 
 /// The number of the body that a node is in: of the node that it stands in, or the root's, where it is a signal. The top is in none.
@@ -28,6 +30,14 @@ fn body_of(parent: Option<u32>, kind: Kind, root: u32) -> Option<u32>
         (None, Kind::Signal) => Some(root),
         _ => None,
     }
+}
+
+/// A number that is neither less than this one nor than the count of some indices.
+fn at_least(most: usize, index: &[u64]) -> usize
+    ensures more { most ≤ result }
+    ensures few { length index.now ≤ result }
+{
+    most.max(index.len())
 }
 
 impl<'a> Members<'a> {
@@ -55,10 +65,18 @@ impl<'a> Members<'a> {
         self.names.first(body, name, none).is_some()
     }
 
+    /// A count of indices above which no node has any.
+    pub fn most_indices(&self) -> usize
+        ensures { result ≡ self.now.most }
+    {
+        self.most
+    }
+
     /// Adds a row, where the root's body has this number.
     fn add(&mut self, alloc: Global, row: &Row<'a>, root: u32) -> Result<(), NoMemory>
         ensures { OnOk result (AddsRow root row.now self.old self.new) }
     {
+        self.most = at_least(self.most, row.node.index);
         let Some(body) = body_of(row.parent, row.node.kind, root) else {
             return Ok(());
         };
@@ -83,6 +101,7 @@ pub fn members_of<'a>(
     let mut members = Members {
         elements: NodeIndex::new(alloc),
         names: NodeIndex::new(alloc),
+        most: 0,
     };
     for row in rows {
         members.add(alloc, row, elab.count)?;

@@ -2,6 +2,7 @@
 use Rattle.std.proofs.Common.{◌≡◌, ◌∙◌, ℕ, zero, suc, ◌+◌, ◌-◌, ◌<◌, ◌≤◌, ◌&&◌, Bool, true, false, cond, List, [], ◌∷◌, bytes_eq, length, get_or, take, drop, filter, flat_map, drop-cons, length-drop, take_all, add-one, Option, None, Some, inl, inr, option_and_then, option_map, option_to_list, slice_get, Ok, Err, refl, sym, ap, subst, arith}
 use Rattle.std.specs.Result.{result_ok}
 use Rattle.plain_lemmas.proofs.Lists.{bytes_eq-swap as turned, filter-none}
+use Rattle.rdl_tree.specs.declared.expr.Expr.{Expr}
 use Rattle.rdl_tree.specs.declared.expr.Step.{Step}
 use Rattle.rdl_tree.specs.declared.node.Elab.{Elab}
 use Rattle.rdl_values.specs.Elaborated.{index_of, top_name}
@@ -9,8 +10,9 @@ use Rattle.rdl_values.specs.Elaboration.{IsClean}
 use Rattle.rdl_values.specs.Instances.{Instance, nodes}
 use Rattle.rdl_values.specs.Lineages.{Lineage, children_in, lineages_of}
 use Rattle.rdl_values.specs.Uses.{values}
-use Rattle.rdl_values.specs.Values.{Around, Outcome}
+use Rattle.rdl_values.specs.Values.{Around, Outcome, number_of, then}
 use Rattle.rdl_layers.specs.Assignments.{is_index, led_down, same_path}
+use Rattle.rdl_nodes.specs.Keyed.{first_under}
 use Rattle.rdl_nodes.proofs.Lineages.{all_nodes}
 use Rattle.rdl_nodes.proofs.Paths.{Differ, nodes_apart}
 use Rattle.rdl_nodes.proofs.Members.{In, place-in}
@@ -18,8 +20,9 @@ use Rattle.rdl_refs.specs.Leads.{members_of}
 use Rattle.rdl_refs.proofs.OneTarget.{AtMost, is_same_path, of_nodes, one_passes, same_passing}
 use Rattle.rdl_bits.proofs.Filtered.{in-kept}
 use Rattle.rdl_sizes.proofs.Facts.{count-is}
+use Rattle.rdl_members.specs.declared.table.Members.{Members}
 use Rattle.rdl_members.proofs.Standing.{same-path-itself}
-use Rattle.rdl_members.specs.Found.{is_element, members_at}
+use Rattle.rdl_members.specs.Found.{AreMembersOf, is_element, members_at}
 use Rattle.rdl_resolve.specs.Led.{IsLed, further, is_exactly}
 
 filter-same : {X : Type 0} (p q : X → Bool) (xs : List X) → ((x : X) → p x ≡ q x) → filter p xs ≡ filter q xs
@@ -51,6 +54,34 @@ without-indices e env t ls none = record {
   node_ = sym (filter-none (is_exactly env t) ls (λ l. ap (λ b. bytes_eq t.name.text.now l.node.use_.name.text.now && b) (no-index (values env t.index.now) (index_of l.node.path) none) ∙ and-false (bytes_eq t.name.text.now l.node.use_.name.text.now)));
   stands = λ k h. cc h;
 }
+
+-- as many values as there are indices
+values-many : (env : Around) (xs : List Expr) (ns : List ℕ) → values env xs ≡ Ok ns → length ns ≡ length xs
+values-many env [] ns h = let none : [] ≡ ns = cc h in ap length (sym none)
+values-many env (x ∷ xs) ns h = go (number_of env x) (values env xs) (λ ms. values-many env xs ms) h
+  where
+    go : (o : Outcome ℕ) (v : Outcome (List ℕ)) → ((ms : List ℕ) → v ≡ Ok ms → length ms ≡ length xs) → (then o λ n. then v λ ms. Ok (n ∷ ms)) ≡ Ok ns → length ns ≡ suc (length xs)
+    go (Ok n) (Ok ms) ih e = let same : n ∷ ms ≡ ns = cc e in ap length (sym same) ∙ ap suc (ih ms refl)
+    go (Ok n) (Err f) ih e = cc e
+    go (Err f) v ih e = cc e
+
+-- a step with more indices than any node leads to none
+pub too-many : (e : Elab) (env : Around) (t : Step) (b : ℕ) (m : Members) → AreMembersOf e m → b ≤ e.count → m.most < length t.index.now → IsLed e None (filter (is_exactly env t) (members_at (lineages_of e) b))
+too-many e env t b m are low many = by (values env t.index.now) refl
+  where
+    none-there : (ns : List ℕ) (o : Option ℕ) → values env t.index.now ≡ Ok ns → first_under m.elements (record { body = b; name = t.name.text.now; index = ns }) ≡ o → o ≡ None
+    none-there ns None q h = refl
+    none-there ns (Some k) q h =
+        let few = are.few b t.name.text.now ns k h in
+        let as-many = values-many env t.index.now ns q in
+        absurd (omega (arith, few, as-many, many))
+
+    by : (o : Outcome (List ℕ)) → values env t.index.now ≡ o → IsLed e None (filter (is_exactly env t) (members_at (lineages_of e) b))
+    by (Err f) q = without-indices e env t (members_at (lineages_of e) b) (sym (ap result_ok q))
+    by (Ok ns) q =
+        let none = none-there ns (first_under m.elements (record { body = b; name = t.name.text.now; index = ns })) q refl in
+        with-indices e env t ns (members_at (lineages_of e) b) None (sym (ap result_ok q))
+        (ap (λ o. option_to_list (option_and_then (slice_get (lineages_of e)) o)) (sym none) ∙ are.found b t.name.text.now ns low) (λ k h. cc h)
 
 one-only : {X : Type 0} (xs : List X) (x : X) → AtMost xs → In xs x → xs ≡ x ∷ []
 one-only [] x a h = absurd h

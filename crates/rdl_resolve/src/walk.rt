@@ -14,7 +14,7 @@ use rdl_members::Members;
 use rdl_tree::{Env, Step};
 use std::alloc::Global;
 
-/// The node in a body that a step leads to.
+/// The node in a body that a step leads to. Its indices have their values only where some node has as many.
 pub(crate) fn step_to<'a>(
     alloc: Global,
     members: &Members<'_>,
@@ -24,6 +24,9 @@ pub(crate) fn step_to<'a>(
 ) -> Result<Option<u32>, NoMemory>
     ensures { IfOk result (λ r. (e : AnyElab) → AreMembersOf e members.now → body ≤ e.count → IsLed e r (filter (is_exactly (around_of env.now) step.now) (members_at (lineages_of e) body))) }
 {
+    if step.index.len() > members.most_indices() {
+        return Ok(None);
+    }
     match numbers_of(alloc, step.index, env)? {
         Some(index) => Ok(members.find(body, step.name.text, &index)),
         None => Ok(None),
