@@ -34,7 +34,7 @@ use Rattle.rdl_targets.specs.At.{AreAt}
 use Rattle.rdl_targets.specs.Trails.{AreTrails, Finds, LeadsTo, listed, nodes_of}
 use Rattle.rdl_targets.specs.declared.trails.Trails.{Trails}
 use Rattle.rdl_targets.proofs.Numbered.{no_row, row_says}
-use Rattle.rdl_dynamic.specs.Known.{AreKnown, IsSeen, legal_at}
+use Rattle.rdl_dynamic.specs.Known.{AreKnown, AreSeen, IsRivalled, IsSeen, has_rival, legal_at}
 use Rattle.rdl_dynamic.specs.Marks.{AreMarks, any_of, is_marked}
 use Rattle.rdl_dynamic.specs.Seen.{is_number, marks_of, same_bool}
 use Rattle.rdl_dynamic.specs.declared.known.Known.{Known}
@@ -174,27 +174,35 @@ taken-seen e node rows b k earlier path p (Some ok) w h some =
     let s = h.seen_ ok w.0 p w.2 in
     ap (list_any (λ i. is_marked k.marks i (same_prop p))) (seen-nodes rows k.trails k.marks path w.0 p ok w.1 s) ∙ some-passes (λ i. is_marked k.marks i (same_prop p)) s.ks s.some s.marked
 
+pub rival-seen : (e : Elab) (node : ℕ) (rows : List Row) (b : Nested) (k : Known) (earlier : List Dynamic) (path : Option ℕ) (p : Prop) (ok : Bool) → WasSeen k.rivals path p ok → AreKnown e node rows b k earlier → ok ≡ list_any (has_rival k.marks p) (nodes_of k.trails path)
+rival-seen e node rows b k earlier path p ok w h =
+    let s = h.rivals_ ok w.0 p w.2 in
+    sym (ap (list_any (has_rival k.marks p)) (ap (nodes_of k.trails) w.1 ∙ ap listed s.is) ∙ s.any)
+
 -- Nothing yet, and a path more.
 
-pub nothing-known : (e : Elab) (node : ℕ) (rows : List Row) (b : Nested) (k : Known) → AreTrails e node k.trails → ((i : ℕ) (f : Prop → Bool) → is_marked k.marks i f ≡ false) → ((ok : Bool) (i : ℕ) (f : Prop → Bool) → is_marked (marks_of ok k.seen) i f ≡ false) → AreKnown e node rows b k []
-nothing-known e node rows b k trails marks seen = record { trails_ = trails; marks_ = record { at = λ i n is f. marks i f }; seen_ = λ ok u p h. absurd (no ok u p h) }
-  where
-    no : (ok : Bool) (u : ℕ) (p : Prop) → is_marked (marks_of ok k.seen) u (same_prop p) ≡ true → ⊥
-    no ok u p h = let q : false ≡ true = sym (seen ok u (same_prop p)) ∙ h in cc q
+no-mark : (s : Seen) → ((ok : Bool) (i : ℕ) (f : Prop → Bool) → is_marked (marks_of ok s) i f ≡ false) → (ok : Bool) (u : ℕ) (p : Prop) → is_marked (marks_of ok s) u (same_prop p) ≡ true → ⊥
+no-mark s none ok u p h = let q : false ≡ true = sym (none ok u (same_prop p)) ∙ h in cc q
 
-pub walked-on : (e : Elab) (node : ℕ) (rows : List Row) (b : Nested) (old new : Known) (earlier : List Dynamic) (r : Option ℕ) (ns : List Instance) → new.marks ≡ old.marks → new.seen ≡ old.seen → Finds e node old.trails new.trails r ns → AreKnown e node rows b old earlier → AreKnown e node rows b new earlier
-walked-on e node rows b old new earlier r ns marks seen f h = record {
+pub nothing-known : (e : Elab) (node : ℕ) (rows : List Row) (b : Nested) (k : Known) → AreTrails e node k.trails → ((i : ℕ) (f : Prop → Bool) → is_marked k.marks i f ≡ false) → ((ok : Bool) (i : ℕ) (f : Prop → Bool) → is_marked (marks_of ok k.seen) i f ≡ false) → ((ok : Bool) (i : ℕ) (f : Prop → Bool) → is_marked (marks_of ok k.rivals) i f ≡ false) → AreKnown e node rows b k []
+nothing-known e node rows b k trails marks seen rivals = record { trails_ = trails; marks_ = record { at = λ i n is f. marks i f }; seen_ = λ ok u p h. absurd (no-mark k.seen seen ok u p h); rivals_ = λ ok u p h. absurd (no-mark k.rivals rivals ok u p h) }
+
+pub walked-on : (e : Elab) (node : ℕ) (rows : List Row) (b : Nested) (old new : Known) (earlier : List Dynamic) (r : Option ℕ) (ns : List Instance) → new.marks ≡ old.marks → new.seen ≡ old.seen → new.rivals ≡ old.rivals → Finds e node old.trails new.trails r ns → AreKnown e node rows b old earlier → AreKnown e node rows b new earlier
+walked-on e node rows b old new earlier r ns marks seen rivals f h = record {
   trails_ = f.are;
   marks_ = subst (λ m. AreMarks (lineages_of e) b m earlier) (sym marks) h.marks_;
   seen_ = λ ok u p is.
       let s = h.seen_ ok u p (subst (λ x. is_marked (marks_of ok x) u (same_prop p) ≡ true) seen is) in
       record { ks = s.ks; is = f.keeps u s.ks s.is; some = s.some; marked = subst (λ m. list_all (λ k. is_marked m k (same_prop p)) s.ks ≡ true) (sym marks) s.marked; kinds = s.kinds };
+  rivals_ = λ ok u p is.
+      let s = h.rivals_ ok u p (subst (λ x. is_marked (marks_of ok x) u (same_prop p) ≡ true) rivals is) in
+      record { ks = s.ks; is = f.keeps u s.ks s.is; any = subst (λ m. list_any (has_rival m p) s.ks ≡ ok) (sym marks) s.any };
 }
 
 -- One assignment more.
 
 pub known-stays : (e : Elab) (node : ℕ) (rows : List Row) (b : Nested) (k : Known) (earlier : List Dynamic) (d : Dynamic) → prop_of d.assigns ≡ None → AreKnown e node rows b k earlier → AreKnown e node rows b k (earlier ++ (d ∷ []))
-known-stays e node rows b k earlier d none h = record { trails_ = h.trails_; marks_ = marks-stay (lineages_of e) b k.marks earlier d h.marks_ none; seen_ = h.seen_ }
+known-stays e node rows b k earlier d none h = record { trails_ = h.trails_; marks_ = marks-stay (lineages_of e) b k.marks earlier d h.marks_ none; seen_ = h.seen_; rivals_ = h.rivals_ }
 
 marked-all : (m : Marks) (p : Prop) (ks : List ℕ) → list_all (λ k. is_marked m k (same_prop p)) ks ≡ true → (j : ℕ) (f : Prop → Bool) → is_marked m j f ≡ (is_marked m j f || (list_any (λ k. k == j) ks && f p))
 marked-all m p ks all j f = go (list_any (λ k. k == j) ks) refl
@@ -202,14 +210,6 @@ marked-all m p ks all j f = go (list_any (λ k. k == j) ks) refl
     go : (b : Bool) → list_any (λ k. k == j) ks ≡ b → is_marked m j f ≡ (is_marked m j f || (b && f p))
     go false e = sym (or-false (is_marked m j f))
     go true e = marked_again m j p (member (λ k. is_marked m k (same_prop p)) ks j all e) j f ∙ ap (λ c. is_marked m j f || (c && f p)) (eq-itself j)
-
-pub mark-again : (e : Elab) (node : ℕ) (rows : List Row) (b : Nested) (k : Known) (earlier : List Dynamic) (d : Dynamic) (path : Option ℕ) (p : Prop) (o : Option Bool) → IfSome o (WasSeen k.seen path p) → is_some o ≡ true → AreKnown e node rows b k earlier → LeadsTo e k.trails path (targets b d) → prop_of d.assigns ≡ Some p
-    → AreKnown e node rows b k (earlier ++ (d ∷ []))
-mark-again e node rows b k earlier d path p None w some h led named = cc some
-mark-again e node rows b k earlier d path p (Some ok) w some h led named =
-    let s = h.seen_ ok w.0 p w.2 in
-    let at = subst (λ js. AreAt (lineages_of e) js (targets b d)) (seen-nodes rows k.trails k.marks path w.0 p ok w.1 s) (led-nodes e k.trails path (targets b d) led) in
-    record { trails_ = h.trails_; marks_ = marks-push e b k.marks k.marks earlier d p s.ks h.marks_ at named (marked-all k.marks p s.ks s.marked); seen_ = h.seen_ }
 
 bool-same : (a b : Bool) → same_bool a b ≡ true → a ≡ b
 bool-same true b e = sym e
@@ -220,14 +220,44 @@ number-is : (path : Option ℕ) (u : ℕ) → is_number path u ≡ true → path
 number-is None u e = cc e
 number-is (Some n) u e = ap Some (eq-same n u e)
 
+pub mark-again : (e : Elab) (node : ℕ) (rows : List Row) (b : Nested) (k new : Known) (earlier : List Dynamic) (d : Dynamic) (path : Option ℕ) (p : Prop) (x : Bool) (o : Option Bool) → new.trails ≡ k.trails → new.marks ≡ k.marks → new.seen ≡ k.seen
+    → ((ok : Bool) (u : ℕ) (f : Prop → Bool) → is_marked (marks_of ok new.rivals) u f ≡ (is_marked (marks_of ok k.rivals) u f || (same_bool ok x && (is_number path u && f p)))) → x ≡ list_any (has_rival k.marks p) (nodes_of k.trails path)
+    → IfSome o (WasSeen k.seen path p) → is_some o ≡ true → AreKnown e node rows b k earlier → LeadsTo e k.trails path (targets b d) → prop_of d.assigns ≡ Some p → AreKnown e node rows b new (earlier ++ (d ∷ []))
+mark-again e node rows b k new earlier d path p x None ts ms ss put right w some h led named = cc some
+mark-again e node rows b k new earlier d path p x (Some y) ts ms ss put right w some h led named = record {
+  trails_ = subst (AreTrails e node) (sym ts) h.trails_;
+  marks_ = subst (λ m. AreMarks (lineages_of e) b m (earlier ++ (d ∷ []))) (sym ms) (marks-push e b k.marks k.marks earlier d p s.ks h.marks_ at named (marked-all k.marks p s.ks s.marked));
+  seen_ = subst (λ t. AreSeen rows t new.marks new.seen) (sym ts) (subst (λ m. AreSeen rows k.trails m new.seen) (sym ms) (subst (AreSeen rows k.trails k.marks) (sym ss) h.seen_));
+  rivals_ = λ ok u q marked. subst (λ t. IsRivalled t new.marks u q ok) (sym ts) (subst (λ m. IsRivalled k.trails m u q ok) (sym ms) (by ok u q (is_marked (marks_of ok k.rivals) u (same_prop q)) refl (sym (put ok u (same_prop q)) ∙ marked)));
+}
+  where
+    s : IsSeen rows k.trails k.marks w.0 p y
+    s = h.seen_ y w.0 p w.2
+
+    at : AreAt (lineages_of e) s.ks (targets b d)
+    at = subst (λ js. AreAt (lineages_of e) js (targets b d)) (seen-nodes rows k.trails k.marks path w.0 p y w.1 s) (led-nodes e k.trails path (targets b d) led)
+
+    fresh : (u : ℕ) (ok : Bool) → path ≡ Some u → ok ≡ x → IsRivalled k.trails k.marks u p ok
+    fresh u ok here same =
+        let l : LeadsTo e k.trails (Some u) (targets b d) = subst (λ r. LeadsTo e k.trails r (targets b d)) here led in
+        record { ks = l.0; is = l.1; any = sym (same ∙ (right ∙ ap (list_any (has_rival k.marks p)) (ap (nodes_of k.trails) here ∙ ap listed l.1))) }
+
+    by : (ok : Bool) (u : ℕ) (q : Prop) (c : Bool) → is_marked (marks_of ok k.rivals) u (same_prop q) ≡ c → (c || (same_bool ok x && (is_number path u && same_prop q p))) ≡ true → IsRivalled k.trails k.marks u q ok
+    by ok u q true was some = h.rivals_ ok u q was
+    by ok u q false was some =
+        let outer = and-both (same_bool ok x) (is_number path u && same_prop q p) some in
+        let inner = and-both (is_number path u) (same_prop q p) outer.1 in
+        subst (λ z. IsRivalled k.trails k.marks u z ok) (sym (same_prop-is q p inner.1)) (fresh u ok (number-is path u inner.0) (bool-same ok x outer.0))
+
 pub mark-first : (e : Elab) (node : ℕ) (rows : List Row) (b : Nested) (old new : Known) (earlier : List Dynamic) (d : Dynamic) (path : Option ℕ) (p : Prop) (legal : Bool) (js : List ℕ) → new.trails ≡ old.trails → js ≡ nodes_of old.trails path
     → ((j : ℕ) (f : Prop → Bool) → is_marked new.marks j f ≡ (is_marked old.marks j f || (list_any (λ k. k == j) js && f p)))
     → ((ok : Bool) (u : ℕ) (f : Prop → Bool) → is_marked (marks_of ok new.seen) u f ≡ (is_marked (marks_of ok old.seen) u f || (same_bool ok legal && (is_number path u && f p))))
-    → AreKnown e node rows b old earlier → LeadsTo e old.trails path (targets b d) → prop_of d.assigns ≡ Some p → legal ≡ list_all (legal_at rows p) (nodes_of old.trails path) → AreKnown e node rows b new (earlier ++ (d ∷ []))
-mark-first e node rows b old new earlier d path p legal js same_trails nodes put seen h led named is = record {
+    → ((ok : Bool) (u : ℕ) (f : Prop → Bool) → is_marked (marks_of ok new.rivals) u f ≡ false) → AreKnown e node rows b old earlier → LeadsTo e old.trails path (targets b d) → prop_of d.assigns ≡ Some p → legal ≡ list_all (legal_at rows p) (nodes_of old.trails path) → AreKnown e node rows b new (earlier ++ (d ∷ []))
+mark-first e node rows b old new earlier d path p legal js same_trails nodes put seen rivals h led named is = record {
   trails_ = subst (AreTrails e node) (sym same_trails) h.trails_;
   marks_ = marks-push e b old.marks new.marks earlier d p js h.marks_ (subst (λ ks. AreAt (lineages_of e) ks (targets b d)) (sym nodes) (led-nodes e old.trails path (targets b d) led)) named put;
   seen_ = λ ok u q marked. subst (λ t. IsSeen rows t new.marks u q ok) (sym same_trails) (by ok u q (is_marked (marks_of ok old.seen) u (same_prop q)) refl (sym (seen ok u (same_prop q)) ∙ marked));
+  rivals_ = λ ok u q marked. absurd (no-mark new.rivals rivals ok u q marked);
 }
   where
     more : (k : ℕ) (f : Prop → Bool) → is_marked old.marks k f ≡ true → is_marked new.marks k f ≡ true

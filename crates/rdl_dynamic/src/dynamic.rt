@@ -17,7 +17,7 @@ ghost use Rattle.rdl_layers.specs.Meanings.{Assignment, prop_of};
 ghost use Rattle.rdl_assignments.specs.Layers.{IsGiven};
 ghost use Rattle.rdl_targets.specs.At.{AreAt};
 ghost use Rattle.rdl_dynamic.specs.Judged.{CanLead, IsLed, known_fails};
-ghost use Rattle.rdl_dynamic.specs.Known.{legal_at};
+ghost use Rattle.rdl_dynamic.specs.Known.{has_rival, legal_at};
 ghost use Rattle.rdl_dynamic.specs.Marks.{AreMarks, is_marked};
 
 use crate::indices::judge_indices;
@@ -73,16 +73,17 @@ fn note_taken(
     marks: &Marks,
     nodes: &[u32],
     again: bool,
+    excluded: bool,
     prop: Prop,
     place: Place,
     failures: &mut Failures,
 ) -> Result<bool, NoMemory>
-    ensures { IfOk result (λ clean. (e : Elab) (b : Nested) (d : Dynamic) (earlier : List Dynamic) → AreMarks (lineages_of e) b marks.now earlier → AreAt (lineages_of e) nodes.now (targets_of b d) → d.assigns.set_.place ≡ place → prop_of d.assigns ≡ Some prop → (again ≡ true → list_any (λ k. is_marked marks.now k (same_prop prop)) nodes.now ≡ true)
+    ensures { IfOk result (λ clean. (e : Elab) (b : Nested) (d : Dynamic) (earlier : List Dynamic) → AreMarks (lineages_of e) b marks.now earlier → AreAt (lineages_of e) nodes.now (targets_of b d) → d.assigns.set_.place ≡ place → prop_of d.assigns ≡ Some prop → (again ≡ true → list_any (λ k. is_marked marks.now k (same_prop prop)) nodes.now ≡ true) → excluded ≡ list_any (has_rival marks.now prop) nodes.now
         → IsNoted (taken (map (λ x. x.assigns) (filter (meet b d) earlier)) d.assigns) clean failures.old failures.new) }
 {
     met_at_targets();
     let fresh = failures.note(is_taken(marks, nodes, again, prop), Rule::P4, place)?;
-    let alone = failures.note(marks.is_excluded(nodes, prop), Rule::P5, place)?;
+    let alone = failures.note(excluded, Rule::P5, place)?;
     Ok(fresh & alone)
 }
 
@@ -117,6 +118,7 @@ fn judge_known<'a>(
     legal: bool,
     nodes: &[u32],
     again: bool,
+    excluded: bool,
     prop: Prop,
     set: &Set<'a>,
     body: u32,
@@ -125,12 +127,12 @@ fn judge_known<'a>(
     failures: &mut Failures,
 ) -> Result<Option<Setting<'a>>, NoMemory>
     ensures noted { IfOk result (λ r. (e : Elab) (rows : List AnyRow) (b : Nested) (d : Dynamic) (earlier : List Dynamic) → AreRows e rows → AreMarks (lineages_of e) b marks.now earlier → AreAt (lineages_of e) nodes.now (targets_of b d) → d.assigns.set_ ≡ set.now → prop_of d.assigns ≡ Some prop
-        → IsShown visible.now (around d.assigns.scope) → legal ≡ list_all (legal_at rows prop) nodes.now → (again ≡ true → list_any (λ k. is_marked marks.now k (same_prop prop)) nodes.now ≡ true) → IsNoted (known_fails b earlier d) (is_some r) failures.old failures.new) }
+        → IsShown visible.now (around d.assigns.scope) → legal ≡ list_all (legal_at rows prop) nodes.now → (again ≡ true → list_any (λ k. is_marked marks.now k (same_prop prop)) nodes.now ≡ true) → excluded ≡ list_any (has_rival marks.now prop) nodes.now → IsNoted (known_fails b earlier d) (is_some r) failures.old failures.new) }
     ensures given { IfOk result (λ r. IfSome r (λ s. (a : Assignment) → a.set_ ≡ set.now → prop_of a ≡ Some prop → IsShown visible.now (around a.scope) → IsGiven body (record { prop = prop; setting = s }) a)) }
 {
     let fits = judge_kinds(legal, set.place, failures)?;
     let setting = failures.value_of(meaning_of(prop, set, body, visible))?;
-    let free = note_taken(marks, nodes, again, prop, set.place, failures)?;
+    let free = note_taken(marks, nodes, again, excluded, prop, set.place, failures)?;
     Ok(kept(fits & free, setting))
 }
 
@@ -178,10 +180,12 @@ pub(crate) fn judge_dynamic<'a>(
     };
     let legal = known.is_legal(rows, path, prop);
     let again = known.seen.find(path, prop).is_some();
+    let excluded = known.is_excluded(path, prop);
     let setting = judge_known(
         legal,
         known.trails.nodes(path),
         again,
+        excluded,
         prop,
         set,
         body,
@@ -189,7 +193,7 @@ pub(crate) fn judge_dynamic<'a>(
         &known.marks,
         failures,
     )?;
-    known.mark(alloc, path, prop, legal)?;
+    known.mark(alloc, path, prop, legal, excluded)?;
     Ok(Led {
         given: given_by(clean, prop, setting),
         path,
