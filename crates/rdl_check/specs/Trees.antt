@@ -1,10 +1,12 @@
 -- A tree in which no rule fails, and what its block is made of.
-use Rattle.std.specs.Prelude.{◌≡◌, ℕ, List, [], map}
+use Rattle.std.specs.Prelude.{◌≡◌, ℕ, List, [], map, Result, Ok, Err}
 use Rattle.rb_model.specs.declared.kinds.RefItem.{RefItem}
 use Rattle.rdl_tree.specs.declared.node.Elab.{Elab}
 use Rattle.rdl_values.specs.Elaborated.{nodes_of}
 use Rattle.rdl_values.specs.Lineages.{lineages_of}
-use Rattle.rdl_values.specs.Verdict.{IsListOf}
+use Rattle.rdl_values.specs.Verdict.{IsListOf, IsRefusal}
+use Rattle.rdl_failures.specs.declared.error.PhaseError.{PhaseError}
+use Rattle.rdl_failures.specs.declared.error.PhaseError.TheVariants as error
 use Rattle.rdl_ref_items.specs.InterruptOutputs.{AreInterruptOutputs}
 use Rattle.rdl_block_numbers.specs.Numbers.{AreNodeNumbers}
 use Rattle.rdl_block_numbers.specs.Texts.{AreTexts}
@@ -17,6 +19,12 @@ use Rattle.rdl_rules.specs.Numbers.{all_signals, registers}
 pub use Rattle.rdl_block_laws.specs.Forms.{HaveOneForm}
 use Rattle.rdl_check.specs.declared.lists.Lists.{Lists}
 use Rattle.rdl_check.specs.declared.lists.TreeTables.{TreeTables}
+
+-- `meaning`: that no rule on meaning fails, or the list of all failures. Want of memory may be answered anywhere.
+abbrev pub Means : {A : Type 0} → Elab → Result A PhaseError → Type 0
+Means e (Ok x) = IsListOf (meaning_fails e) []
+Means e (Err (error.Faults list)) = IsRefusal (meaning_fails e) list.items
+Means e (Err error.NoMemory) = Unit {0}
 
 -- No rule fails of the tree.
 pub record IsClear (e : Elab) : Type 0 where

@@ -5,4 +5,4 @@ mod block;
 mod checking;
 mod lists;
 
-pub use checking::check;
+pub use checking::{check, meaning};
