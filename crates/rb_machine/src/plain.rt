@@ -23,7 +23,7 @@ pub(crate) struct PinCount {
     pub ones: u64,
 }
 
-/// What hardware makes of a field at an edge: the number at the pin of a place, or a count by one, or else what all of its properties
+/// What hardware makes of a field at an edge: the number at the pin of a place, or a count by one pin, or else what all of its properties
 /// tell.
 #[derive(Clone, Copy)]
 pub(crate) enum PinStep {

@@ -1,4 +1,5 @@
-//! The `name` and `desc` of the parts of a tree, in the order of its block's lists, and of the groups that they stand in.
+//! The `name` and `desc` of the parts of a tree, in the order of its block's lists, of the groups that they stand in, and of the
+//! entries of its enumerations.
 #![tactic(auto)]
 
 mod entries;
