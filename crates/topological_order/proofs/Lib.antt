@@ -1,1 +1,7 @@
-mod Waiting
+mod Cuts
+mod Held
+mod Ranked
+mod Rings
+mod Shorter
+mod Steps
+mod Waited

@@ -1,10 +1,5 @@
 -- Numbered things, each of which needs others: their ranks, and their order.
-use Rattle.std.specs.Prelude.{◌≡◌, ℕ, ◌<◌, Option, Some, None, List, [], length, map, slice_get, slice_index_or, Vec}
-use Rattle.std.specs.Global.{Global}
-
--- lists of lists
-abbrev pub lists : {X : Type 0} → List (Vec X Global) → List (List X)
-lists vs = map (λ v. v.items) vs
+use Rattle.std.specs.Prelude.{◌≡◌, ℕ, ◌<◌, Option, Some, None, List, [], length, slice_get, slice_index_or}
 
 -- the need of a thing at a place
 abbrev pub need_at : List (List ℕ) → ℕ → ℕ → Option ℕ

@@ -1,8 +1,13 @@
 //! Topological order, or levelization: numbered things, each behind those that it needs.
 //!
-//! A thing is a number below the length of a list, which has for each the numbers of the things that it needs.
+//! A thing is a number below the count of some lists, of which its own has the numbers of the things that it needs.
 #![tactic(auto)]
 
+mod lists;
+mod rank;
 mod ranking;
+mod waiting;
 
+pub use lists::Lists;
+pub use rank::Rank;
 pub use ranking::{Levels, levelize};

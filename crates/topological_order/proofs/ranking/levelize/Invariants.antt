@@ -1,16 +1,9 @@
-use Rattle.topological_order.specs.Levels.{lists}
-use Rattle.topological_order.specs.Waiting.{AllWait, IsSound}
-use Rattle.topological_order.proofs.Waiting.{BegunBefore}
+use Rattle.std.proofs.Common.{None, length}
+use Rattle.topological_order.specs.Ranking.{IsSound}
 use Rattle.topological_order.proofs.ranking.levelize.Given as goal
 
-abbrev pub invariant-loop-by : goal.invariant-loop-by
-invariant-loop-by l = record {
-  sound : IsSound (lists l.needs) l.ranking;
-  begun : BegunBefore (lists l.needs) l.ranking l.by;
-}
+abbrev pub invariant-loop-thing : goal.invariant-loop-thing
+invariant-loop-thing l = IsSound l.needs l.thing 0 None l.ranking
 
 abbrev pub invariant-loop-done : goal.invariant-loop-done
-invariant-loop-done l = record {
-  sound : IsSound (lists l.needs) l.ranking;
-  waits : AllWait (lists l.needs) l.ranking l.done;
-}
+invariant-loop-done l = IsSound l.needs (length l.needs) l.done None l.ranking

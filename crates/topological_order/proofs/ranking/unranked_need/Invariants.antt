@@ -1,5 +1,5 @@
 use Rattle.std.proofs.Common.{◌≡◌, ℕ, ◌<◌, ◌≤◌, slice_get, Some}
-use Rattle.topological_order.specs.Waiting.{IsRanked}
+use Rattle.topological_order.specs.Ranking.{IsRanked}
 use Rattle.topological_order.proofs.ranking.unranked_need.Given as goal
 
 abbrev pub invariant-loop-place : goal.invariant-loop-place

@@ -1,55 +1,92 @@
-use Rattle.std.proofs.Common.{◌∙◌, sym, refl, Result, Ok, Err, OnOk, arith}
-use Rattle.std.proofs.lemmas.Result.{on_ok_weaker}
-use Rattle.topological_order.specs.Levels.{lists}
-use Rattle.topological_order.proofs.Waiting.{advances-already, sound-waits, advances-waits, sound-ranked, advances-ranked, stops-at, all-ranked, ranked-from, unranked-from}
-use Rattle.plain_lemmas.proofs.Lists.{any-default}
+use Rattle.std.proofs.Common.{◌≡◌, ◌≤◌, ℕ, Option, List, [], Result, Ok, Err, OnOk, Some, slice_get, get_or, refl, ap, subst, sym, ◌∙◌, arith}
+use Rattle.std.specs.Vec.{with_item}
+use Rattle.plain_lemmas.proofs.Lists.{any-default, get-at, get-within}
+use Rattle.topological_order.specs.Levels.{rank_at}
+use Rattle.topological_order.specs.Ranking.{IsRanked}
+use Rattle.topological_order.proofs.Ranked.{all-ranked, order-room, sound-ranked}
+use Rattle.topological_order.proofs.Waited.{kept-waits, sound-waits}
 use Rattle.topological_order.proofs.ranking.Ranking.advance.Goals as goal
 
-pub returns-then-is_some-clause-advances : goal.returns-then-is_some-clause-advances
-returns-then-is_some-clause-advances c =
-    let a = c.requires.sound.sized in let b = c.requires.by in
-    advances-already (lists c.args.needs.now) _ c.args.waiter.by
-    (ranked-from c.args.self.now.ranks.items c.args.waiter.by c.index.result.now (any-default c.args.self.now.ranks.items c.args.waiter.by _ c.index.result.now (omega (arith, a, b)) ∙ sym c.index.ensures) (sym c.if-is_some.ensures))
+pub rank-requires-clause-few : goal.rank-requires-clause-few
+rank-requires-clause-few c =
+    let (from, done, sound) = c.requires.sound in
+    let l = order-room c.args.needs.now c.args.self.now c.args.thing sound.in_order c.requires.thing (sound.free c.args.thing refl).1.0 in let few = c.requires.few in
+    omega (arith, l, few)
 
-pub returns-in-Some-clause-sound : goal.returns-in-Some-clause-sound
-returns-in-Some-clause-sound c =
-    let old = c.args.self.now in
-    let stop = stops-at _ old.ranks.items _ _ c.args.waiter.next c.in-Some.need c.in-Some.next c.deref.ensures.value c.needs_of.ensures c.in-Some.ensures.found in
-    let low = c.requires.within c.args.waiter.by stop.place c.in-Some.need stop.at in
-    let waited = c.requires.sound.waited in
-    on_ok_weaker c.add.result (sound-waits (lists c.args.needs.now) old _ c.args.waiter.by c.args.waiter.next c.in-Some.need c.in-Some.next _ c.requires.sound c.requires.by
-    (omega (arith, low, waited)) stop refl refl c.requires.before refl refl) c.add.ensures
+pub overflow_cast-place : goal.overflow_cast-place
+overflow_cast-place c =
+    let stop = c.in-Some.ensures.found in
+    let l = get-within c.get-list.result.now c.in-Some.place stop.need stop.at in let few = c.get-list.ensures.short in
+    omega (arith, l, few)
 
-pub returns-in-Some-clause-advances : goal.returns-in-Some-clause-advances
-returns-in-Some-clause-advances c =
-    let old = c.args.self.now in
-    let stop = stops-at _ old.ranks.items _ _ c.args.waiter.next c.in-Some.need c.in-Some.next c.deref.ensures.value c.needs_of.ensures c.in-Some.ensures.found in
-    let low = c.requires.within c.args.waiter.by stop.place c.in-Some.need stop.at in
-    let waited = c.requires.sound.waited in
-    on_ok_weaker c.add.result (advances-waits (lists c.args.needs.now) old _ c.args.waiter.by c.args.waiter.next c.in-Some.need c.in-Some.next _ c.requires.sound c.requires.by
-    (omega (arith, low, waited)) stop refl refl c.requires.before refl refl) c.add.ensures
+pub offset_bounds-list-place : goal.offset_bounds-list-place
+offset_bounds-list-place c =
+    let stop = c.in-Some.ensures.found in
+    let l = get-within c.get-list.result.now c.in-Some.place stop.need stop.at in let few = c.get-list.ensures.short in
+    omega (arith, l, few)
+
+pub bounds-list-place : goal.bounds-list-place
+bounds-list-place c = let stop = c.in-Some.ensures.found in get-within c.get-list.result.now c.in-Some.place stop.need stop.at
+
+pub push-requires-clause-rings : goal.push-requires-clause-rings
+push-requires-clause-rings c = let (from, done, sound) = c.requires.sound in (sound.queue, sound.rings, (sound.free c.args.thing refl).1.1)
+
+need-is : (xs : List ℕ) (place need : ℕ) → slice_get xs place ≡ Some need → get_or xs place 0 ≡ need
+need-is xs place need at = let e = sym (get-at xs place 0 (get-within xs place need at)) ∙ at in let e' : get_or xs place 0 ≡ need = cc in e'
+
+pub push-requires-clause-to : goal.push-requires-clause-to
+push-requires-clause-to c =
+    let (from, done, sound) = c.requires.sound in
+    let stop = c.in-Some.ensures.found in
+    let l = c.requires.within c.args.thing c.in-Some.place stop.need (ap (λ xs. slice_get xs c.in-Some.place) (sym c.get-list.ensures.list) ∙ stop.at) in
+    let n = need-is c.get-list.result.now c.in-Some.place stop.need stop.at in let w = sound.in_order.waited in
+    omega (arith, l, n, w)
 
 -- what three facts on `Ok` give
-ok_three : {T E A B C D : Type 0} (r : Result T E) → OnOk r A → OnOk r B → OnOk r C → (A → B → C → D) → OnOk r D
-ok_three (Ok x) a b c f = f a b c
-ok_three (Err e) a b c f = tt
+ok_four : {T E A B C D F : Type 0} (r : Result T E) → OnOk r A → OnOk r B → OnOk r C → OnOk r D → (A → B → C → D → F) → OnOk r F
+ok_four (Ok x) a b c d f = f a b c d
+ok_four (Err e) a b c d f = tt
+
+late : (ranks ranks' : List (Option ℕ)) (needs needs' : List ℕ) (from from' : ℕ) → ranks ≡ ranks' → needs ≡ needs' → from ≡ from' → ((i j : ℕ) → from ≤ i → slice_get needs i ≡ Some j → IsRanked ranks j)
+    → (i j : ℕ) → from' ≤ i → slice_get needs' i ≡ Some j → IsRanked ranks' j
+late ranks ranks' needs needs' from from' p q e h i j l at = subst (λ r. IsRanked r j) p (h i j (omega (arith, l, e)) (ap (λ n. slice_get n i) q ∙ at))
 
 pub returns-in-None-clause-sound : goal.returns-in-None-clause-sound
 returns-in-None-clause-sound c =
-    let old = c.args.self.now in
-    let by = c.args.waiter.by in
-    let ranked = c.requires.sound.sized in let within = c.requires.by in
-    let free = unranked-from old.ranks.items by c.index.result.now (any-default old.ranks.items by _ c.index.result.now (omega (arith, ranked, within)) ∙ sym c.index.ensures) (sym c.if-is_some.ensures) in
-    let before = all-ranked c.deref.result.now old.ranks.items c.needs_of.result.now (lists c.args.needs.now) by c.args.waiter.next c.deref.ensures.value c.needs_of.ensures c.in-None.ensures.none c.requires.before in
-    ok_three c.rank.result c.rank.ensures.ranks c.rank.ensures.order c.rank.ensures.waiting
-    (sound-ranked (lists c.args.needs.now) old c.rank.new.self by c.requires.sound c.requires.within c.requires.by free before)
+    let s = c.args.self.now in
+    let needs = c.args.needs.now in
+    ok_four c.rank.result c.rank.ensures.ranks c.rank.ensures.order c.rank.ensures.places c.rank.ensures.waiting (λ ranks order places waiting from done sound reached.
+    let placed = sound.in_order.placed in let l = c.requires.thing in
+    let start = c.index.ensures ∙ any-default s.places.items c.args.thing c.index.result.now 0 (omega (arith, placed, l)) in
+    sound-ranked needs s c.rank.new.self from done c.args.thing sound c.requires.thing reached
+    (all-ranked needs s c.args.thing sound.in_order (late c.deref.result.now s.ranks.items c.get-list.result.now (get_or needs c.args.thing []) c.index.result.now _ c.deref.ensures.value c.get-list.ensures.list start c.in-None.ensures.none))
+    ranks order places waiting)
 
-pub returns-in-None-clause-advances : goal.returns-in-None-clause-advances
-returns-in-None-clause-advances c =
-    let old = c.args.self.now in
-    let by = c.args.waiter.by in
-    let ranked = c.requires.sound.sized in let within = c.requires.by in
-    let free = unranked-from old.ranks.items by c.index.result.now (any-default old.ranks.items by _ c.index.result.now (omega (arith, ranked, within)) ∙ sym c.index.ensures) (sym c.if-is_some.ensures) in
-    let before = all-ranked c.deref.result.now old.ranks.items c.needs_of.result.now (lists c.args.needs.now) by c.args.waiter.next c.deref.ensures.value c.needs_of.ensures c.in-None.ensures.none c.requires.before in
-    ok_three c.rank.result c.rank.ensures.ranks c.rank.ensures.order c.rank.ensures.waiting
-    (advances-ranked (lists c.args.needs.now) old c.rank.new.self by c.requires.sound c.requires.within c.requires.by free before)
+pub returns-in-Some-clause-sound : goal.returns-in-Some-clause-sound
+returns-in-Some-clause-sound c = λ from done sound reached.
+    let s = c.args.self.now in
+    let needs = c.args.needs.now in
+    let stop = c.in-Some.ensures.found in
+    let placed = sound.in_order.placed in let l = c.requires.thing in
+    let start = c.index.ensures ∙ any-default s.places.items c.args.thing c.index.result.now 0 (omega (arith, placed, l)) in
+    let need = need-is c.get-list.result.now c.in-Some.place stop.need stop.at in
+    sound-waits needs s (record { ranks = s.ranks; order = s.order; places = with_item s.places c.args.thing c.in-Some.place; waiting = c.push.new.self }) from done c.args.thing c.in-Some.place (get_or c.get-list.result.now c.in-Some.place 0) sound c.requires.thing
+    (ap (λ xs. slice_get xs c.in-Some.place) (sym c.get-list.ensures.list) ∙ (stop.at ∙ ap Some (sym need)))
+    (ap (λ ranks. rank_at ranks (get_or c.get-list.result.now c.in-Some.place 0)) (sym c.deref.ensures.value) ∙ (ap (rank_at c.deref.result.now) need ∙ stop.unranked))
+    (λ k h a b at. subst (λ ranks. IsRanked ranks h) c.deref.ensures.value (stop.before k h (omega (arith, a, start)) b (ap (λ xs. slice_get xs k) c.get-list.ensures.list ∙ at)))
+    refl refl refl (c.push.ensures.rings sound.queue sound.rings (sound.free c.args.thing refl).1.1) c.push.ensures.count
+
+pub returns-in-Some-clause-kept : goal.returns-in-Some-clause-kept
+returns-in-Some-clause-kept c =
+    let (from, done, sound) = c.requires.sound in
+    let s = c.args.self.now in
+    let needs = c.args.needs.now in
+    let stop = c.in-Some.ensures.found in
+    let placed = sound.in_order.placed in let l = c.requires.thing in
+    let start = c.index.ensures ∙ any-default s.places.items c.args.thing c.index.result.now 0 (omega (arith, placed, l)) in
+    let need = need-is c.get-list.result.now c.in-Some.place stop.need stop.at in
+    kept-waits needs s (record { ranks = s.ranks; order = s.order; places = with_item s.places c.args.thing c.in-Some.place; waiting = c.push.new.self }) from done c.args.thing c.in-Some.place (get_or c.get-list.result.now c.in-Some.place 0) sound c.requires.thing
+    (ap (λ xs. slice_get xs c.in-Some.place) (sym c.get-list.ensures.list) ∙ (stop.at ∙ ap Some (sym need)))
+    (ap (λ ranks. rank_at ranks (get_or c.get-list.result.now c.in-Some.place 0)) (sym c.deref.ensures.value) ∙ (ap (rank_at c.deref.result.now) need ∙ stop.unranked))
+    (λ k h a b at. subst (λ ranks. IsRanked ranks h) c.deref.ensures.value (stop.before k h (omega (arith, a, start)) b (ap (λ xs. slice_get xs k) c.get-list.ensures.list ∙ at)))
+    refl refl refl (c.push.ensures.rings sound.queue sound.rings (sound.free c.args.thing refl).1.1) c.push.ensures.count

@@ -1,65 +1,73 @@
-use Rattle.std.specs.List.{slice_get}
-use Rattle.std.proofs.Common.{◌≡◌, Some, length, sym, ap, ◌∙◌, arith}
-use Rattle.topological_order.specs.Levels.{lists}
-use Rattle.topological_order.specs.Waiting.{list_at, waiter_at}
-use Rattle.topological_order.proofs.Waiting.{released-none, released-more, released-all, ready-before, waiters-kept}
-use Rattle.plain_lemmas.proofs.Lists.{get-at, get-within}
+use Rattle.std.proofs.Common.{◌≡◌, Some, length, slice_get, refl, ap, sym, ◌∙◌, arith}
+use Rattle.plain_lemmas.proofs.Lists.{any-default, get-at, get-within}
+use Rattle.topological_order.proofs.Held.{sound-popped}
+use Rattle.topological_order.proofs.Shorter.{popped-long}
+use Rattle.topological_order.proofs.Steps.{sound-released}
 use Rattle.topological_order.proofs.ranking.Ranking.release.Goals as goal
 
-pub waiters_of-count-requires : goal.waiters_of-count-requires
-waiters_of-count-requires c =
-    let order = c.args.self.now.order.items in
-    let here : slice_get order c.args.done ≡ Some c.index-thing.result.now = get-at order c.args.done _ c.requires.done ∙ ap Some (sym c.index-thing.ensures) in
-    let low = (c.requires.sound.ranked c.args.done c.index-thing.result.now here).0 in
-    let waited = c.requires.sound.waited in
-    let same = ap length c.deref.ensures.value in
-    omega (arith, low, waited, same)
+pub index-count-requires : goal.index-count-requires
+index-count-requires c =
+    let s = c.args.self.now in
+    let here : slice_get s.order.items c.args.done ≡ Some c.index-thing.result.now = get-at s.order.items c.args.done _ c.requires.done ∙ ap Some (sym c.index-thing.ensures) in
+    let l = (c.requires.sound.in_order.ranked c.args.done c.index-thing.result.now here).0 in let a = c.requires.sound.rings.counts in let b = c.requires.sound.in_order.waited in let d = s.waiting.counts.ok.0 in
+    omega (arith, l, a, b, d)
 
-pub loop-place-init : goal.loop-place-init
-loop-place-init c =
-    let self = c.args.self.now in
-    let thing = c.index-thing.result.now in
-    let here : slice_get self.order.items c.args.done ≡ Some thing = get-at self.order.items c.args.done _ c.requires.done ∙ ap Some (sym c.index-thing.ensures) in
-    let all : c.waiters_of-count.result.now ≡ list_at self.waiting.items thing = c.waiters_of-count.ensures ∙ ap (λ ws. list_at ws thing) c.deref.ensures.value in
-    let long = ap length all in
+pub loop-init : goal.loop-init
+loop-init c =
+    let s = c.args.self.now in
+    let here : slice_get s.order.items c.args.done ≡ Some c.index-thing.result.now = get-at s.order.items c.args.done _ c.requires.done ∙ ap Some (sym c.index-thing.ensures) in
+    let (l, rank) = c.requires.sound.in_order.ranked c.args.done c.index-thing.result.now here in
+    let a = c.requires.sound.rings.counts in let b = c.requires.sound.in_order.waited in
     record {
       sound = c.requires.sound;
-      rank = (c.requires.sound.ranked c.args.done thing here).1;
-      waiters = λ m l. omega (arith, l, long);
-      held = released-none (lists c.args.needs.now) self c.args.done thing (length c.waiters_of-count.result.now) c.requires.sound c.requires.waits here long;
+      rank = rank;
+      left = (let n = sym (any-default s.waiting.counts.items c.index-thing.result.now c.index-count.result.now 0 (omega (arith, l, a, b))) ∙ sym c.index-count.ensures in omega (arith, n));
     }
 
-pub waiter_of-waiter-requires : goal.waiter_of-waiter-requires
-waiter_of-waiter-requires c =
-    let l = c.loop-place.invariant.waiters c.loop-place.place c.loop-place-test.true in
-    let same = ap (λ ws. length (list_at ws c.index-thing.result.now)) c.deref-in-loop-place.ensures.value in
-    omega (arith, l, same)
+pub pop-next-requires : goal.pop-next-requires
+pop-next-requires c =
+    let i = c.loop.invariant in
+    let s = i.sound.rings.sized c.index-thing.result.now in let l = i.left in let t = c.loop-test.true in
+    (i.sound.queue, i.sound.rings, omega (arith, s, l, t))
 
-pub advance-requires-clause-by : goal.advance-requires-clause-by
-advance-requires-clause-by c =
-    let thing = c.index-thing.result.now in
-    (c.loop-place.invariant.sound.ready thing c.loop-place.place c.waiter_of-waiter.result (ap (λ ws. waiter_at ws thing c.loop-place.place) (sym c.deref-in-loop-place.ensures.value) ∙ c.waiter_of-waiter.ensures)).0
+pub advance-requires-clause-thing : goal.advance-requires-clause-thing
+advance-requires-clause-thing c =
+    let sound = c.loop.invariant.sound in
+    let l = sound.rings.within c.index-thing.result.now 0 c.pop-next.result (c.pop-next.ensures.first sound.queue sound.rings) in let n = sound.in_order.waited in
+    omega (arith, l, n)
 
-pub advance-requires-clause-before : goal.advance-requires-clause-before
-advance-requires-clause-before c =
-    let thing = c.index-thing.result.now in
-    ready-before (lists c.args.needs.now) c.loop-place.self thing c.loop-place.place c.args.done c.waiter_of-waiter.result c.loop-place.invariant.sound
-    (ap (λ ws. waiter_at ws thing c.loop-place.place) (sym c.deref-in-loop-place.ensures.value) ∙ c.waiter_of-waiter.ensures) c.loop-place.invariant.rank
+pub advance-requires-clause-sound : goal.advance-requires-clause-sound
+advance-requires-clause-sound c =
+    let sound = c.loop.invariant.sound in
+    let s = c.loop.self in (
+      length c.args.needs.now,
+      c.args.done,
+      sound-popped c.args.needs.now s (record { ranks = s.ranks; order = s.order; places = s.places; waiting = c.pop-next.new.self }) c.args.done c.index-thing.result.now c.pop-next.result sound
+          (c.pop-next.ensures.first sound.queue sound.rings) (c.pop-next.ensures.rings sound.queue sound.rings) c.pop-next.ensures.count refl refl refl,
+    )
 
-pub loop-place-preserved : goal.loop-place-preserved
-loop-place-preserved c =
+pub loop-preserved : goal.loop-preserved
+loop-preserved c =
+    let i = c.loop.invariant in
+    let sound = i.sound in
+    let s = c.loop.self in
     let thing = c.index-thing.result.now in
-    let old = c.loop-place.self in
-    let at = ap (λ ws. waiter_at ws thing c.loop-place.place) (sym c.deref-in-loop-place.ensures.value) ∙ c.waiter_of-waiter.ensures in
-    let advances = c.in_ok-advance.ensures.advances in
-    let count = length c.waiters_of-count.result.now in
+    let rings = c.pop-next.ensures.rings sound.queue sound.rings in
+    let (rank, count) = c.in_ok-advance.ensures.kept thing c.args.done i.rank in
     record {
-      sound = c.in_ok-advance.ensures.sound;
-      rank = advances.keeps thing c.args.done c.loop-place.invariant.rank;
-      waiters = λ m l. waiters-kept (lists c.args.needs.now) old c.advance.new.self c.waiter_of-waiter.result.by thing m advances (c.loop-place.invariant.waiters m l);
-      held = released-more (lists c.args.needs.now) old c.advance.new.self c.args.done thing count c.loop-place.place c.waiter_of-waiter.result advances at
-          (get-within old.order.items c.args.done thing (c.loop-place.invariant.sound.ordered thing c.args.done c.loop-place.invariant.rank)) c.loop-place.invariant.held;
+      sound = c.in_ok-advance.ensures.sound (length c.args.needs.now) c.args.done
+          (sound-popped c.args.needs.now s (record { ranks = s.ranks; order = s.order; places = s.places; waiting = c.pop-next.new.self }) c.args.done thing c.pop-next.result sound
+          (c.pop-next.ensures.first sound.queue sound.rings) rings c.pop-next.ensures.count refl refl refl)
+          (let l = get-within s.order.items c.args.done thing (sound.in_order.ordered thing c.args.done i.rank) in omega (arith, l));
+      rank = rank;
+      left = (
+          let a = rings.sized thing in let b = popped-long sound.queue thing in let d = sound.rings.sized thing in let l = i.left in let t = c.loop-test.true in
+          omega (arith, a, b, count, d, l, t)
+          );
     }
 
-pub returns-clause-waits : goal.returns-clause-waits
-returns-clause-waits c = released-all (lists c.args.needs.now) c.loop-place.self c.args.done c.index-thing.result.now (length c.waiters_of-count.result.now) c.loop-place.place c.loop-place-test.false c.loop-place.invariant.held
+pub returns : goal.returns
+returns c =
+    let i = c.loop.invariant in
+    let l = i.left in let t = c.loop-test.false in
+    sound-released c.args.needs.now c.loop.self c.args.done c.index-thing.result.now i.sound i.rank (omega (arith, l, t))

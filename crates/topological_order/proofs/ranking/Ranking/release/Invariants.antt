@@ -1,13 +1,12 @@
-use Rattle.std.proofs.Common.{◌≡◌, ℕ, ◌<◌, Some, length}
-use Rattle.topological_order.specs.Levels.{lists, rank_at}
-use Rattle.topological_order.specs.Waiting.{IsSound, list_at}
-use Rattle.topological_order.proofs.Waiting.{ReleasedBefore}
+use Rattle.std.proofs.Common.{◌≡◌, ◌+◌, Some, None, length}
+use Rattle.topological_order.specs.Levels.{rank_at}
+use Rattle.topological_order.specs.Ranking.{IsSound}
+use Rattle.topological_order.specs.Waiting.{count_of}
 use Rattle.topological_order.proofs.ranking.Ranking.release.Given as goal
 
-abbrev pub invariant-loop-place : goal.invariant-loop-place
-invariant-loop-place l = record {
-  sound : IsSound (lists l.needs) l.self;
+abbrev pub invariant-loop : goal.invariant-loop
+invariant-loop l = record {
+  sound : IsSound l.needs (length l.needs) l.done None l.self;
   rank : rank_at l.self.ranks.items l.thing ≡ Some l.done;
-  waiters : (m : ℕ) → m < l.count → m < length (list_at l.self.waiting.items l.thing);
-  held : ReleasedBefore (lists l.needs) l.self l.done l.thing l.count l.place;
+  left : count_of l.self.waiting l.thing + l.counter ≡ l.count;
 }

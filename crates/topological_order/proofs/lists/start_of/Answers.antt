@@ -1,0 +1,5 @@
+use Rattle.topological_order.proofs.Cuts.{start-before}
+use Rattle.topological_order.proofs.lists.start_of.Goals as goal
+
+pub returns-else-at-eq0 : goal.returns-else-at-eq0
+returns-else-at-eq0 c = start-before c.args.ends.now c.args.at c.if-at-eq0.false c.requires

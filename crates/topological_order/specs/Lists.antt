@@ -1,0 +1,22 @@
+-- Lists of numbers, one behind the other.
+use Rattle.std.specs.Prelude.{ℕ, zero, suc, ◌-◌, ◌<◌, ◌≤◌, ◌^◌, List, [], ◌∷◌, length, take, drop}
+
+-- the lists of these numbers that end at these places, where the first starts at another
+abbrev pub cut : ℕ → List ℕ → List ℕ → List (List ℕ)
+cut from [] numbers = []
+cut from (end ∷ ends) numbers = take (end - from) (drop from numbers) ∷ cut end ends numbers
+
+-- where the list of a number starts
+abbrev pub start_at : ℕ → List ℕ → ℕ → ℕ
+start_at from ends zero = from
+start_at from [] (suc k) = from
+start_at from (end ∷ ends) (suc k) = start_at end ends k
+
+-- none of these places lies before the one in front of it, nor past a last one
+abbrev pub Rises : ℕ → List ℕ → ℕ → Type 0
+Rises from [] last = from ≤ last
+Rises from (end ∷ ends) last = (from ≤ end) × Rises end ends last
+
+pub record AreEnds (ends numbers : List ℕ) : Type 0 where
+  pub rise : Rises 0 ends (length numbers)
+  pub few : length ends < 2 ^ 32
