@@ -1,5 +1,5 @@
 -- Bodies one after the other.
-use Rattle.std.proofs.Common.{◌≡◌, ◌∙◌, ℕ, zero, suc, ◌+◌, ◌<◌, ◌⊎◌, inl, inr, List, [], ◌∷◌, ◌++◌, drop, flat_map, get_or, length, Option, None, Some, option_to_list, slice_get, refl, sym, ap, subst, arith, append-nil}
+use Rattle.std.proofs.Common.{◌≡◌, ◌∙◌, ℕ, zero, suc, ◌+◌, ◌<◌, ◌⊎◌, inl, inr, ◌&&◌, List, [], ◌∷◌, ◌++◌, bytes_eq, drop, find, flat_map, get_or, length, nat_lt, Box, Global, Option, None, Some, option_to_list, slice_get, refl, sym, ap, subst, arith, append-nil}
 use Rattle.std.proofs.lemmas.List.{drop_more}
 use Rattle.std.specs.Option.{option_or}
 use Rattle.plain_lemmas.proofs.Lists.{get-end as get-last, get-within, none-beyond as get-past}
@@ -11,37 +11,35 @@ use Rattle.rdl_values.specs.Visible.{enum_before}
 use Rattle.rdl_bodies.specs.Sited.{HaveEnvs}
 use Rattle.rdl_bodies.specs.declared.bodies.Bodies.{Bodies}
 use Rattle.rdl_bodies.specs.declared.bodies.Body.{Body}
-use Rattle.rdl_facts.specs.Body.{AreEnumsOf, IsFound, place_in}
+use Rattle.rdl_facts.specs.Body.{AreEnumsOf, AreKept, IsFound, kept_of, place_in}
 use Rattle.rdl_facts.specs.Greatest.{IsGreatest, greatest_at}
-use Rattle.rdl_facts.specs.Table.{AreNumbersOf, entries_meant}
+use Rattle.rdl_facts.specs.Table.{AreNumbersOf, entries_meant, enums_at}
 use Rattle.rdl_facts.specs.declared.body.BodyEnums.{BodyEnums}
 use Rattle.rdl_facts.specs.declared.table.EnumNumbers.{EnumNumbers}
 
 -- The first bodies have the enumerations of their names.
-abbrev pub AreTo : List BodyEnums → Bodies → Type 0
-AreTo list bodies = (k : ℕ) (x : Body) (names : Names) (rest : Around) → k < length list → slice_get bodies.list.items k ≡ Some x → around_of x.env.now ≡ names ∷ rest → (b : BodyEnums) × (slice_get list k ≡ Some b) × AreEnumsOf b names
+abbrev pub AreTo : List (Option (Box BodyEnums Global)) → Bodies → Type 0
+AreTo list bodies = (k : ℕ) (x : Body) (names : Names) (rest : Around) → k < length list → slice_get bodies.list.items k ≡ Some x → around_of x.env.now ≡ names ∷ rest → AreKept (kept_of (slice_get list k)) names
 
-get-front : {X : Type 0} (xs : List X) (y : X) (k : ℕ) (x : X) → slice_get xs k ≡ Some x → slice_get (xs ++ (y ∷ [])) k ≡ Some x
-get-front [] y k x e = cc e
-get-front (z ∷ xs) y zero x e = e
-get-front (z ∷ xs) y (suc k) x e = get-front xs y k x e
+get-front : {X : Type 0} (xs : List X) (y : X) (k : ℕ) → k < length xs → slice_get (xs ++ (y ∷ [])) k ≡ slice_get xs k
+get-front [] y k l = absurd (omega (arith, l))
+get-front (z ∷ xs) y zero l = refl
+get-front (z ∷ xs) y (suc k) l = get-front xs y k (omega (arith, l))
 
-pub to_more : (list : List BodyEnums) (bodies : Bodies) (one : BodyEnums) (y : Body) → slice_get bodies.list.items (length list) ≡ Some y → ((names : Names) (rest : Around) → around_of y.env.now ≡ names ∷ rest → AreEnumsOf one names) → AreTo list bodies → AreTo (list ++ (one ∷ [])) bodies
-to_more list bodies one y at new old k x names rest l here env = go (either (length list) k (length-more list l))
+length-one : {X : Type 0} (xs : List X) (y : X) → length (xs ++ (y ∷ [])) ≡ length xs + 1
+length-one [] y = refl
+length-one (x ∷ xs) y = let e = length-one xs y in omega (arith, e)
+
+pub to_more : (list : List (Option (Box BodyEnums Global))) (bodies : Bodies) (one : Option (Box BodyEnums Global)) (y : Body) → slice_get bodies.list.items (length list) ≡ Some y → ((names : Names) (rest : Around) → around_of y.env.now ≡ names ∷ rest → AreKept (kept_of (Some one)) names) → AreTo list bodies
+    → AreTo (list ++ (one ∷ [])) bodies
+to_more list bodies one y at new old k x names rest l here env = go (either (length list) k (let e = length-one list one in omega (arith, e, l)))
   where
-    length-more : (xs : List BodyEnums) → k < length (xs ++ (one ∷ [])) → k < length xs + 1
-    length-more xs l = let e = length-one xs in omega (arith, e, l)
-      where
-        length-one : (xs : List BodyEnums) → length (xs ++ (one ∷ [])) ≡ length xs + 1
-        length-one [] = refl
-        length-one (x ∷ xs) = let e = length-one xs in omega (arith, e)
-
-    go : (k < length list) ⊎ (k ≡ length list) → (b : BodyEnums) × (slice_get (list ++ (one ∷ [])) k ≡ Some b) × AreEnumsOf b names
-    go (inl low) = let b = old k x names rest low here env in (b.0, get-front list one k b.0 b.1, b.2)
+    go : (k < length list) ⊎ (k ≡ length list) → AreKept (kept_of (slice_get (list ++ (one ∷ [])) k)) names
+    go (inl low) = subst (λ o. AreKept (kept_of o) names) (sym (get-front list one k low)) (old k x names rest low here env)
     go (inr e) =
         let both : Some y ≡ Some x = sym at ∙ ap (slice_get bodies.list.items) (sym e) ∙ here in
         let same : x ≡ y = cc in
-        (one, get-last list one k e, new names rest (ap (λ z. around_of z.env.now) (sym same) ∙ env))
+        subst (λ o. AreKept (kept_of o) names) (sym (get-last list one k e)) (new names rest (ap (λ z. around_of z.env.now) (sym same) ∙ env))
 
 pub to_all : (t : EnumNumbers) (bodies : Bodies) → slice_get bodies.list.items (length t.bodies.items) ≡ None → AreTo t.bodies.items bodies → AreNumbersOf t bodies
 to_all t bodies past to = record { each = λ k x names rest here env. let l = get-within bodies.list.items k x here in let m = get-past bodies.list.items (length t.bodies.items) past in to k x names rest (omega (arith, l, m)) here env }
@@ -54,52 +52,49 @@ IsLeft t numbers n i = (bodies : Bodies) (around : Around) → AreNumbersOf t bo
 record Nearest (t : EnumNumbers) (bodies : Bodies) (ks : List ℕ) (k : ℕ) (around : Around) (n : Name) : Type 0 where
   names : Names
   rest : Around
-  body : BodyEnums
-  here : slice_get t.bodies.items k ≡ Some body
-  are : AreEnumsOf body names
+  are : AreKept (enums_at t k) names
   envs : HaveEnvs bodies.list.items ks rest
   seen : visible_enum around n ≡ option_or (enum_before n names) (visible_enum rest n)
 
 nearest-in : (t : EnumNumbers) (bodies : Bodies) (k : ℕ) (ks : List ℕ) (around left : Around) (n : Name) → AreNumbersOf t bodies → HaveEnvs bodies.list.items (k ∷ ks) left → visible_enum around n ≡ visible_enum left n → Nearest t bodies ks k around n
 nearest-in t bodies k ks around [] n are envs seen = absurd envs
 nearest-in t bodies k ks around (names ∷ rest) n are envs seen =
-    let h = are.each k envs.0.0 names rest envs.0.1 envs.0.2 in
-    record { names = names; rest = rest; body = h.0; here = h.1; are = h.2; envs = envs.1; seen = seen }
+    record { names = names; rest = rest; are = are.each k envs.0.0 names rest envs.0.1 envs.0.2; envs = envs.1; seen = seen }
 
 next-in : (t : EnumNumbers) (numbers : List ℕ) (n : Name) (i d : ℕ) → i < length numbers → IsLeft t numbers n i → (bodies : Bodies) (around : Around) → AreNumbersOf t bodies → HaveEnvs bodies.list.items numbers around → Nearest t bodies (drop (i + 1) numbers) (get_or numbers i d) around n
 next-in t numbers n i d l left bodies around are envs =
     let h = left bodies around are envs in
     nearest-in t bodies (get_or numbers i d) (drop (i + 1) numbers) around h.0 n are (subst (λ ks. HaveEnvs bodies.list.items ks h.0) (drop_more numbers i d l) h.1) h.2
 
-pub no_body : (t : EnumNumbers) (numbers : List ℕ) (n : Name) (i d : ℕ) → i < length numbers → IsLeft t numbers n i → slice_get t.bodies.items (get_or numbers i d) ≡ None → (bodies : Bodies) (around : Around) → AreNumbersOf t bodies → HaveEnvs bodies.list.items numbers around → ⊥
-no_body t numbers n i d l left none bodies around are envs =
-    let near = next-in t numbers n i d l left bodies around are envs in
-    let both : Some near.body ≡ None = sym near.here ∙ none in
-    cc
+-- where the enumeration stands that a name means in a body, if it has any
+abbrev pub place_of : Option BodyEnums → Name → Option ℕ
+place_of None n = None
+place_of (Some b) n = place_in b n
 
-none-seen : (b : BodyEnums) (around rest : Around) (n : Name) (o : Option EnumOf) → visible_enum around n ≡ option_or o (visible_enum rest n) → IsFound b None o → visible_enum around n ≡ visible_enum rest n
-none-seen b around rest n None seen h = seen
-none-seen b around rest n (Some e) seen h = absurd h
+unfound : (b : BodyEnums) (o : Option EnumOf) → IsFound b None o → o ≡ None
+unfound b None h = refl
+unfound b (Some e) h = absurd h
+
+none-before : (o : Option BodyEnums) (names : Names) (n : Name) → AreKept o names → place_of o n ≡ None → enum_before n names ≡ None
+none-before None names n are none = ap (find (λ (e : EnumOf). bytes_eq e.name n.text.now && nat_lt e.place n.place.0)) are
+none-before (Some b) names n are none = unfound b (enum_before n names) (subst (λ p. IsFound b p (enum_before n names)) none (are.found n))
 
 one-seen : (b : BodyEnums) (p : ℕ) (around rest : Around) (n : Name) (o : Option EnumOf) → visible_enum around n ≡ option_or o (visible_enum rest n) → IsFound b (Some p) o → IsGreatest (greatest_at b.greatest p) (entries_meant around n)
 one-seen b p around rest n None seen h = absurd h
 one-seen b p around rest n (Some e) seen h = subst (IsGreatest (greatest_at b.greatest p)) (sym (ap (λ o. flat_map (λ (e : EnumOf). e.entries) (option_to_list o)) seen ∙ append-nil e.entries)) h
 
 -- The body has no enumeration that is meant.
-pub left_more : (t : EnumNumbers) (numbers : List ℕ) (n : Name) (i d : ℕ) (b : BodyEnums) → i < length numbers → slice_get t.bodies.items (get_or numbers i d) ≡ Some b → place_in b n ≡ None → IsLeft t numbers n i → IsLeft t numbers n (i + 1)
-left_more t numbers n i d b l here none left bodies around are envs =
+pub left_more : (t : EnumNumbers) (numbers : List ℕ) (n : Name) (i d : ℕ) (o : Option BodyEnums) → i < length numbers → enums_at t (get_or numbers i d) ≡ o → place_of o n ≡ None → IsLeft t numbers n i → IsLeft t numbers n (i + 1)
+left_more t numbers n i d o l here none left bodies around are envs =
     let near = next-in t numbers n i d l left bodies around are envs in
-    let both : Some near.body ≡ Some b = sym near.here ∙ here in
-    let same : near.body ≡ b = cc in
-    let found : IsFound near.body None (enum_before n near.names) = subst (λ o. IsFound near.body o (enum_before n near.names)) (ap (λ y. place_in y n) same ∙ none) (near.are.found n) in
-    (near.rest, near.envs, none-seen near.body around near.rest n (enum_before n near.names) near.seen found)
+    let unseen = none-before o near.names n (subst (λ y. AreKept y near.names) here near.are) none in
+    (near.rest, near.envs, near.seen ∙ ap (λ y. option_or y (visible_enum near.rest n)) unseen)
 
 -- It has one.
-pub meant_here : (t : EnumNumbers) (numbers : List ℕ) (n : Name) (i d : ℕ) (b : BodyEnums) (p : ℕ) → i < length numbers → slice_get t.bodies.items (get_or numbers i d) ≡ Some b → place_in b n ≡ Some p → IsLeft t numbers n i
+pub meant_here : (t : EnumNumbers) (numbers : List ℕ) (n : Name) (i d : ℕ) (b : BodyEnums) (p : ℕ) → i < length numbers → enums_at t (get_or numbers i d) ≡ Some b → place_in b n ≡ Some p → IsLeft t numbers n i
     → (bodies : Bodies) (around : Around) → AreNumbersOf t bodies → HaveEnvs bodies.list.items numbers around → IsGreatest (greatest_at b.greatest p) (entries_meant around n)
 meant_here t numbers n i d b p l here place left bodies around are envs =
     let near = next-in t numbers n i d l left bodies around are envs in
-    let both : Some near.body ≡ Some b = sym near.here ∙ here in
-    let same : near.body ≡ b = cc in
-    let found : IsFound b (Some p) (enum_before n near.names) = subst (λ o. IsFound b o (enum_before n near.names)) place (subst (λ y. IsFound y (place_in y n) (enum_before n near.names)) same (near.are.found n)) in
+    let kept : AreEnumsOf b near.names = subst (λ y. AreKept y near.names) here near.are in
+    let found : IsFound b (Some p) (enum_before n near.names) = subst (λ o. IsFound b o (enum_before n near.names)) place (kept.found n) in
     one-seen b p around near.rest n (enum_before n near.names) near.seen found

@@ -1,5 +1,6 @@
 -- What a name means among the enumerations of a body.
-use Rattle.std.proofs.Common.{◌≡◌, ℕ, Bool, true, false, ◌&&◌, cond, List, [], ◌∷◌, filter, find, map, nat_lt, bytes_eq, Option, Some, ap, subst, sym}
+use Rattle.std.proofs.Common.{◌≡◌, ◌∙◌, ℕ, suc, ◌==◌, Bool, true, false, ◌&&◌, cond, List, [], ◌∷◌, filter, find, length, map, nat_lt, bytes_eq, Option, Some, ap, arith, refl, subst, sym}
+use Rattle.std.proofs.lemmas.Bool.Decides.{nat_tests}
 use Rattle.rdl_tree.specs.declared.expr.Name.{Name}
 use Rattle.rdl_tree.specs.declared.value.EntryValue.{EntryValue}
 use Rattle.rdl_tree.specs.declared.value.Env.{Env, Env', out-Env}
@@ -46,3 +47,13 @@ of_names b env places greatest names rest e = record {
       subst (λ xs. IsFound b (find (λ p. nat_lt p n.place.0) (named b (out-Env env).entries.now greatest n (out-Env env).enums.now)) (find (λ e. bytes_eq e.name n.text.now && nat_lt e.place n.place.0) xs)) (enums-in env names rest e) all in
       subst (λ ps. IsFound b (find (λ p. nat_lt p n.place.0) ps) (find (λ e. bytes_eq e.name n.text.now && nat_lt e.place n.place.0) names.enums)) (sym (places.each n.text.now)) by;
 }
+
+none-in : (es : List EntryValue) (ns : List Name) → (length ns == 0) ≡ true → map (enum_in es) ns ≡ []
+none-in es [] e = refl
+none-in es (n ∷ ns) e = absurd (some (length ns) e)
+  where
+    some : (k : ℕ) → (suc k == 0) ≡ true → ⊥
+    some k q = grind (arith, nat_tests)
+
+pub none_kept : (env : Env) → (length (out-Env env).enums.now == 0) ≡ true → (names : Names) (rest : Around) → around_of env ≡ names ∷ rest → names.enums ≡ []
+none_kept env none names rest e = sym (enums-in env names rest e) ∙ none-in (out-Env env).entries.now (out-Env env).enums.now none

@@ -14,10 +14,10 @@ pub(crate) struct BodyEnums<'a> {
 }
 
 impl<'a> BodyEnums<'a> {
-    ghost use Rattle.std.specs.Prelude.{◌≡◌, ◌∷◌, IfOk};
+    ghost use Rattle.std.specs.Prelude.{◌≡◌, ◌∷◌, Some, IfOk};
     ghost use Rattle.rdl_values.specs.Seen.{around_of};
     ghost use Rattle.rdl_values.specs.Values.{Around, Names};
-    ghost use Rattle.rdl_facts.specs.Body.{AreEnumsOf, place_in};
+    ghost use Rattle.rdl_facts.specs.Body.{AreEnumsOf, AreKept, kept_of, place_in};
     ghost use Rattle.rdl_facts.specs.Greatest.{greatest_at};
 
     /// The enumerations that an environment lists first.
@@ -27,6 +27,17 @@ impl<'a> BodyEnums<'a> {
         let places = Places::of(alloc, env.enums)?;
         let greatest = Greatest::of(alloc, env.entries)?;
         Ok(BodyEnums { places, greatest })
+    }
+
+    /// The enumerations that an environment lists first, if there are any.
+    pub fn kept(alloc: Global, env: &Env<'a>) -> Result<Option<Box<Self>>, NoMemory>
+        ensures { IfOk result (λ b. (names : Names) (rest : Around) → around_of env.now ≡ names ∷ rest → AreKept (kept_of (Some b)) names) }
+    {
+        if env.enums.is_empty() {
+            return Ok(None);
+        }
+        let enums = BodyEnums::of(alloc, env)?;
+        Ok(Some(Box::new(alloc, enums)?))
     }
 
     /// Where the enumeration stands that a name means, if it means one of the body.

@@ -114,7 +114,7 @@ pub fn facts_of<'a>(
     ensures { IfOk result (λ facts. (e : Elab) → IsClean e → IsSettled e → AreRows e rows.now → IsOpenTree e tree.now → AreTold e entries.now → AreFacts e facts.items) }
 {
     let enums = EnumNumbers::of(alloc, &tree.walk.bodies)?;
-    let mut facts = Vec::new(alloc);
+    let mut facts = Vec::with_capacity(alloc, rows.len())?;
     for (at, row) in rows.iter().enumerate() {
         let Some(spot) = spot_at(&tree.spots, at) else {
             return Ok(facts);

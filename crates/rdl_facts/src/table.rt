@@ -6,19 +6,19 @@ use rdl_bodies::Bodies;
 use rdl_tree::Name;
 use std::alloc::Global;
 
-/// The greatest numbers of the enumerations of open bodies, by the numbers of the bodies.
+/// The greatest numbers of the enumerations of open bodies, by the numbers of the bodies. Most bodies have none.
 #[derive(Drop)]
 pub struct EnumNumbers<'a> {
-    bodies: Vec<BodyEnums<'a>>,
+    bodies: Vec<Option<Box<BodyEnums<'a>>>>,
 }
 
 impl<'a> EnumNumbers<'a> {
-    ghost use Rattle.std.specs.Prelude.{◌≡◌, IfOk, slice_get};
+    ghost use Rattle.std.specs.Prelude.{◌≡◌, IfOk};
     ghost use Rattle.std.specs.Option.{option_copied};
     ghost use Rattle.rdl_values.specs.Values.{Around};
     ghost use Rattle.rdl_bodies.specs.Sited.{HaveEnvs};
     ghost use Rattle.rdl_bodies.specs.declared.bodies.Bodies.{Bodies as AnyBodies};
-    ghost use Rattle.rdl_facts.specs.Table.{AreNumbersOf, entries_meant};
+    ghost use Rattle.rdl_facts.specs.Table.{AreNumbersOf, entries_meant, enums_at};
     ghost use Rattle.rdl_facts.specs.Greatest.{IsGreatest};
 
     /// Those of all these bodies, in time for their enumerations and the entries of these.
@@ -27,17 +27,20 @@ impl<'a> EnumNumbers<'a> {
     {
         let mut list = Vec::new(alloc);
         'bodies: while let Some(body) = bodies.body(list.len()) {
-            let enums = BodyEnums::of(alloc, body.env)?;
+            let enums = BodyEnums::kept(alloc, body.env)?;
             list.push(enums)?;
         }
         Ok(EnumNumbers { bodies: list })
     }
 
-    // The enumerations of the body of a number.
+    // The enumerations of the body of a number, if it has any.
     fn body(&self, number: usize) -> Option<&BodyEnums<'a>>
-        ensures { option_copied result ≡ slice_get self.now.bodies.items number }
+        ensures { option_copied result ≡ enums_at self.now number }
     {
-        self.bodies.get(number)
+        match self.bodies.get(number) {
+            Some(Some(enums)) => Some(&**enums),
+            _ => None,
+        }
     }
 
     /// The greatest number of the entries of the enumeration that a name means in the bodies of these numbers, the nearest first
@@ -47,7 +50,7 @@ impl<'a> EnumNumbers<'a> {
     {
         for number in numbers {
             let Some(body) = self.body(*number) else {
-                return None;
+                continue;
             };
             if let Some(place) = body.place(name) {
                 return body.greatest(place);

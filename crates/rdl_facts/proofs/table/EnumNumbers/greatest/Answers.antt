@@ -1,12 +1,12 @@
-use Rattle.std.proofs.Common.{◌∙◌, ap, subst, sym}
+use Rattle.std.proofs.Common.{◌∙◌, None, Some, ap, refl, subst, sym}
 use Rattle.std.specs.Option.{option_copied}
 use Rattle.rdl_facts.specs.Greatest.{IsGreatest}
 use Rattle.rdl_facts.specs.Table.{entries_meant}
-use Rattle.rdl_facts.proofs.Along.{left_more, meant_here, no_body}
+use Rattle.rdl_facts.proofs.Along.{left_more, meant_here}
 use Rattle.rdl_facts.proofs.table.EnumNumbers.greatest.Goals as goal
 
-pub returns-in_default : goal.returns-in_default
-returns-in_default c = λ bodies around are envs. absurd (no_body c.args.self.now c.args.numbers.now c.args.name.now c.loop-number.number-index 0 c.loop-number-test.true c.loop-number.invariant (sym c.body.ensures ∙ ap option_copied c.in_default.is) bodies around are envs)
+pub loop-number-preserved-in_default : goal.loop-number-preserved-in_default
+loop-number-preserved-in_default c = left_more c.args.self.now c.args.numbers.now c.args.name.now c.loop-number.number-index 0 None c.loop-number-test.true (sym c.body.ensures ∙ ap option_copied c.in_default.is) refl c.loop-number.invariant
 
 pub returns-in-Some-place : goal.returns-in-Some-place
 returns-in-Some-place c = λ bodies around are envs.
@@ -14,4 +14,5 @@ returns-in-Some-place c = λ bodies around are envs.
     (meant_here c.args.self.now c.args.numbers.now c.args.name.now c.loop-number.number-index 0 c.in-Some.body.now c.in-Some-place.place c.loop-number-test.true (sym c.body.ensures ∙ ap option_copied c.in-Some.is) (sym c.place.ensures ∙ c.in-Some-place.is) c.loop-number.invariant bodies around are envs)
 
 pub loop-number-preserved : goal.loop-number-preserved
-loop-number-preserved c = left_more c.args.self.now c.args.numbers.now c.args.name.now c.loop-number.number-index 0 c.in-Some.body.now c.loop-number-test.true (sym c.body.ensures ∙ ap option_copied c.in-Some.is) (sym c.place.ensures ∙ c.in_default-place.is) c.loop-number.invariant
+loop-number-preserved c =
+    left_more c.args.self.now c.args.numbers.now c.args.name.now c.loop-number.number-index 0 (Some c.in-Some.body.now) c.loop-number-test.true (sym c.body.ensures ∙ ap option_copied c.in-Some.is) (sym c.place.ensures ∙ c.in_default-place.is) c.loop-number.invariant
