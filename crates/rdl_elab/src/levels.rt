@@ -15,6 +15,15 @@ use std::alloc::Global;
 // The most nodes of a source.
 const MOST_NODES: u64 = 65_536;
 
+// How many nodes some uses give, where that is no more than a source may have.
+fn count_nodes(children: &[Child<'_>]) -> usize {
+    let mut count: u64 = 0;
+    for child in children {
+        count = count.saturating_add(count_of(child.dims, MOST_NODES));
+    }
+    count.min(MOST_NODES) as usize
+}
+
 impl<'a> Growing<'a> {
     ghost use Rattle.std.specs.Prelude.{◌≡◌, ◌+◌, ◌<◌, ◌≤◌, List, ℕ, Some, IfOk, OnOk, length, flat_map, slice_get};
     ghost use Rattle.std.specs.List.{AllByRecursion};
@@ -99,7 +108,7 @@ impl<'a> Growing<'a> {
         ensures nodes { IfOk result (λ rs. (above : List BodyOf) (b : BodyOf) → AreChildren self.old.walk.bodies children.now (seen above b) → StandsAt standing (parent_of b) → Fits (parent_of b) levels → AreAllWhole levels (seen above b)
             → AreTreesOf rs.now self.old.count rs.now (flat_map given_by (seen above b)) self.new.count) }
     {
-        let mut beside = Siblings::new(alloc, arena);
+        let mut beside = Siblings::new(alloc, arena, count_nodes(children));
         for child in children {
             self.grow_child(alloc, arena, child, standing, levels, &mut beside)?;
         }

@@ -1,6 +1,6 @@
 //! The nodes of one body.
 
-ghost use Rattle.std.specs.Prelude.{◌≡◌, option_map, slice_get};
+ghost use Rattle.std.specs.Prelude.{◌≡◌, [], option_map, slice_get};
 ghost use Rattle.rdl_tree.specs.declared.node.Node.{out-Node};
 
 use bumpalo::Bump;
@@ -17,6 +17,16 @@ pub(crate) struct Siblings<'a> {
     places: Firsts<'a>,
 }
 
+// A list with nothing in it yet, and room for so many. It has none where the arena refuses so much.
+fn room_for<'a>(arena: &'a Bump, room: usize) -> Vec<Node<'a>, &'a Bump>
+    ensures { result.items ≡ [] }
+{
+    match Vec::with_capacity(arena, room) {
+        Ok(list) => list,
+        Err(_) => Vec::new(arena),
+    }
+}
+
 // The number of the node at a place.
 fn number_at(nodes: &[Node], place: usize) -> Option<u32>
     ensures { result ≡ option_map (λ r. (out-Node r).id) (slice_get nodes.now place) }
@@ -29,13 +39,13 @@ impl<'a> Siblings<'a> {
     ghost use Rattle.rdl_values.specs.Elaborated.{number_named};
     ghost use Rattle.rdl_elab.specs.Nodes.{AreSiblings};
 
-    /// No nodes yet.
-    pub(crate) fn new(alloc: Global, arena: &'a Bump) -> Self
+    /// No nodes yet, and room for so many, where the arena doesn't refuse it.
+    pub(crate) fn new(alloc: Global, arena: &'a Bump, room: usize) -> Self
         ensures none { result.nodes.items ≡ [] }
         ensures siblings { AreSiblings result }
     {
         Siblings {
-            nodes: Vec::new(arena),
+            nodes: room_for(arena, room),
             places: Firsts::new(alloc),
         }
     }
