@@ -1,6 +1,6 @@
 -- A thing is ranked.
 use Rattle.std.specs.List.{count_by}
-use Rattle.std.proofs.Common.{◌≡◌, ◌∙◌, ℕ, suc, ◌+◌, ◌<◌, ◌≤◌, true, false, cond, Option, Some, None, is_some, is_none, List, [], ◌∷◌, ◌++◌, length, get_or, slice_get, refl, ap, sym, subst, ◌⊎◌, inl, inr, arith, length-append}
+use Rattle.std.proofs.Common.{◌≡◌, ◌∙◌, ℕ, suc, ◌+◌, ◌<◌, ◌≤◌, true, cond, Option, Some, None, is_some, List, [], ◌∷◌, ◌++◌, length, get_or, slice_get, refl, ap, sym, subst, ◌⊎◌, inl, inr, arith, length-append}
 use Rattle.std.proofs.Math.ListN.{set}
 use Rattle.std.proofs.lemmas.Bool.{cases_eq, cases_lt}
 use Rattle.std.proofs.lemmas.List.{get_or-set_other, get_or-set_same, length-set}
@@ -123,13 +123,9 @@ module _ (needs : List (List ℕ)) (old new : Ranking) (from done by : ℕ) (sou
 
 -- ranks that are read
 
-pub ranked-from : (ranks : List (Option ℕ)) (i : ℕ) (o : Option ℕ) → rank_at ranks i ≡ o → is_none o ≡ false → IsRanked ranks i
+pub ranked-from : (ranks : List (Option ℕ)) (i : ℕ) (o : Option ℕ) → rank_at ranks i ≡ o → is_some o ≡ true → IsRanked ranks i
 ranked-from ranks i None h s = cc s
 ranked-from ranks i (Some r) h s = (r, h)
-
-pub unranked-from : (ranks : List (Option ℕ)) (i : ℕ) (o : Option ℕ) → rank_at ranks i ≡ o → is_none o ≡ true → rank_at ranks i ≡ None
-unranked-from ranks i None h s = h
-unranked-from ranks i (Some r) h s = cc s
 
 pub more-ranked : (ranks : List (Option ℕ)) (needs : List ℕ) (from place need : ℕ) → slice_get needs place ≡ Some need → IsRanked ranks need
     → ((i j : ℕ) → from ≤ i → i < place → slice_get needs i ≡ Some j → IsRanked ranks j)

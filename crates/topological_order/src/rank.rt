@@ -26,7 +26,7 @@ impl Model for Rank {
 }
 
 impl Rank {
-    ghost use Rattle.std.specs.Prelude.{◌≡◌, ◌+◌, ◌<◌, ◌^◌, None, Some, is_none};
+    ghost use Rattle.std.specs.Prelude.{◌≡◌, ◌+◌, ◌<◌, ◌^◌, None, Some, is_some, not};
 
     /// No rank.
     pub fn none() -> Rank
@@ -45,7 +45,7 @@ impl Rank {
 
     /// Whether there is none.
     pub fn is_none(self) -> bool
-        ensures { result ≡ is_none self }
+        ensures { is_some self ≡ not result }
     {
         self.code == NONE
     }
