@@ -1,8 +1,7 @@
 -- Elements of lists by their places.
 use Rattle.std.proofs.Common.{◌≡◌, ◌∙◌, ℕ, zero, suc, ◌+◌, ◌<◌, ◌⊎◌, inl, inr, true, Option, None, Some, is_some, Vec, Global, List, [], ◌∷◌, ◌++◌, length, get_or, slice_get, map, drop, Contains, refl, sym, ap, arith}
 use Rattle.std.specs.Option.{unwrap_or}
-use Rattle.topological_order.specs.Levels.{lists}
-use Rattle.topological_order.specs.Waiting.{list_at}
+use Rattle.rdl_refs.specs.Tables.{list_at}
 
 module _ {X : Type 0} where
   pub get-at : (xs : List X) (i : ℕ) (d : X) → i < length xs → slice_get xs i ≡ Some (get_or xs i d)
@@ -59,10 +58,6 @@ option-cases (Some x) = inr (x, refl)
 pub some-from : {X : Type 0} (o : Option X) (d : X) → is_some o ≡ true → o ≡ Some (unwrap_or o d)
 some-from None d h = cc h
 some-from (Some x) d h = refl
-
-pub length-lists : {X : Type 0} (vs : List (Vec X Global)) → length (lists vs) ≡ length vs
-length-lists [] = refl
-length-lists (x ∷ xs) = ap suc (length-lists xs)
 
 pub list-at : {X : Type 0} (vs : List (Vec X Global)) (i : ℕ) (d : Vec X Global) → i < length vs → list_at vs i ≡ (get_or vs i d).items
 list-at [] i d l = absurd (omega (arith, l))

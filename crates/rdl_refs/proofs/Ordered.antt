@@ -1,6 +1,6 @@
 -- Where each thing has a rank, the order by ranks is an order of all things.
-use Rattle.std.specs.List.{All, AllByRecursion, IsDistinct, remove}
-use Rattle.std.proofs.Common.{◌≡◌, ◌∙◌, ℕ, zero, suc, ◌^◌, ◌<◌, inl, inr, false, eqb, Option, Some, List, [], ◌∷◌, ◌++◌, length, get_or, slice_get, Contains, IsPermutation, refl, sym, ap, arith}
+use Rattle.std.specs.List.{AllByRecursion, IsDistinct, remove}
+use Rattle.std.proofs.Common.{◌≡◌, ◌∙◌, ℕ, zero, suc, ◌<◌, inl, inr, false, eqb, Option, Some, List, [], ◌∷◌, ◌++◌, length, get_or, slice_get, Contains, IsPermutation, refl, sym, ap, arith}
 use Rattle.std.proofs.lemmas.Bool.{cases_eq, eq-eqb, ne_eqb}
 use Rattle.std.proofs.lemmas.List.Sorted.{Contains-permutation, IsPermutation-refl, IsPermutation-sym, IsPermutation-trans, IsPermutation-cons, IsPermutation-to_front, IsPermutation-remove}
 use Rattle.std.proofs.lemmas.Map.Keys.{IsDistinct-from_apart, IsDistinct-head, IsDistinct-tail, IsDistinct-IsPermutation}
@@ -55,9 +55,6 @@ module _ (edges : Edges) (ranks : List (Option ℕ)) (order : List ℕ) (levels 
       go [] i e = cc e
       go (x ∷ xs) zero e = omega arith
       go (x ∷ xs) (suc i) e = let l = go xs i e in omega (arith, l)
-
-  pub order-fits : length edges < 2 ^ 32 → All (λ t. t < 2 ^ 32) order
-  order-fits few k d l = let m = order-within k (get_or order k d) (get-at order k d l) in omega (arith, m, few)
 
   rank-of : (k d : ℕ) → k < length order → rank_at ranks (get_or order k d) ≡ Some k
   rank-of k d l = levels.ranked (get_or order k d) k (get-at order k d l)

@@ -1,6 +1,6 @@
 -- A walk from things without a rank comes back to its own path.
-use Rattle.std.specs.List.{All, AllPairs, count_by}
-use Rattle.std.proofs.Common.{◌≡◌, ◌∙◌, ℕ, zero, suc, ◌+◌, ◌^◌, ◌<◌, ◌≤◌, ◌⊎◌, inl, inr, cond, Option, None, Some, is_some, List, [], ◌∷◌, ◌++◌, length, get_or, slice_get, drop, refl, sym, ap, subst, arith, length-append}
+use Rattle.std.specs.List.{AllPairs, count_by}
+use Rattle.std.proofs.Common.{◌≡◌, ◌∙◌, ℕ, zero, suc, ◌+◌, ◌<◌, ◌≤◌, ◌⊎◌, inl, inr, cond, Option, None, Some, is_some, List, [], ◌∷◌, ◌++◌, length, get_or, slice_get, drop, refl, sym, ap, subst, arith, length-append}
 use Rattle.std.proofs.Math.ListN.{set}
 use Rattle.std.proofs.lemmas.Bool.{cases_eq}
 use Rattle.std.proofs.lemmas.List.{get_or-set_other, get_or-set_same, length-set}
@@ -21,6 +21,14 @@ marked-within : (marks : List (Option ℕ)) (i p : ℕ) → rank_at marks i ≡ 
 marked-within [] i p h = cc h
 marked-within (m ∷ ms) zero p h = omega arith
 marked-within (m ∷ ms) (suc i) p h = let l = marked-within ms i p h in omega (arith, l)
+
+-- a path has room for a thing that isn't marked
+pub path-room : (edges : Edges) (ranks marks : List (Option ℕ)) (path : List ℕ) (thing : ℕ) → IsWalk edges ranks marks path thing → rank_at marks thing ≡ None → length ranks ≡ length edges → length path < length edges
+path-room edges ranks marks path thing w free sized =
+    let a = w.unranked.0 in let b = w.sized in let c = w.counted in
+    let d = count-marked marks thing 0 (omega (arith, a, b, sized)) free in
+    let e = count_by-le-length is_some (set marks thing (Some 0)) in let f = length-set marks thing (Some 0) in
+    omega (arith, b, c, d, e, f)
 
 -- One step more.
 module _ (edges : Edges) (ranks marks : List (Option ℕ)) (path : List ℕ) (thing next : ℕ) (w : IsWalk edges ranks marks path thing) (free : rank_at marks thing ≡ None)
@@ -141,12 +149,3 @@ module _ (edges : Edges) (ranks marks : List (Option ℕ)) (path : List ℕ) (th
 
   pub circle-found : IsCircleOf edges (drop first path)
   circle-found = circle-of edges (drop first path) thing at_start differ (goes-round edges thing (drop first path) steps last)
-
-  -- and each of its things is one of all
-  pub circle-within : (few : length edges < 2 ^ 32) → All (λ t. t < 2 ^ 32) (drop first path)
-  circle-within few k d l =
-      let xs = drop first path in
-      let m = w.marks_it (first + k) (get_or xs k d) (sym (behind k) ∙ get-at xs k d l) in
-      let n = marked-within marks (get_or xs k d) (first + k) m in
-      let s = w.sized in
-      omega (arith, few, n, s)

@@ -5,20 +5,16 @@ ghost use Rattle.rdl_refs.specs.Answers.{AreCircling, Orders};
 ghost use Rattle.rdl_refs.specs.Walk.{AreUnordered};
 
 use crate::circle::OrderError;
-use crate::graph::{circle_from, numbers, unranked};
+use crate::graph::{circle_from, unranked};
 use crate::refs::Refs;
 use rb_base::{NoMemory, Place};
 use rdl_base::{Fault, Rule};
 use rdl_failures::listed;
 use std::alloc::Global;
-use topological_order::levelize;
+use topological_order::{Rank, levelize};
 
 /// A failure of R7 at the place of each thing without a rank.
-fn unordered(
-    alloc: Global,
-    ranks: &[Option<usize>],
-    places: &[Place],
-) -> Result<Vec<Fault>, NoMemory>
+fn unordered(alloc: Global, ranks: &[Rank], places: &[Place]) -> Result<Vec<Fault>, NoMemory>
     requires { length ranks.now ≡ length places.now }
     ensures { IfOk result (λ fs. AreUnordered ranks.now places.now (length places.now) fs.items) }
 {
@@ -42,8 +38,13 @@ pub fn order(alloc: Global, refs: &Refs<'_>) -> Result<Vec<u32>, OrderError>
 {
     let levels = levelize(alloc, refs.edges())?;
     match unranked(&levels.ranks) {
-        None => Ok(numbers(alloc, &levels.order)?),
-        Some(start) => Err(OrderError::Loop(circle_from(alloc, refs.edges(), &levels, start)?)),
+        None => Ok(levels.order),
+        Some(start) => Err(OrderError::Loop(circle_from(
+            alloc,
+            refs.edges(),
+            &levels,
+            start as u32,
+        )?)),
     }
 }
 

@@ -2,20 +2,20 @@
 
 ghost use Rattle.std.specs.Prelude.{◌<◌, ◌≡◌, ◌^◌, ℕ, length, map};
 ghost use Rattle.rdl_props.specs.declared.prop.Prop.{Prop as AnyProp};
-ghost use Rattle.topological_order.specs.Waiting.{list_at};
-ghost use Rattle.topological_order.specs.Levels.{AreWithin, lists};
+ghost use Rattle.topological_order.specs.Levels.{AreWithin};
 ghost use Rattle.rdl_values.specs.Lineages.{lineages_of};
 ghost use Rattle.rdl_refs.specs.Answers.{AreItems, TargetAt};
 ghost use Rattle.rdl_refs.specs.Follows.{edges_of};
 ghost use Rattle.rdl_refs.specs.Items.{items};
 ghost use Rattle.rdl_refs.specs.Items.{items as items_of};
-ghost use Rattle.rdl_refs.specs.Tables.{item_at};
+ghost use Rattle.rdl_refs.specs.Tables.{item_at, list_at};
 
 use crate::item::ItemOf;
 use rb_base::Place;
 use rdl_props::Prop;
 use rdl_tree::Elab;
 use std::marker::Model;
+use topological_order::Lists;
 
 /// The item that a property's setting names.
 #[derive(Clone, Copy)]
@@ -31,7 +31,7 @@ pub struct Refs<'a> {
     /// All items, in the order of their numbers.
     items: Vec<ItemOf>,
     /// For each item the numbers of those that it refers to.
-    edges: Vec<Vec<usize>>,
+    edges: Lists,
     /// For each item the place of its node.
     places: Vec<Place>,
     /// For each node the items that its settings name.
@@ -76,14 +76,14 @@ impl<'a> Refs<'a> {
     pub fn of_tables(
         elab: Elab<'a>,
         items: Vec<ItemOf>,
-        edges: Vec<Vec<usize>>,
+        edges: Lists,
         places: Vec<Place>,
         targets: Vec<Vec<Target>>,
     ) -> Refs<'a>
         requires listed { AreItems elab items.items }
-        requires refer { lists edges.items ≡ edges_of (lineages_of elab) }
-        requires within { AreWithin (lists edges.items) }
-        requires few { length edges.items < 2 ^ 32 }
+        requires refer { edges ≡ edges_of (lineages_of elab) }
+        requires within { AreWithin edges }
+        requires few { length edges < 2 ^ 32 }
         requires placed { places.items ≡ map (λ i. i.node.use_.name.place) (items_of (lineages_of elab)) }
         requires sized { length targets.items ≡ elab.count }
         requires named { (k : ℕ) (p : AnyProp) → k < elab.count → TargetAt elab k p (item_at p (list_at targets.items k)) }
@@ -117,9 +117,9 @@ impl Refs<'_> {
     }
 
     /// For each item the numbers of those that it refers to.
-    pub(crate) fn edges(&self) -> &[Vec<usize>]
-        ensures edges { lists result.now ≡ edges_of (lineages_of self.now) }
-        ensures within { AreWithin (lists result.now) }
+    pub(crate) fn edges(&self) -> &Lists
+        ensures edges { result.now ≡ edges_of (lineages_of self.now) }
+        ensures within { AreWithin result.now }
         ensures few { length result.now < 2 ^ 32 }
     {
         &self.edges

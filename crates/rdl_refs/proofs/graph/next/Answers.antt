@@ -1,6 +1,5 @@
 use Rattle.std.proofs.Common.{ℕ, List, Option, None, Some, get_or, refl, sym, subst}
 use Rattle.std.specs.Option.{IsSome, IfNone}
-use Rattle.topological_order.specs.Levels.{lists}
 use Rattle.rdl_refs.specs.Walk.{IsUnrankedNeed}
 use Rattle.rdl_refs.proofs.Ending.{needs-unranked}
 use Rattle.rdl_refs.proofs.graph.next.Goals as goal
@@ -13,6 +12,6 @@ some-if (Some x) ranks needs h n = refl
 pub unwrap-requires : goal.unwrap-requires
 unwrap-requires c =
     let ranks = c.args.levels.now.ranks.items in
-    let needs = needs-unranked (lists c.args.edges.now) ranks c.args.levels.now.order.items c.requires.levels c.requires.within c.args.thing c.requires.unranked in
-    some-if c.unranked_need.result c.deref.result.now c.needs_of.result.now c.unranked_need.ensures.none
-    (needs.0, subst (λ n. IsUnrankedNeed c.deref.result.now n needs.0) (sym c.needs_of.ensures) (subst (λ r. IsUnrankedNeed r (get_or (lists c.args.edges.now) c.args.thing _) needs.0) (sym c.deref.ensures.value) needs.1))
+    let needs = needs-unranked c.args.edges.now ranks c.args.levels.now.order.items c.requires.levels c.requires.within c.args.thing c.requires.unranked in
+    some-if c.unranked_need.result c.deref.result.now c.get.result.now c.unranked_need.ensures.none
+    (needs.0, subst (λ n. IsUnrankedNeed c.deref.result.now n needs.0) (sym c.get.ensures.list) (subst (λ r. IsUnrankedNeed r (get_or c.args.edges.now c.args.thing _) needs.0) (sym c.deref.ensures.value) needs.1))

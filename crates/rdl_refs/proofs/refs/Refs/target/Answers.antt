@@ -1,7 +1,6 @@
 use Rattle.std.proofs.Common.{◌≡◌, ◌∙◌, ◌<◌, ap, sym, subst, arith}
-use Rattle.topological_order.specs.Waiting.{list_at}
 use Rattle.rdl_refs.specs.Answers.{TargetAt}
-use Rattle.rdl_refs.specs.Tables.{item_at}
+use Rattle.rdl_refs.specs.Tables.{item_at, list_at}
 use Rattle.rdl_refs.proofs.Gets.{list-at}
 use Rattle.rdl_refs.proofs.refs.Refs.target.Goals as goal
 
