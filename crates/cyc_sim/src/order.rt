@@ -1,6 +1,5 @@
 //! The order in which nets settle (levelization).
 ghost use Rattle.std.specs.Prelude.{◌≡◌, ◌++◌, ◌∷◌, [], IfOk, OnOk, map};
-ghost use Rattle.topological_order.specs.Levels.{lists};
 ghost use Rattle.v_design.specs.Expr.{nets_of};
 ghost use Rattle.v_design.specs.Seen.{expr_seen, step_seen};
 ghost use Rattle.cyc_sim.specs.Order.{AreDrivers, IsAcyclic, IsSettlingOrder, all_needs, driver_at, numbers_of, step_needs};
@@ -9,7 +8,7 @@ use crate::compile::bytes_of;
 use rb_base::NoMemory;
 use std::alloc::Global;
 use std::collections::HashMap;
-use topological_order::{Levels, levelize};
+use topological_order::{Levels, Lists, levelize};
 use v_design::{Stmt, VExpr};
 
 /// The number of the assignment that drives each net.
@@ -88,19 +87,20 @@ fn needs_of_each(
     alloc: Global,
     drivers: &HashMap<&[u8], usize>,
     stmts: &[Stmt],
-) -> Result<Vec<Vec<usize>>, NoMemory>
-    ensures { IfOk result (λ r. lists r.items ≡ all_needs (driver_at drivers.now) (map step_seen stmts.now)) }
+) -> Result<Lists, NoMemory>
+    ensures { IfOk result (λ r. r ≡ all_needs (driver_at drivers.now) (map step_seen stmts.now)) }
 {
-    let mut needs = Vec::new(alloc);
+    let mut needs = Lists::new(alloc);
     for stmt in stmts {
-        needs.push(needs_of(alloc, drivers, stmt)?)?;
+        let list = needs_of(alloc, drivers, stmt)?;
+        needs.add(&list)?;
     }
     Ok(needs)
 }
 
 /// The numbers of statements, each assignment's behind those of the assignments that drive the nets that it reads. It
 /// takes time in proportion to the size of the statements.
-pub(crate) fn settling_order(alloc: Global, stmts: &[Stmt]) -> Result<Vec<usize>, NoMemory>
+pub(crate) fn settling_order(alloc: Global, stmts: &[Stmt]) -> Result<Vec<u32>, NoMemory>
     requires { IsAcyclic (map step_seen stmts.now) }
     ensures { IfOk result (λ o. IsSettlingOrder (map step_seen stmts.now) o.items) }
 {

@@ -110,7 +110,7 @@ pub(crate) fn place_registers<'d>(
 /// Adds the values of the nets that assignments drive, in an order in which they settle.
 pub(crate) fn place_nets<'d>(
     design: &'d Design,
-    order: &[usize],
+    order: &[u32],
     known: &mut HashMap<&'d [u8], Wire>,
     listing: &mut Listing,
 ) -> Result<(), NoMemory>
@@ -124,7 +124,7 @@ pub(crate) fn place_nets<'d>(
     ensures nets { OnOk result (KnowsNets known.new (module_seen design.now).steps) }
 {
     for index in order {
-        let stmt = &design.stmts[*index];
+        let stmt = &design.stmts[*index as usize];
         if stmt.clocked {
             continue;
         }
