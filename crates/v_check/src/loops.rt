@@ -3,7 +3,6 @@
 ghost use Rattle.std.specs.Prelude.{◌≡◌, ℕ, List, length, IfOk, IfNone};
 ghost use Rattle.v_design.specs.Tree.{Statement};
 ghost use Rattle.v_design.specs.WellFormed.{Rises};
-ghost use Rattle.topological_order.specs.Levels.{lists};
 ghost use Rattle.v_syntax.specs.Syntax.{AreStatements};
 ghost use Rattle.v_syntax.specs.declared.parsed.Event.{Event};
 ghost use Rattle.v_check.specs.Drivers.{AreDrivers, AreNumbers, IsSingle, driver_at};
@@ -16,7 +15,7 @@ use crate::found::note;
 use crate::names::nets_in;
 use rb_base::{NoMemory, Place};
 use std::alloc::Global;
-use topological_order::levelize;
+use topological_order::{Lists, Rank, levelize};
 use v_design::Stmt;
 
 /// The numbers of the statements that drive the nets that an assignment reads.
@@ -37,21 +36,18 @@ fn needs_of(alloc: Global, drivers: &Drivers, stmt: &Stmt) -> Result<Vec<usize>,
     Ok(needs)
 }
 
-fn needs_of_each(
-    alloc: Global,
-    drivers: &Drivers,
-    stmts: &[Stmt],
-) -> Result<Vec<Vec<usize>>, NoMemory>
-    ensures { IfOk result (λ r. lists r.items ≡ all_needs (driver_at drivers.now) stmts.now) }
+fn needs_of_each(alloc: Global, drivers: &Drivers, stmts: &[Stmt]) -> Result<Lists, NoMemory>
+    ensures { IfOk result (λ r. r ≡ all_needs (driver_at drivers.now) stmts.now) }
 {
-    let mut needs = Vec::new(alloc);
+    let mut needs = Lists::new(alloc);
     for stmt in stmts {
-        needs.push(needs_of(alloc, drivers, stmt)?)?;
+        let list = needs_of(alloc, drivers, stmt)?;
+        needs.add(&list)?;
     }
     Ok(needs)
 }
 
-fn unranked(ranks: &[Option<usize>], stmts: &[Stmt]) -> Option<Place>
+fn unranked(ranks: &[Rank], stmts: &[Stmt]) -> Option<Place>
     requires { length ranks.now ≡ length stmts.now }
     ensures { Finds (Stands (IsUnranked ranks.now) (stmt_places stmts.now)) result }
 {

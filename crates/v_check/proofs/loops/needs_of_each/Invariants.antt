@@ -1,8 +1,7 @@
 use Rattle.std.proofs.Common.{◌≡◌, take}
 use Rattle.v_check.specs.Drivers.{driver_at}
 use Rattle.v_check.specs.Loops.{all_needs}
-use Rattle.topological_order.specs.Levels.{lists}
 use Rattle.v_check.proofs.loops.needs_of_each.Given as goal
 
 abbrev pub invariant-loop-stmt : goal.invariant-loop-stmt
-invariant-loop-stmt l = lists l.needs.items ≡ all_needs (driver_at l.drivers) (take l.stmt-index l.stmts)
+invariant-loop-stmt l = l.needs ≡ all_needs (driver_at l.drivers) (take l.stmt-index l.stmts)
