@@ -1,8 +1,21 @@
 -- What the answers to `compile`, `axi`, `map`, `header`, `manual` and `check` promise.
-use Rattle.std.proofs.Common.{◌≡◌, ◌⊎◌, ⊎_elim, inr, ℕ, List, [], ◌∷◌, map, Option, subst}
+use Rattle.std.proofs.Common.{◌≡◌, ◌⊎◌, ⊎_elim, inl, inr, ℕ, IsTrue, List, [], ◌∷◌, map, Option, refl, subst}
+use Rattle.encodings.specs.Encodings.{Enumeration}
+use Rattle.v_design.specs.WellFormed.{distinct}
+use Rattle.rb_model.specs.declared.block.Block.{Block}
+use Rattle.rb_model.specs.Apart.{IsApart}
+use Rattle.rb_model.specs.Sound.{IsSound}
+use Rattle.c_header.specs.Enumerators.{all_macros}
+use Rattle.c_header.specs.Laws.{AreApart}
 use Rattle.rb_edge.specs.Shelf.{Files, Holds}
 use Rattle.rdl_base.specs.declared.fault.Fault.{Fault}
-use Rattle.rdl_verdict.specs.Verdict.{IsAxiVerdict}
+use Rattle.rdl_tree.specs.declared.item.Source.{Source}
+use Rattle.rdl_parser.specs.Verdicts.{Reads}
+use Rattle.rdl_values.specs.Elaboration.{instances}
+use Rattle.rdl_values.specs.Verdict.{FirstOf}
+use Rattle.rdl_rules.specs.Block.{IsBlockOf}
+use Rattle.rdl_encodings.specs.Encoded.{source_encodings}
+use Rattle.rdl_verdict.specs.Verdict.{IsAxiVerdict, tree_phases}
 use Rattle.replies.specs.Verdict.{IsVerdict, tree}
 use Rattle.replies.specs.declared.status.Status.{Status}
 use Rattle.replies.specs.declared.status.Status.TheVariants.{Done, Refused}
@@ -19,6 +32,19 @@ told_by contents err out IsVerdictOf file texts source held judged e o =
     let P : List ℕ → Type 0 = λ t. TookAll err t in
     let Q : List ℕ → Type 0 = λ t. TookAll out t in
     record { source = source; place = judged.place; rule = judged.rule; held = held; fails = judged.fails; told = subst P judged.told.0 e; quiet = subst Q judged.told.1 o }
+
+-- the macros of a header have different names where its enumerations are apart
+abbrev MacrosDiffer : Type 0
+MacrosDiffer = (b : Block) (es : List Enumeration) → IsSound b → IsApart b → AreApart b es → IsTrue (distinct (map (λ m. m.name) (all_macros b es)))
+
+-- and those of a source are
+abbrev EncodingsAreApart : Type 0
+EncodingsAreApart = (wanted : Option (List ℕ)) (text : List ℕ) (s : Source) (waits : ℕ) (b : Block) → Reads text s.items.now → instances wanted s [] → IsBlockOf wanted s waits b → AreApart b (source_encodings wanted s).list
+
+-- where no phase has a failure, that of the instances has none
+first_clean : (top : Option (List ℕ)) (s : Source) → FirstOf (tree_phases top s) [] → instances top s []
+first_clean top s (inl h) = absurd (h.1 refl)
+first_clean top s (inr h) = h.0
 
 module _ (contents : Option Files) (err out : Passage) (top : Option (List ℕ)) (file : List ℕ) (texts : Texts) where
   pub told : (source : List ℕ) → Holds contents file source → IsRefused top file source texts → TookAll err texts.err → TookAll out texts.out → IsToldFailure contents top file err out
@@ -64,14 +90,25 @@ module _ (contents : Option Files) (err out : Passage) (top : Option (List ℕ))
   unlisted (source ∷ a ∷ more) read judged e o = absurd judged
   unlisted (source ∷ []) read judged e o = told source read.0.held judged e o
 
-  headed : (sources : List (List ℕ)) → AreRead contents (files_of (header_of top file)) sources → Judges (header_of top file) sources Done texts
+  headed : MacrosDiffer → EncodingsAreApart → (sources : List (List ℕ)) → AreRead contents (files_of (header_of top file)) sources → Judges (header_of top file) sources Done texts
       → TookAll err texts.err → TookAll out texts.out → IsHeader contents top file err out
-  headed [] read judged e o = absurd judged
-  headed (source ∷ a ∷ more) read judged e o = absurd judged
-  headed (source ∷ []) read judged e o =
+  headed macros encodings [] read judged e o = absurd judged
+  headed macros encodings (source ∷ a ∷ more) read judged e o = absurd judged
+  headed macros encodings (source ∷ []) read judged e o =
       let P : List ℕ → Type 0 = λ t. TookAll err t in
       let Q : List ℕ → Type 0 = λ t. TookAll out t in
-      record { source = source; tree = judged.tree; block = judged.block; held = read.0.held; described = judged.described; written = subst Q judged.text o; quiet = subst P judged.quiet e }
+      let d = judged.described in
+      let apart = encodings top source judged.tree 0 judged.block d.reads (first_clean top judged.tree d.clean) d.block in
+      record {
+        source = source;
+        tree = judged.tree;
+        block = judged.block;
+        held = read.0.held;
+        described = d;
+        written = subst Q judged.text o;
+        differ = macros judged.block (source_encodings top judged.tree).list d.sound d.apart apart;
+        quiet = subst P judged.quiet e;
+      }
 
   unheaded : (sources : List (List ℕ)) → AreRead contents (files_of (header_of top file)) sources → Judges (header_of top file) sources Refused texts
       → TookAll err texts.err → TookAll out texts.out → IsToldFailure contents top file err out
@@ -173,11 +210,11 @@ module _ (words : List (List ℕ)) (contents : Option Files) (failed : List ℕ 
       let a = asked words contents failed (map_of top file) Refused at.0 asks at.1 in
       unlisted contents err out top file at.0 a.0 a.1 a.2 at.2 at.3
 
-  pub headered : (top : Option (List ℕ)) (file : List ℕ) → Asks words (header_of top file) → result ≡ Done → IsHeader contents top file err out
-  headered top file asks is =
+  pub headered : MacrosDiffer → EncodingsAreApart → (top : Option (List ℕ)) (file : List ℕ) → Asks words (header_of top file) → result ≡ Done → IsHeader contents top file err out
+  headered macros encodings top file asks is =
       let at = subst At is ends in
       let a = asked words contents failed (header_of top file) Done at.0 asks at.1 in
-      headed contents err out top file at.0 a.0 a.1 a.2 at.2 at.3
+      headed contents err out top file at.0 macros encodings a.0 a.1 a.2 at.2 at.3
 
   pub not_headered : (top : Option (List ℕ)) (file : List ℕ) → Asks words (header_of top file) → result ≡ Refused → IsToldFailure contents top file err out
   not_headered top file asks is =

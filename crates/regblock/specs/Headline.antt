@@ -1,7 +1,8 @@
 -- What the answers to `compile`, `axi`, `map`, `header`, `manual` and `check` promise.
-use Rattle.std.specs.Prelude.{ℕ, List, [], ◌∷◌, Option, ⊤}
+use Rattle.std.specs.Prelude.{ℕ, IsTrue, List, [], ◌∷◌, map, Option, ⊤}
 use Rattle.rb_base.specs.declared.place.Place.{Place}
 use Rattle.rdl_base.specs.declared.rule.Rule.{Rule}
+use Rattle.c_header.specs.Enumerators.{all_macros}
 use Rattle.c_header.specs.Header.{header}
 use Rattle.html_manual.specs.Page.{page}
 use Rattle.rdl_encodings.specs.Encoded.{source_encodings}
@@ -14,6 +15,7 @@ use Rattle.axi_model.specs.Axi.{axi}
 use Rattle.rdl_base.specs.declared.fault.Fault.{Fault}
 use Rattle.rdl_tree.specs.declared.item.Source.{Source}
 use Rattle.report_text.specs.Lines.{address_lines}
+use Rattle.v_design.specs.WellFormed.{distinct}
 use Rattle.verdict_text.specs.Lines.{rule_line}
 use Rattle.replies.specs.Outcome.{AreVerdicts, all_failures, all_fine}
 use Rattle.rdl_verdict.specs.Verdict.{IsAxiVerdict}
@@ -77,7 +79,7 @@ pub record IsTable (contents : Option Files) (top : Option (List ℕ)) (file : L
   pub quiet : TookAll err []
 
 -- Done by `header`: the source breaks no rule, and what was written is the C header of the block that it describes and of the enumerations
--- by which its fields are encoded.
+-- by which its fields are encoded, of which no two macros have one name.
 pub record IsHeader (contents : Option Files) (top : Option (List ℕ)) (file : List ℕ) (err out : Passage) : Type 0 where
   pub source : List ℕ
   pub tree : Source
@@ -85,6 +87,7 @@ pub record IsHeader (contents : Option Files) (top : Option (List ℕ)) (file : 
   pub held : Holds contents file source
   pub described : IsDescribedWith top source tree 0 block
   pub written : TookAll out (header block (source_encodings top tree))
+  pub differ : IsTrue (distinct (map (λ m. m.name) (all_macros block (source_encodings top tree).list)))
   pub quiet : TookAll err []
 
 -- Done by `manual`: the source breaks no rule, and what was written is the manual page of the block that it describes, with the texts of

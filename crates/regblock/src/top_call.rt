@@ -15,7 +15,9 @@ ghost use Rattle.regblock.specs.Drives.{IsDriven, IsToldScript};
 ghost use Rattle.regblock.specs.Generated.{IsSizedSource};
 
 use bumpalo::Bump;
+use c_header::macros_differ;
 use rb_edge::{Shelf, Sink};
+use rdl_verdict_laws::enumerations_are_apart;
 use replies::{Status, answer_words};
 use std::alloc::Global;
 
@@ -41,7 +43,8 @@ pub fn run<S: Shelf, O: Sink, E: Sink>(
     ensures not_fronted { (top : Option (List ℕ)) (file : List ℕ) → Asks (texts words.now) (axi_of top file) → result ≡ Status.Refused
         → IsToldForAxi (S.contents shelf.old) top file (passage E.told E.faults err.old err.new) (passage O.told O.faults out.old out.new) }
 
-    // A table, a header or a page that was written is that of the block that the source describes; verdicts that were written are those of all files.
+    // A table, a header or a page that was written is that of the block that the source describes, and no two macros of a header have one name;
+    // verdicts that were written are those of all files.
     ensures mapped { (top : Option (List ℕ)) (file : List ℕ) → Asks (texts words.now) (map_of top file) → result ≡ Status.Done
         → IsTable (S.contents shelf.old) top file (passage E.told E.faults err.old err.new) (passage O.told O.faults out.old out.new) }
     ensures unmapped { (top : Option (List ℕ)) (file : List ℕ) → Asks (texts words.now) (map_of top file) → result ≡ Status.Refused
@@ -127,6 +130,8 @@ pub fn run<S: Shelf, O: Sink, E: Sink>(
     // Without memory nothing is written.
     ensures no_memory { result ≡ Status.NoMemory → (out.new ≡ out.old) × (err.new ≡ err.old) }
 {
+    macros_differ();
+    enumerations_are_apart();
     let arena = Bump::new(alloc);
     match answer_words(alloc, &arena, words, shelf) {
         Ok(reply) => reply.write(out, err),

@@ -64,7 +64,7 @@ pub returns-in-Ok-clause-unmapped : goal.returns-in-Ok-clause-unmapped
 returns-in-Ok-clause-unmapped g c = unmapped _ _ _ _ _ _ (returns-in-Ok-clause-ends g c)
 
 pub returns-in-Ok-clause-headered : goal.returns-in-Ok-clause-headered
-returns-in-Ok-clause-headered g c = headered _ _ _ _ _ _ (returns-in-Ok-clause-ends g c)
+returns-in-Ok-clause-headered g c = headered _ _ _ _ _ _ (returns-in-Ok-clause-ends g c) c.macros_differ.ensures c.enumerations_are_apart.ensures
 
 pub returns-in-Ok-clause-not_headered : goal.returns-in-Ok-clause-not_headered
 returns-in-Ok-clause-not_headered g c = not_headered _ _ _ _ _ _ (returns-in-Ok-clause-ends g c)
