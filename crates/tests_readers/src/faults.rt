@@ -8,7 +8,7 @@ use std::alloc::{AllocError, Global};
 use std::test::Fail;
 use v_check::check;
 use v_design::{Stmt, VExpr};
-use v_syntax::{Event, Parsed, VKind, VToken};
+use v_syntax::{Event, Parsed, VClass, VSpot};
 
 fn text(alloc: Global, bytes: &[u8]) -> Result<Text, AllocError>
     ensures { IfOk result (λ t. t ≡ bytes.now) }
@@ -44,7 +44,7 @@ fn stmts(alloc: Global) -> Result<Vec<Stmt>, AllocError>
         clocked: false,
         reset: None,
         expr: VExpr::Net(text(alloc, b"a")?),
-        place: Place(10),
+        place: Place(27),
     })?;
     Ok(stmts)
 }
@@ -56,8 +56,8 @@ fn parsed(alloc: Global) -> Result<Parsed<'static>, AllocError>
     let mut events = Vec::new(alloc);
     events.push(Event::None)?;
     let mut declared = Vec::new(alloc);
-    declared.push(Place(4))?;
-    declared.push(Place(7))?;
+    declared.push(Place(15))?;
+    declared.push(Place(24))?;
     Ok(Parsed {
         name: b"m",
         ports: ports(alloc)?,
@@ -69,93 +69,100 @@ fn parsed(alloc: Global) -> Result<Parsed<'static>, AllocError>
     })
 }
 
-// Each token stands at its number.
 #[test]
 fn a_sound_module_passes(rt: HostRuntime) -> Result<(), Fail> {
     let alloc = rt.alloc();
     let parsed = parsed(alloc)?;
     let tokens = [
-        VToken {
-            kind: VKind::Word,
-            text: b"module",
+        VSpot {
             place: Place(0),
+            len: 6,
+            class: VClass::Word,
         },
-        VToken {
-            kind: VKind::Id,
-            text: b"m",
-            place: Place(1),
-        },
-        VToken {
-            kind: VKind::Mark,
-            text: b"(",
-            place: Place(2),
-        },
-        VToken {
-            kind: VKind::Word,
-            text: b"input",
-            place: Place(3),
-        },
-        VToken {
-            kind: VKind::Id,
-            text: b"a",
-            place: Place(4),
-        },
-        VToken {
-            kind: VKind::Mark,
-            text: b",",
-            place: Place(5),
-        },
-        VToken {
-            kind: VKind::Word,
-            text: b"output",
-            place: Place(6),
-        },
-        VToken {
-            kind: VKind::Id,
-            text: b"b",
+        VSpot {
             place: Place(7),
+            len: 1,
+            class: VClass::Id,
         },
-        VToken {
-            kind: VKind::Mark,
-            text: b")",
+        VSpot {
             place: Place(8),
+            len: 1,
+            class: VClass::Mark,
         },
-        VToken {
-            kind: VKind::Mark,
-            text: b";",
+        VSpot {
             place: Place(9),
+            len: 5,
+            class: VClass::Word,
         },
-        VToken {
-            kind: VKind::Word,
-            text: b"assign",
-            place: Place(10),
-        },
-        VToken {
-            kind: VKind::Id,
-            text: b"b",
-            place: Place(11),
-        },
-        VToken {
-            kind: VKind::Mark,
-            text: b"=",
-            place: Place(12),
-        },
-        VToken {
-            kind: VKind::Id,
-            text: b"a",
-            place: Place(13),
-        },
-        VToken {
-            kind: VKind::Mark,
-            text: b";",
-            place: Place(14),
-        },
-        VToken {
-            kind: VKind::Word,
-            text: b"endmodule",
+        VSpot {
             place: Place(15),
+            len: 1,
+            class: VClass::Id,
+        },
+        VSpot {
+            place: Place(16),
+            len: 1,
+            class: VClass::Mark,
+        },
+        VSpot {
+            place: Place(17),
+            len: 6,
+            class: VClass::Word,
+        },
+        VSpot {
+            place: Place(24),
+            len: 1,
+            class: VClass::Id,
+        },
+        VSpot {
+            place: Place(25),
+            len: 1,
+            class: VClass::Mark,
+        },
+        VSpot {
+            place: Place(26),
+            len: 1,
+            class: VClass::Mark,
+        },
+        VSpot {
+            place: Place(27),
+            len: 6,
+            class: VClass::Word,
+        },
+        VSpot {
+            place: Place(34),
+            len: 1,
+            class: VClass::Id,
+        },
+        VSpot {
+            place: Place(35),
+            len: 1,
+            class: VClass::Mark,
+        },
+        VSpot {
+            place: Place(36),
+            len: 1,
+            class: VClass::Id,
+        },
+        VSpot {
+            place: Place(37),
+            len: 1,
+            class: VClass::Mark,
+        },
+        VSpot {
+            place: Place(38),
+            len: 9,
+            class: VClass::Word,
         },
     ];
-    assert!(rt; check(alloc, &tokens, &parsed).is_ok());
+    assert!(rt;
+        check(
+            alloc,
+            b"module m(input a,output b);assign b=a;endmodule",
+            &tokens,
+            &parsed
+        )
+        .is_ok()
+    );
     Ok(())
 }

@@ -3,8 +3,8 @@ use Rattle.std.proofs.Common.{◌≡◌, ℕ, zero, suc, ◌+◌, ◌<◌, ◌�
 use Rattle.rb_base.specs.declared.place.Place.{Place}
 use Rattle.rb_grammar.specs.Spelling.{At}
 use Rattle.v_design.specs.Lexemes.{Token}
-use Rattle.v_syntax.specs.Tokens.{placed, seen}
-use Rattle.v_syntax.specs.declared.token.VToken.{VToken}
+use Rattle.v_syntax.specs.Tokens.{placed, spotted}
+use Rattle.v_syntax.specs.declared.spot.VSpot.{VSpot}
 use Rattle.v_design.specs.declared.design.Stmt.{Stmt}
 use Rattle.v_check.specs.Sizes.{stmt_places}
 use Rattle.v_check.specs.Nets.{IsUndeclared, is_unknown, numbers, token_places}
@@ -86,36 +86,36 @@ number-at [] i e l = absurd (omega (arith, l))
 number-at (x ∷ xs) zero e l = refl
 number-at (x ∷ xs) (suc i) e l = number-at xs i e (omega (arith, l))
 
-pub token-place : (ts : List VToken) (i : ℕ) (e : VToken) → i < length ts → (get_or ts i e).place.0 ≡ get_or (token_places (placed ts)) i 0
-token-place [] i e l = absurd (omega (arith, l))
-token-place (x ∷ xs) zero e l = refl
-token-place (x ∷ xs) (suc i) e l = token-place xs i e (omega (arith, l))
+pub token-place : (bytes : List ℕ) (ts : List VSpot) (i : ℕ) (e : VSpot) → i < length ts → (get_or ts i e).place.0 ≡ get_or (token_places (placed bytes ts)) i 0
+token-place bytes [] i e l = absurd (omega (arith, l))
+token-place bytes (x ∷ xs) zero e l = refl
+token-place bytes (x ∷ xs) (suc i) e l = token-place bytes xs i e (omega (arith, l))
 
-token-at : (ts : List VToken) (i : ℕ) (e : VToken) → i < length ts → slice_get (placed ts) i ≡ Some (seen (get_or ts i e))
-token-at [] i e l = absurd (omega (arith, l))
-token-at (x ∷ xs) zero e l = refl
-token-at (x ∷ xs) (suc i) e l = token-at xs i e (omega (arith, l))
+token-at : (bytes : List ℕ) (ts : List VSpot) (i : ℕ) (e : VSpot) → i < length ts → slice_get (placed bytes ts) i ≡ Some (spotted bytes (get_or ts i e))
+token-at bytes [] i e l = absurd (omega (arith, l))
+token-at bytes (x ∷ xs) zero e l = refl
+token-at bytes (x ∷ xs) (suc i) e l = token-at bytes xs i e (omega (arith, l))
 
-pub token-within : (ts : List VToken) (i : ℕ) (a : At Token) → slice_get (placed ts) i ≡ Some a → i < length ts
-token-within [] i a h = cc h
-token-within (x ∷ xs) zero a h = omega arith
-token-within (x ∷ xs) (suc i) a h = let l = token-within xs i a h in omega (arith, l)
+pub token-within : (bytes : List ℕ) (ts : List VSpot) (i : ℕ) (a : At Token) → slice_get (placed bytes ts) i ≡ Some a → i < length ts
+token-within bytes [] i a h = cc h
+token-within bytes (x ∷ xs) zero a h = omega arith
+token-within bytes (x ∷ xs) (suc i) a h = let l = token-within bytes xs i a h in omega (arith, l)
 
-module _ (declared : List (List ℕ)) (before : ℕ) (ts : List VToken) (i : ℕ) (e : VToken) (b : Bool) (l : i < length ts) where
+module _ (bytes : List ℕ) (declared : List (List ℕ)) (before : ℕ) (ts : List VSpot) (i : ℕ) (e : VSpot) (b : Bool) (l : i < length ts) where
   -- whether the token at a place is a name that is not declared
-  pub undeclared-late : before ≤ i → b ≡ is_unknown declared (seen (get_or ts i e)).token
-      → (IsUndeclared declared before (placed ts) i → b ≡ true) × (b ≡ true → IsUndeclared declared before (placed ts) i)
+  pub undeclared-late : before ≤ i → b ≡ is_unknown declared (spotted bytes (get_or ts i e)).token
+      → (IsUndeclared declared before (placed bytes ts) i → b ≡ true) × (b ≡ true → IsUndeclared declared before (placed bytes ts) i)
   undeclared-late low test = (
-    λ h. let f : Some h.0 ≡ Some (seen (get_or ts i e)) = sym h.2 ∙ token-at ts i e l in
-        let f' : h.0 ≡ seen (get_or ts i e) = cc in
+    λ h. let f : Some h.0 ≡ Some (spotted bytes (get_or ts i e)) = sym h.2 ∙ token-at bytes ts i e l in
+        let f' : h.0 ≡ spotted bytes (get_or ts i e) = cc in
         test ∙ (ap (λ a. is_unknown declared a.token) (sym f') ∙ h.3),
-    λ h. (seen (get_or ts i e), low, token-at ts i e l, sym test ∙ h),
+    λ h. (spotted bytes (get_or ts i e), low, token-at bytes ts i e l, sym test ∙ h),
   )
 
 -- a token before is not judged
-pub undeclared-early : (declared : List (List ℕ)) (before : ℕ) (ts : List VToken) (i : ℕ) (b : Bool) → i < before → b ≡ nat_le before i
-    → (IsUndeclared declared before (placed ts) i → b ≡ true) × (b ≡ true → IsUndeclared declared before (placed ts) i)
-undeclared-early declared before ts i b low test = (λ h. absurd (let m = h.1 in omega (arith, low, m)), λ h. absurd (above low (sym test ∙ h)))
+pub undeclared-early : (bytes : List ℕ) (declared : List (List ℕ)) (before : ℕ) (ts : List VSpot) (i : ℕ) (b : Bool) → i < before → b ≡ nat_le before i
+    → (IsUndeclared declared before (placed bytes ts) i → b ≡ true) × (b ≡ true → IsUndeclared declared before (placed bytes ts) i)
+undeclared-early bytes declared before ts i b low test = (λ h. absurd (let m = h.1 in omega (arith, low, m)), λ h. absurd (above low (sym test ∙ h)))
   where
     above : i < before → nat_le before i ≡ true → ⊥
     above l h = let m = le-true before i h in omega (arith, l, m)

@@ -16,23 +16,24 @@ use crate::undeclared::undeclared;
 use crate::widths::misfit;
 use rb_base::NoMemory;
 use std::alloc::Global;
-use v_syntax::{Parsed, VError, VToken};
+use v_syntax::{Parsed, VError, VSpot};
 
 /// The first problem of a module, if it has one.
-fn judge<'s>(
+fn judge(
     alloc: Global,
-    tokens: &[VToken<'s>],
-    parsed: &Parsed<'s>,
+    bytes: &[u8],
+    tokens: &[VSpot],
+    parsed: &Parsed<'_>,
 ) -> Result<Option<VError>, NoMemory>
-    requires { (t : Tree) × IsSyntax (placed tokens.now) parsed.now t }
-    ensures { IfOk result (λ r. (t : Tree) → IsSyntax (placed tokens.now) parsed.now t → Judged t (placed tokens.now) r) }
+    requires { (t : Tree) × IsSyntax (placed bytes.now tokens.now) parsed.now t }
+    ensures { IfOk result (λ r. (t : Tree) → IsSyntax (placed bytes.now tokens.now) parsed.now t → Judged t (placed bytes.now tokens.now) r) }
 {
     let nets = nets_of(alloc, &parsed.ports, &parsed.decls)?;
     let (table, twice) = declare(alloc, &nets, &parsed.declared)?;
     if let Some(place) = twice {
         return Ok(Some(VError::Twice { place }));
     }
-    if let Some(place) = undeclared(&table, tokens, parsed.before) {
+    if let Some(place) = undeclared(&table, bytes, tokens, parsed.before) {
         return Ok(Some(VError::Undeclared { place }));
     }
     let (drivers, wrong) = misdriven(alloc, &table, &parsed.stmts, &parsed.events)?;
@@ -48,18 +49,23 @@ fn judge<'s>(
     Ok(None)
 }
 
-/// Judges a module that was parsed: whether it is well-formed, and else its first problem (this project's rules).
+/// Judges a module that was parsed from these tokens of its bytes: whether it is well-formed, and else its first problem (this project's rules).
 ///
 /// `Twice`, `Undeclared`, `Driver`, `Width` and `Loop` are judged in this order, each where those before it do not fail,
 /// and answered at its least place. `NoMemory` comes for want of memory alone. Takes time in proportion to the size of
 /// the module, and stack in proportion to the nesting of its expressions.
-pub fn check<'s>(alloc: Global, tokens: &[VToken<'s>], parsed: &Parsed<'s>) -> Result<(), VError>
-    requires { (t : Tree) × IsSyntax (placed tokens.now) parsed.now t }
-    ensures ok { OnOk result ((t : Tree) → IsSyntax (placed tokens.now) parsed.now t → IsWellFormed t) }
+pub fn check(
+    alloc: Global,
+    bytes: &[u8],
+    tokens: &[VSpot],
+    parsed: &Parsed<'_>,
+) -> Result<(), VError>
+    requires { (t : Tree) × IsSyntax (placed bytes.now tokens.now) parsed.now t }
+    ensures ok { OnOk result ((t : Tree) → IsSyntax (placed bytes.now tokens.now) parsed.now t → IsWellFormed t) }
     ensures err { IfErr result (λ e. (e ≡ VError.NoMemory)
-        ⊎ ((t : Tree) → IsSyntax (placed tokens.now) parsed.now t → FailsIn t (placed tokens.now) e)) }
+        ⊎ ((t : Tree) → IsSyntax (placed bytes.now tokens.now) parsed.now t → FailsIn t (placed bytes.now tokens.now) e)) }
 {
-    match judge(alloc, tokens, parsed) {
+    match judge(alloc, bytes, tokens, parsed) {
         Ok(None) => Ok(()),
         Ok(Some(problem)) => Err(problem),
         Err(NoMemory) => Err(VError::NoMemory),

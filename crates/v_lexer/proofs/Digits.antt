@@ -1,21 +1,24 @@
 -- Runs of digits and their values.
 use Rattle.std.specs.Char.{is_ascii_digit, digit_value}
-use Rattle.std.specs.List.{list_all, take_while}
+use Rattle.std.specs.List.{list_all, take_while, position, position_or_len, before_first, after_first}
+use Rattle.std.specs.Option.{option_map, unwrap_or}
 use Rattle.std.specs.Str.Parse.{digits_value}
-use Rattle.std.proofs.Common.{◌≡◌, ℕ, suc, ◌+◌, ◌*◌, ◌-◌, ◌^◌, ◌<◌, ◌≤◌, true, false, ◌&&◌, nat_lt, nat_le, cond, Some, None, List, [], ◌∷◌, ◌++◌, length, take, drop, get_or, refl, sym, ap, ◌∙◌, subst, arith, length-take}
+use Rattle.std.proofs.Common.{◌≡◌, ℕ, suc, ◌+◌, ◌*◌, ◌-◌, ◌^◌, ◌<◌, ◌≤◌, Bool, true, false, ◌&&◌, nat_lt, nat_le, cond, Option, Some, None, List, [], ◌∷◌, ◌++◌, length, take, drop, get_or, refl, sym, ap, ◌∙◌, subst, arith, length-take}
 use Rattle.std.proofs.lemmas.Bool.Decides.{nat_tests}
 use Rattle.std.proofs.Math.Bool.{and-false}
 use Rattle.std.proofs.Math.Pow.{pow_mono}
+use Rattle.std.proofs.lemmas.List.{drop_all}
 use Rattle.std.proofs.lemmas.Nat.{pow_pos}
 use Rattle.std.proofs.lemmas.Int.Digits.{digits_value_more}
 use Rattle.std.proofs.lemmas.Str.Parse.{digits_value-take-le}
-use Rattle.plain_lemmas.proofs.Lists.{take_drop-one as behind_one, take_drop-two as behind_two}
+use Rattle.plain_lemmas.proofs.Lists.{take_drop-one as behind_one, take_drop-two as behind_two, take_drop-rest as rest_is}
 use Rattle.rb_grammar.proofs.Scanning.{run_passes, run_cons, run_longest, run_taken}
 use Rattle.v_design.specs.Lexemes.{is_decimal, is_quote, base_of, is_based}
 use Rattle.v_design.proofs.Tests.{and-left, and-right}
 use Rattle.v_design.proofs.Spelling.{decimal_digits}
 use Rattle.v_design.specs.Lexemes.{constant_of}
 use Rattle.v_design.specs.Lexemes as token
+use Rattle.v_syntax.specs.Tokens.{numbers_of, constant_in}
 use Rattle.v_lexer.specs.Reading.{begins, is_digit_of, is_suffix, IsDecimalLen, IsSuffixLen, as_constant}
 
 -- Decimal numbers.
@@ -97,16 +100,6 @@ sum_is base b v m d w i text l e f p q s =
     let same : m ≡ v * base = p ∙ ap (λ z. v * z) f in
     omega (arith, same, q, s, value_more base v i text l e)
 
-digits_pass : (text : List ℕ) → list_all is_ascii_digit text ≡ true → list_all (is_digit_of 10) text ≡ true
-digits_pass [] h = refl
-digits_pass (b ∷ bs) h = rw (small b (and-left (is_ascii_digit b) (list_all is_ascii_digit bs) h)) (digits_pass bs (and-right (is_ascii_digit b) (list_all is_ascii_digit bs) h))
-  where
-    small : (b : ℕ) → is_ascii_digit b ≡ true → is_digit_of 10 b ≡ true
-    small b h = grind (arith, nat_tests)
-
-pub decimal_passes : (text : List ℕ) → is_decimal text ≡ true → list_all (is_digit_of 10) text ≡ true
-decimal_passes text h = digits_pass text (decimal_digits text h)
-
 -- Constants.
 
 pub constant_fits : (size width base value : ℕ) (based : List ℕ) → width ≡ size → (width ≡ 0 → ⊥) → width ≤ 128 → 1 ≤ length based → Some base ≡ base_of (get_or based 0 0)
@@ -128,3 +121,29 @@ constant_too_large size width base (x ∷ digits) e h l b f =
     let over : 2 ^ width ≤ digits_value base digits = omega (arith, large, pow_mono {i = width} {j = 128} h) in
     let fits : nat_lt (digits_value base digits) (2 ^ width) ≡ false = grind (arith, nat_tests) in
     rw (← b, ← e, fits) (sym (ap (λ c. cond c (Some (token.Const width (digits_value base digits))) None) (and-false (nat_le 1 width && nat_le width 128))))
+
+-- A constant whose ' stands there.
+
+pub behind_quote : (at : ℕ) (word : List ℕ) (r : Option (ℕ × ℕ)) → position is_quote word ≡ Some at → option_map as_constant r ≡ constant_of (digits_value 10 (take at word)) (take (length word - (at + 1)) (drop (at + 1) word)) → unwrap_or r (0, 0) ≡ numbers_of (constant_in word)
+behind_quote at word r e h =
+    let same : position_or_len is_quote word ≡ at = found (nat_lt (position_or_len is_quote word) (length word)) e in
+    let means : option_map as_constant r ≡ constant_in word = h ∙ rw (rest_is (at + 1) word, same) refl in
+    numbers r ∙ ap numbers_of means
+  where
+    found : (b : Bool) → cond b (Some (position_or_len is_quote word)) None ≡ Some at → position_or_len is_quote word ≡ at
+    found true f = cc
+    found false f = cc
+
+    numbers : (r : Option (ℕ × ℕ)) → unwrap_or r (0, 0) ≡ numbers_of (option_map as_constant r)
+    numbers None = refl
+    numbers (Some p) = refl
+
+pub no_quote : (word : List ℕ) → position is_quote word ≡ None → (0, 0) ≡ numbers_of (constant_in word)
+no_quote word e =
+    let past : nat_lt (position_or_len is_quote word) (length word) ≡ false = missing (nat_lt (position_or_len is_quote word) (length word)) e in
+    let none : after_first is_quote word ≡ [] = drop_all (position_or_len is_quote word + 1) word (grind (arith, nat_tests)) in
+    sym (ap (λ z. numbers_of (constant_of (digits_value 10 (before_first is_quote word)) z)) none)
+  where
+    missing : (b : Bool) → cond b (Some (position_or_len is_quote word)) None ≡ None → b ≡ false
+    missing true f = cc
+    missing false f = refl

@@ -14,6 +14,7 @@ use Rattle.v_design.specs.Lexemes.{Number, is_decimal, is_quote, is_based, is_co
 use Rattle.v_design.specs.Lexemes as token
 use Rattle.v_design.proofs.Tests.{and-left, and-right}
 use Rattle.v_design.proofs.Spelling.{number_form, decimal_begins, decimal_digits, decimal_meaning, constant_form, constant_meaning, before_quote, after_quote}
+use Rattle.v_syntax.specs.Tokens.{constant_in}
 use Rattle.v_syntax.specs.declared.token.VKind.TheVariants as kinds
 use Rattle.v_lexer.specs.Reading.{begins, is_suffix, IsDecimalLen, IsSuffixLen, IsLexeme, HasFault}
 use Rattle.v_lexer.proofs.Fronts.{IsBound, next_by, begins_front}
@@ -181,5 +182,9 @@ constant_fault n k text bare h d s z e =
     let c = constant_at n k text d s z in
     (NoMeaning (take (n + k) text), no_meaning (take (n + k) text) (drop (n + k) text) (constant_next n k text bare h d s c) (constant_is n k text d c ∙ sym e))
 
-pub constant_based : (n k : ℕ) (text : List ℕ) → IsDecimalLen text n → IsSuffixLen (drop n text) k → (k ≡ 0 → ⊥) → is_based (take (n + k - (n + 1)) (drop (n + 1) text)) ≡ true
-constant_based n k text d s z = let c = constant_at n k text d s z in rw c.behind c.found
+-- a lexeme of a constant's form means a constant, if anything
+pub constant_meant : (word : List ℕ) → is_constant word ≡ true → meaning_of verilog word ≡ constant_in word
+constant_meant word h =
+    let d = and-left (is_decimal (before_first is_quote word)) (is_based (after_first is_quote word)) h in
+    let b = and-right (is_decimal (before_first is_quote word)) (is_based (after_first is_quote word)) h in
+    ap (meaning_of verilog) (split_quote word b) ∙ constant_meaning (before_first is_quote word) (after_first is_quote word) d b

@@ -5,10 +5,13 @@ use Rattle.rb_grammar.specs.Lexemes.{meaning_of}
 use Rattle.rb_grammar.specs.Spelling.{IsPlace, IsNext, IsFault, Fault, FailsAt}
 use Rattle.v_design.specs.Lexemes.{among, is_name, is_name_start, reserved_words, marks, is_decimal, is_quote, is_based, is_constant, constant_of, verilog}
 use Rattle.v_design.specs.Lexemes as token
-use Rattle.v_syntax.specs.Tokens.{token_of}
+use Rattle.v_syntax.specs.Tokens.{token_of, text_of}
 use Rattle.v_syntax.specs.declared.token.VKind.{VKind}
 use Rattle.v_syntax.specs.declared.token.VKind.TheVariants as kinds
 use Rattle.v_syntax.specs.declared.token.VToken.{VToken}
+use Rattle.v_syntax.specs.declared.spot.VClass.{VClass}
+use Rattle.v_syntax.specs.declared.spot.VClass.TheVariants as classes
+use Rattle.v_syntax.specs.declared.spot.VSpot.{VSpot}
 use Rattle.v_syntax.specs.declared.token.VSpelling.{VSpelling}
 
 -- how many bytes the text has, what is left of it, and the fault that was answered, if one was
@@ -17,13 +20,24 @@ pub record Reading : Type 0 where
   pub rest : List ℕ
   pub fault : Option VSpelling
 
--- the bytes are of this kind of token
+-- the class of a kind of token
+abbrev pub class_of : VKind → VClass
+class_of kinds.Id = classes.Id
+class_of kinds.Dec = classes.Dec
+class_of (kinds.Const width value) = classes.Const
+class_of kinds.Word = classes.Word
+class_of kinds.Mark = classes.Mark
+
+-- the bytes are a lexeme of this class
+abbrev pub is_of_class : VClass → List ℕ → Bool
+is_of_class classes.Id word = is_name word && not (among reserved_words word)
+is_of_class classes.Dec word = is_decimal word
+is_of_class classes.Const word = is_constant word
+is_of_class classes.Word word = among reserved_words word
+is_of_class classes.Mark word = among marks word
+
 abbrev pub is_of_kind : VKind → List ℕ → Bool
-is_of_kind kinds.Id word = is_name word && not (among reserved_words word)
-is_of_kind kinds.Dec word = is_decimal word
-is_of_kind (kinds.Const width value) word = is_constant word
-is_of_kind kinds.Word word = among reserved_words word
-is_of_kind kinds.Mark word = among marks word
+is_of_kind kind word = is_of_class (class_of kind) word
 
 -- the word stands in the text before the rest, and at this place of a text of this size
 pub record StandsAt (size : ℕ) (text word rest : List ℕ) (place : ℕ) : Type 0 where
@@ -35,13 +49,21 @@ pub record StandsAt (size : ℕ) (text word rest : List ℕ) (place : ℕ) : Typ
 abbrev pub HasFaultAt : (size : ℕ) → List ℕ → (place : ℕ) → Type 0
 HasFaultAt size text place = (f : Fault) × FailsAt verilog size text f place
 
--- the token's text is the bytes at its place
-abbrev pub IsIn : List ℕ → VToken → Type 0
-IsIn bytes t = t.text.now ≡ take (length t.text.now) (drop t.place.0 bytes)
-
 -- the token is of the kind of its text
 abbrev pub IsOfItsKind : VToken → Type 0
 IsOfItsKind t = IsTrue (is_of_kind t.kind t.text.now)
+
+-- the token is what its text means
+abbrev pub IsMeant : VToken → Type 0
+IsMeant t = meaning_of verilog t.text.now ≡ Some (token_of t.kind t.text.now)
+
+-- the token as a spot of a text
+abbrev pub spot_of : VToken → VSpot
+spot_of t = record { place = t.place; len = length t.text.now; class = class_of t.kind }
+
+-- the spot is of the class of its bytes
+abbrev pub IsOfItsClass : List ℕ → VSpot → Type 0
+IsOfItsClass bytes s = IsTrue (is_of_class s.class (text_of bytes s))
 
 -- the first byte passes the test
 abbrev pub begins : (ℕ → Bool) → List ℕ → Bool

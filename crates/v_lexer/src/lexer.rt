@@ -32,7 +32,7 @@ impl<'s> VLexer<'s> {
     ghost use Rattle.rb_grammar.specs.Spelling.{IsPlace, StartsWith, SpellsFrom};
     ghost use Rattle.v_design.specs.Lexemes.{verilog};
     ghost use Rattle.v_syntax.specs.Tokens.{seen};
-    ghost use Rattle.v_lexer.specs.Reading.{StandsAt, HasFaultAt, IsOfItsKind};
+    ghost use Rattle.v_lexer.specs.Reading.{StandsAt, HasFaultAt, IsOfItsKind, IsMeant};
 
     /// Reads a text of fewer than 2^32 - 1 bytes from its front. Takes no memory.
     pub fn new(bytes: &'s [u8]) -> VLexer<'s>
@@ -54,6 +54,7 @@ impl<'s> VLexer<'s> {
         ensures text { IfOk result (λ next. IfSome next
             (λ t. StandsAt self.old.size self.old.rest t.text.now self.new.rest t.place.0)) }
         ensures kind { IfOk result (λ next. IfSome next IsOfItsKind) }
+        ensures meant { IfOk result (λ next. IfSome next IsMeant) }
         ensures end { IfOk result (λ next. IfNone next
             (SpellsFrom verilog self.old.size self.old.rest [] × (self.new.rest ≡ []))) }
         ensures fault { self.old.fault ≡ None → IfErr result (λ f. HasFaultAt self.old.size self.old.rest f.place.0) }

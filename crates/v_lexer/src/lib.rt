@@ -8,4 +8,5 @@ mod numbers;
 mod scan;
 
 pub use lexer::VLexer;
+pub use numbers::{constant_in, digit_of};
 pub use scan::{Scanned, tokens};

@@ -1,11 +1,12 @@
 //! Numbers and constants (IEEE 1364-2005, clause 3.5).
 
 ghost use Rattle.std.specs.Prelude.{◌≡◌, ◌≤◌, ◌<◌, ◌^◌, true, IsTrue, length, IfSome, SomeIff};
-ghost use Rattle.std.specs.Char.{is_ascii_digit};
-ghost use Rattle.std.specs.List.{take_while, list_all};
+ghost use Rattle.std.specs.Char.{is_ascii_digit, digit_value};
+ghost use Rattle.std.specs.List.{take_while, position};
 ghost use Rattle.std.specs.Option.{option_map};
 ghost use Rattle.std.specs.Str.Parse.{digits_value};
-ghost use Rattle.v_design.specs.Lexemes.{is_decimal, is_based, base_of, constant_of};
+ghost use Rattle.v_design.specs.Lexemes.{is_quote, base_of, constant_of};
+ghost use Rattle.v_syntax.specs.Tokens.{numbers_of, constant_in as constant_meant};
 ghost use Rattle.v_lexer.specs.Reading.{begins, is_digit_of, IsDecimalLen, IsSuffixLen, as_constant};
 
 use rb_base::ones;
@@ -69,27 +70,33 @@ pub(crate) fn suffix_len(text: &[u8]) -> usize
     }
 }
 
+/// The value of a digit in any base, 36 where the byte is none.
+pub fn digit_of(b: u8) -> u8
+    ensures { result ≡ digit_value b }
+{
+    match char::from(b).to_digit(36) {
+        Some(digit) => digit as u8,
+        None => 36,
+    }
+}
+
 // The value of digits, None where it needs more than 128 bits.
 fn value_of(digits: &[u8], base: u32) -> Option<u128>
     requires low { 2 ≤ base }
     requires high { base ≤ 16 }
-    requires digits { IsTrue (list_all (is_digit_of base) digits.now) }
     ensures { SomeIff result (digits_value base digits.now < 2 ^ 128) (digits_value base digits.now) }
 {
     let mut value: u128 = 0;
     for b in digits {
-        let digit = char::from(*b).to_digit(base)?;
         value = value
             .checked_mul(u128::from(base))?
-            .checked_add(u128::from(digit))?;
+            .checked_add(u128::from(digit_of(*b)))?;
     }
     Some(value)
 }
 
 // The width and the value of a constant, None where either is out of range.
 pub(crate) fn constant(size: &[u8], based: &[u8]) -> Option<(u8, u128)>
-    requires size { IsTrue (is_decimal size.now) }
-    requires based { IsTrue (is_based based.now) }
     ensures { option_map as_constant result ≡ constant_of (digits_value 10 size.now) based.now }
 {
     let width = value_of(size, 10)?;
@@ -107,5 +114,21 @@ pub(crate) fn constant(size: &[u8], based: &[u8]) -> Option<(u8, u128)>
             Some((width, value))
         }
         [] => None,
+    }
+}
+
+fn quote_in(word: &[u8]) -> Option<usize>
+    ensures { result ≡ position is_quote word.now }
+{
+    word.iter().position(|b| *b == b'\'')
+}
+
+/// The width and the value of a constant that was read, 0 and 0 where its bytes are none. Takes no memory.
+pub fn constant_in(word: &[u8]) -> (u8, u128)
+    ensures { result ≡ numbers_of (constant_meant word.now) }
+{
+    match quote_in(word) {
+        Some(at) => constant(&word[..at], &word[at + 1..]).unwrap_or((0, 0)),
+        None => (0, 0),
     }
 }

@@ -3,31 +3,31 @@ use Rattle.std.proofs.Common.{◌≡◌, ℕ, suc, ◌+◌, ◌-◌, ◌<◌, �
 use Rattle.std.proofs.lemmas.List.{drop_at}
 use Rattle.rb_grammar.specs.Forms.{Non, Fits, StopsAt, at_token, at_end}
 use Rattle.rb_grammar.specs.Brackets.{counted, open_after, StaysWithin, IsFirstTooDeep}
-use Rattle.rb_grammar.specs.declared.nesting.Nesting.{Nesting}
 use Rattle.std.specs.List.{fold}
 use Rattle.rb_grammar.specs.Judging.{IsGood, IsWrongAt, IsTooDeepAt}
 use Rattle.rb_grammar.proofs.Judgement.{wrong_whole, wrong_cut, too_deep_fits, too_deep_stops, good_not_too_deep, good_not_wrong}
-use Rattle.v_syntax.specs.Tokens.{seen, placed}
-use Rattle.v_syntax.specs.declared.token.VToken.{VToken}
+use Rattle.v_syntax.specs.Tokens.{spotted, placed}
+use Rattle.v_syntax.specs.declared.spot.VSpot.{VSpot}
 use Rattle.v_syntax.specs.Grammar.{grammar, nesting, most_open, Module}
+use Rattle.v_parser.specs.Reading.{nesting_in}
 use Rattle.v_parser.proofs.Walking.{Tokens}
 
-pub length_placed : (xs : List VToken) → length (placed xs) ≡ length xs
-length_placed [] = refl
-length_placed (x ∷ xs) = ap suc (length_placed xs)
+pub length_placed : (bytes : List ℕ) (xs : List VSpot) → length (placed bytes xs) ≡ length xs
+length_placed bytes [] = refl
+length_placed bytes (x ∷ xs) = ap suc (length_placed bytes xs)
 
-pub take_placed : (n : ℕ) (xs : List VToken) → placed (take n xs) ≡ take n (placed xs)
-take_placed zero xs = refl
-take_placed (suc n) [] = refl
-take_placed (suc n) (x ∷ xs) = ap (λ z. seen x ∷ z) (take_placed n xs)
+pub take_placed : (bytes : List ℕ) (n : ℕ) (xs : List VSpot) → placed bytes (take n xs) ≡ take n (placed bytes xs)
+take_placed bytes zero xs = refl
+take_placed bytes (suc n) [] = refl
+take_placed bytes (suc n) (x ∷ xs) = ap (λ z. spotted bytes x ∷ z) (take_placed bytes n xs)
 
-pub none_left : (rest : List VToken) (us : Tokens) → placed rest ≡ us → true ≡ (length rest == 0) → us ≡ []
-none_left [] us e h = sym e
-none_left (x ∷ xs) us e h = absurd (omega (arith, eqb-true _ _ (sym h)))
+pub none_left : (bytes : List ℕ) (rest : List VSpot) (us : Tokens) → placed bytes rest ≡ us → true ≡ (length rest == 0) → us ≡ []
+none_left bytes [] us e h = sym e
+none_left bytes (x ∷ xs) us e h = absurd (omega (arith, eqb-true _ _ (sym h)))
 
-pub some_left : (rest : List VToken) (us : Tokens) → placed rest ≡ us → false ≡ (length rest == 0) → 0 < length us
-some_left [] us e h = cc
-some_left (x ∷ xs) us e h = omega (arith, ap length e)
+pub some_left : (bytes : List ℕ) (rest : List VSpot) (us : Tokens) → placed bytes rest ≡ us → false ≡ (length rest == 0) → 0 < length us
+some_left bytes [] us e h = cc
+some_left bytes (x ∷ xs) us e h = omega (arith, ap length e)
 
 -- what is left is the end of the list
 pub stops_left : (ts left : Tokens) → StopsAt grammar (Non Module) ts left → (front : Tokens) × (ts ≡ front ++ left)
@@ -56,48 +56,45 @@ wrong_before ts left i k d s some e =
 
 -- How deep brackets are nested in the tokens of the program.
 
-abbrev pub nesting_seen : VToken → Nesting
-nesting_seen t = nesting (seen t)
+open_placed : (bytes : List ℕ) (n : ℕ) (ts : List VSpot) → fold (λ n t. counted n (nesting_in bytes t)) n ts ≡ fold (λ n t. counted n (nesting t)) n (placed bytes ts)
+open_placed bytes n [] = refl
+open_placed bytes n (t ∷ ts) = open_placed bytes (counted n (nesting_in bytes t)) ts
 
-open_placed : (n : ℕ) (ts : List VToken) → fold (λ n t. counted n (nesting_seen t)) n ts ≡ fold (λ n t. counted n (nesting t)) n (placed ts)
-open_placed n [] = refl
-open_placed n (t ∷ ts) = open_placed (counted n (nesting_seen t)) ts
+pub within_placed : (bytes : List ℕ) (ts : List VSpot) → StaysWithin (nesting_in bytes) most_open ts → StaysWithin nesting most_open (placed bytes ts)
+within_placed bytes ts h i l =
+    let same : open_after (nesting_in bytes) (take i ts) ≡ open_after nesting (take i (placed bytes ts)) = open_placed bytes 0 (take i ts) ∙ ap (open_after nesting) (take_placed bytes i ts) in
+    subst (λ n. n ≤ most_open) same (h i (omega (arith, l, length_placed bytes ts)))
 
-pub within_placed : (ts : List VToken) → StaysWithin nesting_seen most_open ts → StaysWithin nesting most_open (placed ts)
-within_placed ts h i l =
-    let same : open_after nesting_seen (take i ts) ≡ open_after nesting (take i (placed ts)) = open_placed 0 (take i ts) ∙ ap (open_after nesting) (take_placed i ts) in
-    subst (λ n. n ≤ most_open) same (h i (omega (arith, l, length_placed ts)))
-
-pub first_placed : (ts : List VToken) (i : ℕ) → IsFirstTooDeep nesting_seen most_open ts i → IsFirstTooDeep nesting most_open (placed ts) i
-first_placed ts i h = record {
-  within = omega (arith, h.within, length_placed ts);
-  before = subst (λ z. StaysWithin nesting most_open z) (take_placed i ts) (within_placed (take i ts) h.before);
-  passes = subst (λ n. most_open < n) (open_placed 0 (take (i + 1) ts) ∙ ap (open_after nesting) (take_placed (i + 1) ts)) h.passes;
+pub first_placed : (bytes : List ℕ) (ts : List VSpot) (i : ℕ) → IsFirstTooDeep (nesting_in bytes) most_open ts i → IsFirstTooDeep nesting most_open (placed bytes ts) i
+first_placed bytes ts i h = record {
+  within = omega (arith, h.within, length_placed bytes ts);
+  before = subst (λ z. StaysWithin nesting most_open z) (take_placed bytes i ts) (within_placed bytes (take i ts) h.before);
+  passes = subst (λ n. most_open < n) (open_placed bytes 0 (take (i + 1) ts) ∙ ap (open_after nesting) (take_placed bytes (i + 1) ts)) h.passes;
 }
 
 -- What is concluded from the tokens up to and with the bracket that is nested too deep.
 
-pub deep_fits : (ts : List VToken) (i : ℕ) → IsFirstTooDeep nesting_seen most_open ts i → Fits grammar (Non Module) (placed (take (i + 1) ts)) → IsTooDeepAt grammar nesting most_open (Non Module) (placed ts) i
-deep_fits ts i h f = too_deep_fits grammar nesting most_open (Non Module) (placed ts) i (first_placed ts i h) (subst (λ z. Fits grammar (Non Module) z) (take_placed (i + 1) ts) f)
+pub deep_fits : (bytes : List ℕ) (ts : List VSpot) (i : ℕ) → IsFirstTooDeep (nesting_in bytes) most_open ts i → Fits grammar (Non Module) (placed bytes (take (i + 1) ts)) → IsTooDeepAt grammar nesting most_open (Non Module) (placed bytes ts) i
+deep_fits bytes ts i h f = too_deep_fits grammar nesting most_open (Non Module) (placed bytes ts) i (first_placed bytes ts i h) (subst (λ z. Fits grammar (Non Module) z) (take_placed bytes (i + 1) ts) f)
 
-pub deep_stops : (ts left : List VToken) (i : ℕ) → IsFirstTooDeep nesting_seen most_open ts i → StopsAt grammar (Non Module) (placed (take (i + 1) ts)) (placed left) → true ≡ (length left == 0) → IsTooDeepAt grammar nesting most_open (Non Module) (placed ts) i
-deep_stops ts left i h s e =
-    too_deep_stops grammar nesting most_open (Non Module) (placed ts) (placed left) i (first_placed ts i h) (subst (λ z. StopsAt grammar (Non Module) z (placed left)) (take_placed (i + 1) ts) s) (ap length (none_left left (placed left) refl e))
+pub deep_stops : (bytes : List ℕ) (ts left : List VSpot) (i : ℕ) → IsFirstTooDeep (nesting_in bytes) most_open ts i → StopsAt grammar (Non Module) (placed bytes (take (i + 1) ts)) (placed bytes left) → true ≡ (length left == 0) → IsTooDeepAt grammar nesting most_open (Non Module) (placed bytes ts) i
+deep_stops bytes ts left i h s e =
+    too_deep_stops grammar nesting most_open (Non Module) (placed bytes ts) (placed bytes left) i (first_placed bytes ts i h) (subst (λ z. StopsAt grammar (Non Module) z (placed bytes left)) (take_placed bytes (i + 1) ts) s) (ap length (none_left bytes left (placed bytes left) refl e))
 
-pub deep_wrong : (ts left : List VToken) (i k : ℕ) → IsFirstTooDeep nesting_seen most_open ts i → StopsAt grammar (Non Module) (placed (take (i + 1) ts)) (placed left) → false ≡ (length left == 0) → k ≡ i + 1 - length left
-    → (k ≤ length (placed ts)) × IsWrongAt grammar nesting most_open (Non Module) (placed ts) (drop k (placed ts))
-deep_wrong ts left i k h s e f =
-    wrong_before (placed ts) (placed left) i k (first_placed ts i h) (subst (λ z. StopsAt grammar (Non Module) z (placed left)) (take_placed (i + 1) ts) s) (some_left left (placed left) refl e) (f ∙ ap (λ n. i + 1 - n) (sym (length_placed left)))
+pub deep_wrong : (bytes : List ℕ) (ts left : List VSpot) (i k : ℕ) → IsFirstTooDeep (nesting_in bytes) most_open ts i → StopsAt grammar (Non Module) (placed bytes (take (i + 1) ts)) (placed bytes left) → false ≡ (length left == 0) → k ≡ i + 1 - length left
+    → (k ≤ length (placed bytes ts)) × IsWrongAt grammar nesting most_open (Non Module) (placed bytes ts) (drop k (placed bytes ts))
+deep_wrong bytes ts left i k h s e f =
+    wrong_before (placed bytes ts) (placed bytes left) i k (first_placed bytes ts i h) (subst (λ z. StopsAt grammar (Non Module) z (placed bytes left)) (take_placed bytes (i + 1) ts) s) (some_left bytes left (placed bytes left) refl e) (f ∙ ap (λ n. i + 1 - n) (sym (length_placed bytes left)))
 
-pub deep_within : (ts left : List VToken) (i : ℕ) → StopsAt grammar (Non Module) (placed (take (i + 1) ts)) (placed left) → length left ≤ i + 1
-deep_within ts left i s = omega (arith, left_within (placed (take (i + 1) ts)) (placed left) s, length_placed left, length_placed (take (i + 1) ts), length-take (i + 1) ts)
+pub deep_within : (bytes : List ℕ) (ts left : List VSpot) (i : ℕ) → StopsAt grammar (Non Module) (placed bytes (take (i + 1) ts)) (placed bytes left) → length left ≤ i + 1
+deep_within bytes ts left i s = omega (arith, left_within (placed bytes (take (i + 1) ts)) (placed bytes left) s, length_placed bytes left, length_placed bytes (take (i + 1) ts), length-take (i + 1) ts)
 
-pub wrong_all : (ts left : List VToken) (k : ℕ) → StaysWithin nesting_seen most_open ts → StopsAt grammar (Non Module) (placed ts) (placed left) → k ≡ length ts - length left
-    → (k ≤ length (placed ts)) × IsWrongAt grammar nesting most_open (Non Module) (placed ts) (drop k (placed ts))
-wrong_all ts left k w s e = wrong_here (placed ts) (placed left) k (within_placed ts w) s (omega (arith, e, length_placed ts, length_placed left))
+pub wrong_all : (bytes : List ℕ) (ts left : List VSpot) (k : ℕ) → StaysWithin (nesting_in bytes) most_open ts → StopsAt grammar (Non Module) (placed bytes ts) (placed bytes left) → k ≡ length ts - length left
+    → (k ≤ length (placed bytes ts)) × IsWrongAt grammar nesting most_open (Non Module) (placed bytes ts) (drop k (placed bytes ts))
+wrong_all bytes ts left k w s e = wrong_here (placed bytes ts) (placed bytes left) k (within_placed bytes ts w) s (omega (arith, e, length_placed bytes ts, length_placed bytes left))
 
-pub not_good : (ts : List VToken) (i : ℕ) → IsGood grammar nesting most_open (Non Module) (placed ts) → IsTooDeepAt grammar nesting most_open (Non Module) (placed ts) i → ⊥
-not_good ts i g d = good_not_too_deep grammar nesting most_open (Non Module) (placed ts) i g d
+pub not_good : (bytes : List ℕ) (ts : List VSpot) (i : ℕ) → IsGood grammar nesting most_open (Non Module) (placed bytes ts) → IsTooDeepAt grammar nesting most_open (Non Module) (placed bytes ts) i → ⊥
+not_good bytes ts i g d = good_not_too_deep grammar nesting most_open (Non Module) (placed bytes ts) i g d
 
-pub not_wrong : (ts : List VToken) (k : ℕ) → IsGood grammar nesting most_open (Non Module) (placed ts) → (k ≤ length (placed ts)) × IsWrongAt grammar nesting most_open (Non Module) (placed ts) (drop k (placed ts)) → ⊥
-not_wrong ts k g w = good_not_wrong grammar nesting most_open (Non Module) (placed ts) (drop k (placed ts)) g w.1
+pub not_wrong : (bytes : List ℕ) (ts : List VSpot) (k : ℕ) → IsGood grammar nesting most_open (Non Module) (placed bytes ts) → (k ≤ length (placed bytes ts)) × IsWrongAt grammar nesting most_open (Non Module) (placed bytes ts) (drop k (placed bytes ts)) → ⊥
+not_wrong bytes ts k g w = good_not_wrong grammar nesting most_open (Non Module) (placed bytes ts) (drop k (placed bytes ts)) g w.1

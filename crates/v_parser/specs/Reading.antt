@@ -19,9 +19,11 @@ use Rattle.v_design.specs.Seen.{expr_seen}
 use Rattle.rb_base.specs.declared.ports.Dir.{Dir}
 use Rattle.rb_base.specs.declared.ports.Port.{Port}
 use Rattle.rb_base.specs.declared.place.Place.{Place}
-use Rattle.v_syntax.specs.Tokens.{place_at, placed}
-use Rattle.v_syntax.specs.Grammar.{Terminal, Quoted, Constant, Rule, quoted, id, grammar, Module, Expr, Reset}
+use Rattle.v_syntax.specs.Tokens.{place_at, spotted, placed}
+use Rattle.v_syntax.specs.Grammar.{Terminal, Quoted, Constant, Rule, quoted, id, grammar, nesting, Module, Expr, Reset}
 use Rattle.v_syntax.specs.Syntax.{capped, IsStatement, IsSyntax}
+use Rattle.rb_grammar.specs.declared.nesting.Nesting.{Nesting}
+use Rattle.v_syntax.specs.declared.spot.VSpot.{VSpot}
 use Rattle.v_syntax.specs.declared.parsed.Event.{Event}
 use Rattle.v_syntax.specs.declared.parsed.Parsed.{Parsed}
 use Rattle.v_parser.specs.declared.parsing.Unread.{Unread}
@@ -248,6 +250,10 @@ abbrev pub ReadsModule : List (At Token) → List (At Token) → Parsed → Type
 ReadsModule ts us x = us ≡ [] → (t : Tree) × IsSyntax ts x t
 
 -- the tokens stop being a module before what is left
-abbrev pub StopsThere : List (At Token) → Unread → Type 0
-StopsThere ts (unread.Syntax left) = StopsAt grammar (Non Module) ts (placed left.now)
-StopsThere ts unread.NoMemory = Unit {0}
+abbrev pub StopsThere : (bytes : List ℕ) → List (At Token) → Unread → Type 0
+StopsThere bytes ts (unread.Syntax left) = StopsAt grammar (Non Module) ts (placed bytes left.now)
+StopsThere bytes ts unread.NoMemory = Unit {0}
+
+-- what a token of the text does to the brackets that are open
+abbrev pub nesting_in : List ℕ → VSpot → Nesting
+nesting_in bytes s = nesting (spotted bytes s)

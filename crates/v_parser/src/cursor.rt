@@ -1,25 +1,26 @@
 //! The tokens that are left, and what takes one of them.
 
 ghost use Rattle.std.specs.Prelude.{◌≡◌, ℕ, ◌<◌, IfOk, OnErr, MatchOption, length, min};
-ghost use Rattle.std.specs.Char.{digit_value};
 ghost use Rattle.std.specs.Str.Parse.{digits_value};
 ghost use Rattle.rb_grammar.specs.Readings.{at, Takes, Misses};
 ghost use Rattle.v_syntax.specs.Grammar.{grammar, is, Quoted, Identifier, Decimal, High, Zero, Constant};
 ghost use Rattle.v_design.specs.Lexemes as token;
-ghost use Rattle.v_syntax.specs.Tokens.{seen};
+ghost use Rattle.v_syntax.specs.Tokens.{spotted};
 ghost use Rattle.v_parser.specs.Reading.{word_at, name_at, TakesOne};
 
 use rb_base::{Place, Text};
 use rb_grammar::Stop;
 use std::alloc::{AllocError, Global};
 use std::marker::Model;
-use v_syntax::{VKind, VToken};
+use v_lexer::{constant_in, digit_of};
+use v_syntax::{VClass, VSpot};
 
-// The tokens that are left.
+// The tokens that are left, as spots of a text.
 #[derive(Drop)]
 pub(crate) struct Parser<'t, 's> {
     pub alloc: Global,
-    pub rest: &'t [VToken<'s>],
+    pub bytes: &'s [u8],
+    pub rest: &'t [VSpot],
 }
 
 impl<'t, 's> Model for Parser<'t, 's> {
@@ -30,7 +31,7 @@ impl<'t, 's> Model for Parser<'t, 's> {
 
     ghost Value = { List (At Token) };
 
-    ghost view = { λ p. placed p.rest.now };
+    ghost view = { λ p. placed p.bytes.now p.rest.now };
 }
 
 // A name, and where it stands.
@@ -48,16 +49,6 @@ pub(crate) fn text(alloc: Global, bytes: &[u8]) -> Result<Text, AllocError>
     })
 }
 
-// The value of a digit, as `digit_value` says.
-fn digit_of(b: u8) -> u8
-    ensures { result ≡ digit_value b }
-{
-    match char::from(b).to_digit(36) {
-        Some(digit) => digit as u8,
-        None => 36,
-    }
-}
-
 // The value of decimal digits, 255 where it is larger.
 fn capped(digits: &[u8]) -> u8
     ensures { result ≡ min (digits_value 10 digits.now) 255 }
@@ -69,12 +60,12 @@ fn capped(digits: &[u8]) -> u8
     value
 }
 
-fn is_quoted(token: &VToken<'_>, text: &[u8]) -> bool
-    ensures { result ≡ is (Quoted text.now) (seen token.now).token }
+fn is_quoted(bytes: &[u8], token: VSpot, text: &[u8]) -> bool
+    ensures { result ≡ is (Quoted text.now) (spotted bytes.now token).token }
 {
-    match token.kind {
-        VKind::Word | VKind::Mark => token.text == text,
-        VKind::Id | VKind::Dec | VKind::Const { .. } => false,
+    match token.class {
+        VClass::Word | VClass::Mark => token.text(bytes) == text,
+        VClass::Id | VClass::Dec | VClass::Const => false,
     }
 }
 
@@ -91,7 +82,7 @@ impl<'t, 's> Parser<'t, 's> {
         ensures { result ≡ at grammar (Quoted text.now) self.now }
     {
         match self.rest.first() {
-            Some(token) => is_quoted(token, text),
+            Some(token) => is_quoted(self.bytes, *token, text),
             None => false,
         }
     }
@@ -101,9 +92,9 @@ impl<'t, 's> Parser<'t, 's> {
         ensures { MatchOption result (Misses grammar (Quoted text.now) self.old self.new)
             (λ p. Takes grammar (Quoted text.now) self.old (word_at text.now p.0) self.new) }
     {
-        let all: &'t [VToken<'s>] = self.rest;
+        let all: &'t [VSpot] = self.rest;
         let first = *all.first()?;
-        if is_quoted(&first, text) {
+        if is_quoted(self.bytes, first, text) {
             self.rest = &all[1..];
             Some(first.place)
         } else {
@@ -124,13 +115,13 @@ impl<'t, 's> Parser<'t, 's> {
         ensures { MatchOption result (Misses grammar Identifier self.old self.new)
             (λ n. Takes grammar Identifier self.old (name_at n.text.now n.place.0) self.new) }
     {
-        let all: &'t [VToken<'s>] = self.rest;
+        let all: &'t [VSpot] = self.rest;
         let first = *all.first()?;
-        match first.kind {
-            VKind::Id => {
+        match first.class {
+            VClass::Id => {
                 self.rest = &all[1..];
                 Some(Name {
-                    text: first.text,
+                    text: first.text(self.bytes),
                     place: first.place,
                 })
             }
@@ -151,12 +142,12 @@ impl<'t, 's> Parser<'t, 's> {
         ensures { MatchOption result (Misses grammar Constant self.old self.new)
             (λ k. TakesOne Constant (token.Const k.0 k.1) self.old self.new) }
     {
-        let all: &'t [VToken<'s>] = self.rest;
+        let all: &'t [VSpot] = self.rest;
         let first = *all.first()?;
-        match first.kind {
-            VKind::Const { width, value } => {
+        match first.class {
+            VClass::Const => {
                 self.rest = &all[1..];
-                Some((width, value))
+                Some(constant_in(first.text(self.bytes)))
             }
             _ => None,
         }
@@ -175,14 +166,14 @@ impl<'t, 's> Parser<'t, 's> {
         ensures ok { IfOk result (λ capped. (n : ℕ) × TakesOne Decimal (token.Number n) self.old self.new × (capped ≡ min n 255)) }
         ensures err { OnErr result (Misses grammar Decimal self.old self.new) }
     {
-        let all: &'t [VToken<'s>] = self.rest;
+        let all: &'t [VSpot] = self.rest;
         let Some(first) = all.first().copied() else {
             return Err(Stop::Syntax);
         };
-        match first.kind {
-            VKind::Dec => {
+        match first.class {
+            VClass::Dec => {
                 self.rest = &all[1..];
-                Ok(capped(first.text))
+                Ok(capped(first.text(self.bytes)))
             }
             _ => Err(Stop::Syntax),
         }
@@ -193,13 +184,13 @@ impl<'t, 's> Parser<'t, 's> {
         ensures ok { IfOk result (λ n. TakesOne High (token.Number n) self.old self.new) }
         ensures err { OnErr result (Misses grammar High self.old self.new) }
     {
-        let all: &'t [VToken<'s>] = self.rest;
+        let all: &'t [VSpot] = self.rest;
         let Some(first) = all.first().copied() else {
             return Err(Stop::Syntax);
         };
-        match first.kind {
-            VKind::Dec => {
-                let value = capped(first.text);
+        match first.class {
+            VClass::Dec => {
+                let value = capped(first.text(self.bytes));
                 if value == 0 || value > 127 {
                     return Err(Stop::Syntax);
                 }
@@ -215,12 +206,12 @@ impl<'t, 's> Parser<'t, 's> {
         ensures ok { IfOk result (λ _. TakesOne Zero (token.Number 0) self.old self.new) }
         ensures err { OnErr result (Misses grammar Zero self.old self.new) }
     {
-        let all: &'t [VToken<'s>] = self.rest;
+        let all: &'t [VSpot] = self.rest;
         let Some(first) = all.first().copied() else {
             return Err(Stop::Syntax);
         };
-        match first.kind {
-            VKind::Dec if capped(first.text) == 0 => {
+        match first.class {
+            VClass::Dec if capped(first.text(self.bytes)) == 0 => {
                 self.rest = &all[1..];
                 Ok(())
             }

@@ -2,6 +2,7 @@
 #![tactic(auto)]
 
 mod cursor;
+mod depth;
 mod expr;
 mod laws;
 mod module;

@@ -5,7 +5,7 @@ ghost use Rattle.v_parser.specs.Reading.{one_of, two_of, IsPrefix, IsInfix, NoPr
 
 use crate::cursor::Parser;
 use v_design::{VOne, VTwo};
-use v_syntax::{VKind, VToken};
+use v_syntax::{VClass, VSpot};
 
 // The operator before an operand that a mark is.
 fn one_of(mark: &[u8]) -> Option<VOne>
@@ -45,15 +45,15 @@ impl<'t, 's> Parser<'t, 's> {
     pub(crate) fn prefix(&mut self) -> Option<VOne>
         ensures { MatchOption result (NoPrefix self.old self.new) (IsPrefix self.old self.new) }
     {
-        let all: &'t [VToken<'s>] = self.rest;
+        let all: &'t [VSpot] = self.rest;
         let first = *all.first()?;
-        match first.kind {
-            VKind::Word | VKind::Mark => {
-                let op = one_of(first.text)?;
+        match first.class {
+            VClass::Word | VClass::Mark => {
+                let op = one_of(first.text(self.bytes))?;
                 self.rest = &all[1..];
                 Some(op)
             }
-            VKind::Id | VKind::Dec | VKind::Const { .. } => None,
+            VClass::Id | VClass::Dec | VClass::Const => None,
         }
     }
 
@@ -61,15 +61,15 @@ impl<'t, 's> Parser<'t, 's> {
     pub(crate) fn infix(&mut self) -> Option<VTwo>
         ensures { MatchOption result (NoInfix self.old self.new) (IsInfix self.old self.new) }
     {
-        let all: &'t [VToken<'s>] = self.rest;
+        let all: &'t [VSpot] = self.rest;
         let first = *all.first()?;
-        match first.kind {
-            VKind::Word | VKind::Mark => {
-                let op = two_of(first.text)?;
+        match first.class {
+            VClass::Word | VClass::Mark => {
+                let op = two_of(first.text(self.bytes))?;
                 self.rest = &all[1..];
                 Some(op)
             }
-            VKind::Id | VKind::Dec | VKind::Const { .. } => None,
+            VClass::Id | VClass::Dec | VClass::Const => None,
         }
     }
 }

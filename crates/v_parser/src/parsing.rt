@@ -10,10 +10,11 @@ ghost use Rattle.v_syntax.specs.Syntax.{IsSyntax};
 ghost use Rattle.v_parser.specs.Reading.{StopsThere};
 
 use crate::cursor::Parser;
-use rb_grammar::{Stop, first_too_deep};
+use crate::depth::first_too_deep;
+use rb_grammar::Stop;
 use std::alloc::Global;
 use thiserror::Error;
-use v_syntax::{Parsed, VToken};
+use v_syntax::{Parsed, VSpot};
 
 // How many brackets may be open.
 const MOST_OPEN: usize = 64;
@@ -34,19 +35,24 @@ pub enum ParseError {
 
 // Why tokens are no module: these are left where they stop being one, or memory was refused.
 #[derive(Clone, Copy)]
-enum Unread<'t, 's> {
-    Syntax(&'t [VToken<'s>]),
+enum Unread<'t> {
+    Syntax(&'t [VSpot]),
     NoMemory,
 }
 
 // The module of all tokens.
-fn read<'t, 's>(alloc: Global, tokens: &'t [VToken<'s>]) -> Result<Parsed<'s>, Unread<'t, 's>>
-    ensures tree { IfOk result (λ x. (t : Tree) × IsSyntax (placed tokens.now) x t) }
-    ensures fits { OnOk result (Fits grammar (Non Module) (placed tokens.now)) }
-    ensures stops { IfErr result (StopsThere (placed tokens.now)) }
+fn read<'t, 's>(
+    alloc: Global,
+    bytes: &'s [u8],
+    tokens: &'t [VSpot],
+) -> Result<Parsed<'s>, Unread<'t>>
+    ensures tree { IfOk result (λ x. (t : Tree) × IsSyntax (placed bytes.now tokens.now) x t) }
+    ensures fits { OnOk result (Fits grammar (Non Module) (placed bytes.now tokens.now)) }
+    ensures stops { IfErr result (StopsThere bytes.now (placed bytes.now tokens.now)) }
 {
     let mut parser = Parser {
         alloc,
+        bytes,
         rest: tokens,
     };
     match parser.module() {
@@ -57,26 +63,30 @@ fn read<'t, 's>(alloc: Global, tokens: &'t [VToken<'s>]) -> Result<Parsed<'s>, U
     }
 }
 
-/// What the tokens of a module say (IEEE 1364-2005, annex A, as far as the subset goes).
+/// What the tokens of a module say, which are spots of its bytes (IEEE 1364-2005, annex A, as far as the subset goes).
 ///
 /// `Syntax` or `TooDeep` where they say no module or nest brackets too deep, whichever comes first; `NoMemory` where
 /// memory is refused.
-pub fn parse<'s>(alloc: Global, tokens: &[VToken<'s>]) -> Result<Parsed<'s>, ParseError>
-    ensures tree { IfOk result (λ x. (t : Tree) × IsSyntax (placed tokens.now) x t) }
-    ensures good { OnOk result (IsGood grammar nesting most_open (Non Module) (placed tokens.now)) }
-    ensures accepts { IsGood grammar nesting most_open (Non Module) (placed tokens.now) → IfErr result (λ e. e ≡ ParseError.NoMemory) }
+pub fn parse<'s>(
+    alloc: Global,
+    bytes: &'s [u8],
+    tokens: &[VSpot],
+) -> Result<Parsed<'s>, ParseError>
+    ensures tree { IfOk result (λ x. (t : Tree) × IsSyntax (placed bytes.now tokens.now) x t) }
+    ensures good { OnOk result (IsGood grammar nesting most_open (Non Module) (placed bytes.now tokens.now)) }
+    ensures accepts { IsGood grammar nesting most_open (Non Module) (placed bytes.now tokens.now) → IfErr result (λ e. e ≡ ParseError.NoMemory) }
     ensures syntax { (k : ℕ) → result ≡ Err (ParseError.Syntax k)
-        → (k ≤ length (placed tokens.now)) × IsWrongAt grammar nesting most_open (Non Module) (placed tokens.now) (drop k (placed tokens.now)) }
-    ensures too_deep { (k : ℕ) → result ≡ Err (ParseError.TooDeep k) → IsTooDeepAt grammar nesting most_open (Non Module) (placed tokens.now) k }
+        → (k ≤ length (placed bytes.now tokens.now)) × IsWrongAt grammar nesting most_open (Non Module) (placed bytes.now tokens.now) (drop k (placed bytes.now tokens.now)) }
+    ensures too_deep { (k : ℕ) → result ≡ Err (ParseError.TooDeep k) → IsTooDeepAt grammar nesting most_open (Non Module) (placed bytes.now tokens.now) k }
 {
-    let Some(deep) = first_too_deep(tokens, MOST_OPEN) else {
-        return match read(alloc, tokens) {
+    let Some(deep) = first_too_deep(bytes, tokens, MOST_OPEN) else {
+        return match read(alloc, bytes, tokens) {
             Ok(module) => Ok(module),
             Err(Unread::Syntax(left)) => Err(ParseError::Syntax(tokens.len() - left.len())),
             Err(Unread::NoMemory) => Err(ParseError::NoMemory),
         };
     };
-    let left = match read(alloc, &tokens[..=deep]) {
+    let left = match read(alloc, bytes, &tokens[..=deep]) {
         Ok(_) => return Err(ParseError::TooDeep(deep)),
         Err(Unread::Syntax(left)) => left,
         Err(Unread::NoMemory) => return Err(ParseError::NoMemory),

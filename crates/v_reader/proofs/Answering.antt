@@ -14,14 +14,14 @@ use Rattle.v_design.specs.WellFormed.{IsWellFormed}
 use Rattle.v_design.specs.Design.{module_of, widths}
 use Rattle.v_design.specs.Seen.{module_seen, step_seen}
 use Rattle.v_design.specs.declared.design.Design.{Design}
-use Rattle.v_syntax.specs.Tokens.{seen, placed}
+use Rattle.v_syntax.specs.Tokens.{spotted, placed}
 use Rattle.v_syntax.specs.Grammar.{grammar, nesting, most_open, Module}
 use Rattle.v_syntax.specs.Scanned.{Scans}
 use Rattle.v_syntax.specs.Syntax.{IsSyntax, AreStatements}
 use Rattle.v_syntax.specs.Failing.{IsMisspelledAt, IsUnexpectedAt, IsTooDeepIn, Fails, FailsIn}
 use Rattle.v_syntax.specs.declared.error.VError.{VError}
 use Rattle.v_syntax.specs.declared.error.VError.TheVariants as error
-use Rattle.v_syntax.specs.declared.token.VToken.{VToken}
+use Rattle.v_syntax.specs.declared.spot.VSpot.{VSpot}
 use Rattle.v_syntax.specs.declared.token.VSpelling.{VSpelling}
 use Rattle.v_syntax.specs.declared.parsed.Parsed.{Parsed}
 use Rattle.v_reader.specs.Reading.{IsDesign}
@@ -35,14 +35,14 @@ stops_end : (ts left : List (At Token)) → StopsAt grammar (Non Module) ts left
 stops_end ts _ (at_end b n) e = b
 stops_end ts _ (at_token front after t f b n) e = cc
 
-pub unexpected : (bytes : List ℕ) (tokens : List VToken) (end : Option ℕ) (k : ℕ) (d : VToken) → Scans bytes (placed tokens) end → k < length tokens → d ≡ get_or tokens k d
-    → IsWrongAt grammar nesting most_open (Non Module) (placed tokens) (drop k (placed tokens)) → IsUnexpectedAt bytes d.place.0
+pub unexpected : (bytes : List ℕ) (tokens : List VSpot) (end : Option ℕ) (k : ℕ) (d : VSpot) → Scans bytes (placed bytes tokens) end → k < length tokens → d ≡ get_or tokens k d
+    → IsWrongAt grammar nesting most_open (Non Module) (placed bytes tokens) (drop k (placed bytes tokens)) → IsUnexpectedAt bytes d.place.0
 unexpected bytes tokens end k d s l e w = record {
-  ts = placed tokens;
-  left = seen d ∷ drop (suc k) (placed tokens);
+  ts = placed bytes tokens;
+  left = spotted bytes d ∷ drop (suc k) (placed bytes tokens);
   end = end;
   scans = s;
-  wrong = subst (λ z. IsWrongAt grammar nesting most_open (Non Module) (placed tokens) z) (left_at tokens k d l e) w;
+  wrong = subst (λ z. IsWrongAt grammar nesting most_open (Non Module) (placed bytes tokens) z) (left_at bytes tokens k d l e) w;
   at = refl;
 }
 
@@ -50,30 +50,30 @@ unexpected bytes tokens end k d s l e w = record {
 fault_at : (bytes : List ℕ) (ts : List (At Token)) (o : Option VSpelling) (f : VSpelling) → Scans bytes ts (option_map (λ x. x.place.0) o) → o ≡ Some f → Scans bytes ts (Some f.place.0)
 fault_at bytes ts o f s e = subst (λ z. Scans bytes ts (option_map (λ x. x.place.0) z)) e s
 
-pub misspelled_behind : (bytes : List ℕ) (tokens : List VToken) (o : Option VSpelling) (f : VSpelling) (k : ℕ) → Scans bytes (placed tokens) (option_map (λ x. x.place.0) o) → o ≡ Some f → length tokens ≤ k
-    → IsWrongAt grammar nesting most_open (Non Module) (placed tokens) (drop k (placed tokens)) → IsMisspelledAt bytes f.place.0
+pub misspelled_behind : (bytes : List ℕ) (tokens : List VSpot) (o : Option VSpelling) (f : VSpelling) (k : ℕ) → Scans bytes (placed bytes tokens) (option_map (λ x. x.place.0) o) → o ≡ Some f → length tokens ≤ k
+    → IsWrongAt grammar nesting most_open (Non Module) (placed bytes tokens) (drop k (placed bytes tokens)) → IsMisspelledAt bytes f.place.0
 misspelled_behind bytes tokens o f k s e l w =
-    let none : drop k (placed tokens) ≡ [] = none_left tokens k l in
-    let all : take (length (placed tokens) - length (drop k (placed tokens))) (placed tokens) ≡ placed tokens = take_all _ (placed tokens) (omega (arith, ap length none)) in
+    let none : drop k (placed bytes tokens) ≡ [] = none_left bytes tokens k l in
+    let all : take (length (placed bytes tokens) - length (drop k (placed bytes tokens))) (placed bytes tokens) ≡ placed bytes tokens = take_all _ (placed bytes tokens) (omega (arith, ap length none)) in
     record {
-      ts = placed tokens;
-      scans = fault_at bytes (placed tokens) o f s e;
-      begins = stops_end (placed tokens) (drop k (placed tokens)) w.stops none;
+      ts = placed bytes tokens;
+      scans = fault_at bytes (placed bytes tokens) o f s e;
+      begins = stops_end (placed bytes tokens) (drop k (placed bytes tokens)) w.stops none;
       within = subst (λ z. StaysWithin nesting most_open z) all w.within;
     }
 
-pub misspelled_good : (bytes : List ℕ) (tokens : List VToken) (o : Option VSpelling) (f : VSpelling) → Scans bytes (placed tokens) (option_map (λ x. x.place.0) o) → o ≡ Some f
-    → IsGood grammar nesting most_open (Non Module) (placed tokens) → IsMisspelledAt bytes f.place.0
+pub misspelled_good : (bytes : List ℕ) (tokens : List VSpot) (o : Option VSpelling) (f : VSpelling) → Scans bytes (placed bytes tokens) (option_map (λ x. x.place.0) o) → o ≡ Some f
+    → IsGood grammar nesting most_open (Non Module) (placed bytes tokens) → IsMisspelledAt bytes f.place.0
 misspelled_good bytes tokens o f s e g = record {
-  ts = placed tokens;
-  scans = fault_at bytes (placed tokens) o f s e;
+  ts = placed bytes tokens;
+  scans = fault_at bytes (placed bytes tokens) o f s e;
   begins = fits_begins grammar g.fits;
   within = g.within;
 }
 
-pub too_deep : (bytes : List ℕ) (tokens : List VToken) (end : Option ℕ) (k : ℕ) (d : VToken) → Scans bytes (placed tokens) end → k < length tokens → d ≡ get_or tokens k d
-    → IsTooDeepAt grammar nesting most_open (Non Module) (placed tokens) k → IsTooDeepIn bytes d.place.0
-too_deep bytes tokens end k d s l e w = record { ts = placed tokens; end = end; number = k; scans = s; deep = w; at = place_is tokens k d l e }
+pub too_deep : (bytes : List ℕ) (tokens : List VSpot) (end : Option ℕ) (k : ℕ) (d : VSpot) → Scans bytes (placed bytes tokens) end → k < length tokens → d ≡ get_or tokens k d
+    → IsTooDeepAt grammar nesting most_open (Non Module) (placed bytes tokens) k → IsTooDeepIn bytes d.place.0
+too_deep bytes tokens end k d s l e w = record { ts = placed bytes tokens; end = end; number = k; scans = s; deep = w; at = place_is bytes tokens k d l e }
 
 -- the tokens of a text that is scanned whole, and the tree of them
 pub tree_is : (bytes : List ℕ) (ts : List (At Token)) (end : Option ℕ) (x : Parsed) (t : Tree) → Scans bytes ts end → end ≡ None → IsGood grammar nesting most_open (Non Module) ts → IsSyntax ts x t → IsTree bytes t

@@ -51,7 +51,7 @@ fn judged(alloc: Global, bytes: &[u8]) -> Result<Design, VError>
         return Err(VError::NoMemory);
     };
     let parsed = parsed(alloc, bytes, &scanned)?;
-    if let Err(error) = check(alloc, &scanned.tokens, &parsed) {
+    if let Err(error) = check(alloc, bytes, &scanned.tokens, &parsed) {
         return Err(error);
     }
     match design_of(alloc, parsed) {
@@ -61,15 +61,15 @@ fn judged(alloc: Global, bytes: &[u8]) -> Result<Design, VError>
 }
 
 // What the tokens of the bytes say.
-fn parsed<'s>(alloc: Global, bytes: &'s [u8], scanned: &Scanned<'s>) -> Result<Parsed<'s>, VError>
+fn parsed<'s>(alloc: Global, bytes: &'s [u8], scanned: &Scanned) -> Result<Parsed<'s>, VError>
     requires small { length bytes.now < 2 ^ 32 - 1 }
-    requires scans { Scans bytes.now (placed scanned.now.tokens.items) (fault_place scanned.now) }
-    ensures syntax { IfOk result (λ x. (t : Tree) × IsSyntax (placed scanned.now.tokens.items) x t) }
-    ensures good { OnOk result (IsGood grammar nesting most_open (Non Module) (placed scanned.now.tokens.items)) }
+    requires scans { Scans bytes.now (placed bytes.now scanned.now.tokens.items) (fault_place scanned.now) }
+    ensures syntax { IfOk result (λ x. (t : Tree) × IsSyntax (placed bytes.now scanned.now.tokens.items) x t) }
+    ensures good { OnOk result (IsGood grammar nesting most_open (Non Module) (placed bytes.now scanned.now.tokens.items)) }
     ensures whole { OnOk result (scanned.now.fault ≡ None) }
     ensures err { IfErr result (λ e. (e ≡ VError.NoMemory) ⊎ Fails bytes.now e) }
 {
-    let parsed = match parse(alloc, &scanned.tokens) {
+    let parsed = match parse(alloc, bytes, &scanned.tokens) {
         Ok(parsed) => parsed,
         Err(ParseError::Syntax(at)) => return Err(stopped(bytes, scanned, at)),
         Err(ParseError::TooDeep(at)) => return Err(VError::TooDeep {
@@ -84,11 +84,11 @@ fn parsed<'s>(alloc: Global, bytes: &'s [u8], scanned: &Scanned<'s>) -> Result<P
 }
 
 // What is wrong where so many tokens begin a module and no more do.
-fn stopped(bytes: &[u8], scanned: &Scanned<'_>, at: usize) -> VError
+fn stopped(bytes: &[u8], scanned: &Scanned, at: usize) -> VError
     requires small { length bytes.now < 2 ^ 32 - 1 }
-    requires scans { Scans bytes.now (placed scanned.now.tokens.items) (fault_place scanned.now) }
+    requires scans { Scans bytes.now (placed bytes.now scanned.now.tokens.items) (fault_place scanned.now) }
     requires within { at ≤ length scanned.now.tokens.items }
-    requires wrong { IsWrongAt grammar nesting most_open (Non Module) (placed scanned.now.tokens.items) (drop at (placed scanned.now.tokens.items)) }
+    requires wrong { IsWrongAt grammar nesting most_open (Non Module) (placed bytes.now scanned.now.tokens.items) (drop at (placed bytes.now scanned.now.tokens.items)) }
     ensures { Fails bytes.now result }
 {
     if at < scanned.tokens.len() {

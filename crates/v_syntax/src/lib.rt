@@ -3,8 +3,10 @@
 
 mod error;
 mod parsed;
+mod spot;
 mod token;
 
 pub use error::VError;
 pub use parsed::{Event, Parsed};
+pub use spot::{VClass, VSpot};
 pub use token::{VKind, VSpelling, VToken};

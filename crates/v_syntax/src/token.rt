@@ -1,10 +1,6 @@
 //! Tokens as slices of the source.
 
-ghost use Rattle.std.specs.Prelude.{◌≡◌};
-ghost use Rattle.v_syntax.specs.Grammar.{word_nesting};
-
 use rb_base::Place;
-use rb_grammar::{Bracket, Nesting};
 
 /// What a token is (IEEE 1364-2005, clause 3): an identifier, a decimal number, a constant of a width in bits (1 to 128)
 /// and a value within it, a reserved word of the subset, or a mark.
@@ -29,29 +25,4 @@ pub struct VToken<'s> {
 #[derive(Clone, Copy, Debug, PartialEq, Eq)]
 pub struct VSpelling {
     pub place: Place,
-}
-
-// What a word or mark does to the brackets that are open.
-fn nesting_of(text: &[u8]) -> Nesting
-    ensures { result ≡ word_nesting text.now }
-{
-    match text {
-        b"(" | b"{" => Nesting::Opens,
-        b")" | b"}" => Nesting::Closes,
-        _ => Nesting::Neither,
-    }
-}
-
-impl Bracket for VToken<'_> {
-    ghost use Rattle.v_syntax.specs.Tokens.{seen};
-    ghost use Rattle.v_syntax.specs.Grammar.{nesting};
-
-    ghost nesting = { λ t. nesting (seen t) };
-
-    fn nesting(&self) -> Nesting {
-        match self.kind {
-            VKind::Word | VKind::Mark => nesting_of(self.text),
-            VKind::Id | VKind::Dec | VKind::Const { .. } => Nesting::Neither,
-        }
-    }
 }

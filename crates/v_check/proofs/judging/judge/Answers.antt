@@ -15,14 +15,14 @@ use Rattle.v_check.proofs.judging.judge.Goals as goal
 pub declare-requires : goal.declare-requires
 declare-requires c =
     let (t, syn) = c.requires in
-    let ts = placed c.args.tokens.now in
+    let ts = placed c.args.bytes.now c.args.tokens.now in
     let x = c.args.parsed.now in
     let is = nets-tree ts x t c.deref-3.result.now c.deref.result.now c.deref-2.result.now syn c.deref.ensures.value c.deref-2.ensures.value (ap nets_seen c.deref-3.ensures.value ∙ c.in_ok-nets.ensures) in
     places-count ts x t c.deref-3.result.now c.deref-4.result.now syn is c.deref-4.ensures.value
 
 pub returns-in-Some : goal.returns-in-Some
 returns-in-Some c = λ t syn.
-    let ts = placed c.args.tokens.now in
+    let ts = placed c.args.bytes.now c.args.tokens.now in
     let x = c.args.parsed.now in
     let is = nets-tree ts x t c.deref-3.result.now c.deref.result.now c.deref-2.result.now syn c.deref.ensures.value c.deref-2.ensures.value (ap nets_seen c.deref-3.ensures.value ∙ c.in_ok-nets.ensures) in
     let twice = twice-found t ts (nets_seen c.deref-3.result.now) (numbers c.deref-4.result.now) c.in_ok-table.twice is (ap numbers c.deref-4.ensures.value ∙ syn.declared) c.in_ok-table.ensures.found in
@@ -30,7 +30,7 @@ returns-in-Some c = λ t syn.
 
 pub returns-in-Some-undeclared : goal.returns-in-Some-undeclared
 returns-in-Some-undeclared c = λ t syn.
-    let ts = placed c.args.tokens.now in
+    let ts = placed c.args.bytes.now c.args.tokens.now in
     let x = c.args.parsed.now in
     let is = nets-tree ts x t c.deref-3.result.now c.deref.result.now c.deref-2.result.now syn c.deref.ensures.value c.deref-2.ensures.value (ap nets_seen c.deref-3.ensures.value ∙ c.in_ok-nets.ensures) in
     let twice = twice-found t ts (nets_seen c.deref-3.result.now) (numbers c.deref-4.result.now) c.in_ok-table.twice is (ap numbers c.deref-4.ensures.value ∙ syn.declared) c.in_ok-table.ensures.found in
@@ -47,14 +47,14 @@ misdriven-requires c =
 pub undriven-requires : goal.undriven-requires
 undriven-requires c =
     let (t, syn) = c.requires in
-    let ts = placed c.args.tokens.now in
+    let ts = placed c.args.bytes.now c.args.tokens.now in
     let x = c.args.parsed.now in
     let is = nets-tree ts x t c.deref-7.result.now c.deref.result.now c.deref-2.result.now syn c.deref.ensures.value c.deref-2.ensures.value (ap nets_seen c.deref-7.ensures.value ∙ c.in_ok-nets.ensures) in
     places-count ts x t c.deref-7.result.now c.deref-8.result.now syn is c.deref-8.ensures.value
 
 pub returns-in-Some-either : goal.returns-in-Some-either
 returns-in-Some-either c = λ t syn.
-    let ts = placed c.args.tokens.now in
+    let ts = placed c.args.bytes.now c.args.tokens.now in
     let x = c.args.parsed.now in
     let is = nets-tree ts x t c.deref-3.result.now c.deref.result.now c.deref-2.result.now syn c.deref.ensures.value c.deref-2.ensures.value (ap nets_seen c.deref-3.ensures.value ∙ c.in_ok-nets.ensures) in
     let other = nets-tree ts x t c.deref-7.result.now c.deref.result.now c.deref-2.result.now syn c.deref.ensures.value c.deref-2.ensures.value (ap nets_seen c.deref-7.ensures.value ∙ c.in_ok-nets.ensures) in
@@ -72,7 +72,7 @@ returns-in-Some-either c = λ t syn.
 
 pub returns-in-Some-misfit : goal.returns-in-Some-misfit
 returns-in-Some-misfit c = λ t syn.
-    let ts = placed c.args.tokens.now in
+    let ts = placed c.args.bytes.now c.args.tokens.now in
     let x = c.args.parsed.now in
     let is = nets-tree ts x t c.deref-3.result.now c.deref.result.now c.deref-2.result.now syn c.deref.ensures.value c.deref-2.ensures.value (ap nets_seen c.deref-3.ensures.value ∙ c.in_ok-nets.ensures) in
     let other = nets-tree ts x t c.deref-7.result.now c.deref.result.now c.deref-2.result.now syn c.deref.ensures.value c.deref-2.ensures.value (ap nets_seen c.deref-7.ensures.value ∙ c.in_ok-nets.ensures) in
@@ -101,7 +101,7 @@ looping-requires c =
 
 pub returns-in-Some-2 : goal.returns-in-Some-2
 returns-in-Some-2 c = λ t syn.
-    let ts = placed c.args.tokens.now in
+    let ts = placed c.args.bytes.now c.args.tokens.now in
     let x = c.args.parsed.now in
     let is = nets-tree ts x t c.deref-3.result.now c.deref.result.now c.deref-2.result.now syn c.deref.ensures.value c.deref-2.ensures.value (ap nets_seen c.deref-3.ensures.value ∙ c.in_ok-nets.ensures) in
     let other = nets-tree ts x t c.deref-7.result.now c.deref.result.now c.deref-2.result.now syn c.deref.ensures.value c.deref-2.ensures.value (ap nets_seen c.deref-7.ensures.value ∙ c.in_ok-nets.ensures) in
@@ -127,7 +127,7 @@ returns-in-Some-2 c = λ t syn.
 
 pub returns : goal.returns
 returns c = λ t syn.
-    let ts = placed c.args.tokens.now in
+    let ts = placed c.args.bytes.now c.args.tokens.now in
     let x = c.args.parsed.now in
     let is = nets-tree ts x t c.deref-3.result.now c.deref.result.now c.deref-2.result.now syn c.deref.ensures.value c.deref-2.ensures.value (ap nets_seen c.deref-3.ensures.value ∙ c.in_ok-nets.ensures) in
     let other = nets-tree ts x t c.deref-7.result.now c.deref.result.now c.deref-2.result.now syn c.deref.ensures.value c.deref-2.ensures.value (ap nets_seen c.deref-7.ensures.value ∙ c.in_ok-nets.ensures) in

@@ -8,4 +8,4 @@ use Rattle.v_check.proofs.undeclared.undeclared.Given as goal
 
 abbrev pub invariant-loop-index : goal.invariant-loop-index
 invariant-loop-index l = (ns : List Net) → AreNets l.table ns
-    → Finds (StandsBefore (IsUndeclared (names (nets_seen ns)) l.before (placed l.tokens)) (token_places (placed l.tokens)) l.index) l.found
+    → Finds (StandsBefore (IsUndeclared (names (nets_seen ns)) l.before (placed l.bytes l.tokens)) (token_places (placed l.bytes l.tokens)) l.index) l.found

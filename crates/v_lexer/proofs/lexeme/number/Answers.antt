@@ -1,7 +1,7 @@
 use Rattle.std.proofs.Common.{subst, List, ℕ}
 use Rattle.plain_lemmas.proofs.Lists.{take_drop-rest as rest_is}
 use Rattle.v_lexer.specs.Reading.{IsSuffixLen}
-use Rattle.v_lexer.proofs.NumberFronts.{decimal_lexeme, constant_lexeme, constant_fault, constant_based}
+use Rattle.v_lexer.proofs.NumberFronts.{decimal_lexeme, constant_lexeme, constant_fault}
 use Rattle.v_lexer.proofs.lexeme.number.Goals as goal
 
 pub returns-then-suffix-eq0-clause-some : goal.returns-then-suffix-eq0-clause-some
@@ -9,12 +9,6 @@ returns-then-suffix-eq0-clause-some c =
     let n = c.decimal_len-size.result in
     let text = c.args.text.now in
     decimal_lexeme n c.suffix_len-suffix.result text c.requires.bare c.requires.digit c.decimal_len-size.ensures (subst (λ (z : List ℕ). IsSuffixLen z c.suffix_len-suffix.result) (rest_is n text) c.suffix_len-suffix.ensures) c.if-suffix-eq0.true
-
-pub constant-requires-clause-based : goal.constant-requires-clause-based
-constant-requires-clause-based c =
-    let n = c.decimal_len-size.result in
-    let text = c.args.text.now in
-    constant_based n c.suffix_len-suffix.result text c.decimal_len-size.ensures (subst (λ (z : List ℕ). IsSuffixLen z c.suffix_len-suffix.result) (rest_is n text) c.suffix_len-suffix.ensures) c.if-suffix-eq0.false
 
 pub returns-in_err-width-clause-none : goal.returns-in_err-width-clause-none
 returns-in_err-width-clause-none c =

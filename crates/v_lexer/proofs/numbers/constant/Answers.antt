@@ -1,11 +1,8 @@
 use Rattle.std.proofs.Common.{arith, ap, ◌∙◌}
 use Rattle.std.specs.Option.{option_map}
 use Rattle.v_lexer.specs.Reading.{as_constant}
-use Rattle.v_lexer.proofs.Digits.{decimal_passes, constant_fits, constant_too_large}
+use Rattle.v_lexer.proofs.Digits.{constant_fits, constant_too_large}
 use Rattle.v_lexer.proofs.numbers.constant.Goals as goal
-
-pub value_of-requires-clause-digits : goal.value_of-requires-clause-digits
-value_of-requires-clause-digits c = decimal_passes c.args.size.now c.requires.size
 
 pub returns-in_err-value-in-len1-up : goal.returns-in_err-value-in-len1-up
 returns-in_err-value-in-len1-up c = ap (option_map as_constant) c.from_residual-in_err-value-in-len1-up.ensures

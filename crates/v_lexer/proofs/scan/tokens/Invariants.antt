@@ -2,17 +2,16 @@ use Rattle.std.proofs.Common.{◌≡◌, ℕ, None, List, ◌++◌, length}
 use Rattle.std.specs.List.{AllByRecursion}
 use Rattle.v_syntax.specs.Tokens.{placed}
 use Rattle.v_syntax.specs.Scanned.{SpellsUpTo}
-use Rattle.v_lexer.specs.Reading.{IsIn, IsOfItsKind}
+use Rattle.v_lexer.specs.Reading.{IsOfItsClass}
 use Rattle.v_lexer.proofs.scan.tokens.Given as goal
 
 abbrev pub invariant-more : goal.invariant-more
 invariant-more l = record {
   size : l.lexer.size ≡ length l.bytes;
   so_far : l.lexer.fault ≡ None;
-  spells : SpellsUpTo (length l.bytes) l.bytes (placed l.tokens.items) l.lexer.rest;
+  spells : SpellsUpTo (length l.bytes) l.bytes (placed l.bytes l.tokens.items) l.lexer.rest;
   behind : (gap : List ℕ) × (l.bytes ≡ gap ++ l.lexer.rest);
-  texts : AllByRecursion (IsIn l.bytes) l.tokens.items;
-  kinds : AllByRecursion IsOfItsKind l.tokens.items;
+  classes : AllByRecursion (IsOfItsClass l.bytes) l.tokens.items;
 }
 
 abbrev pub decreases-more : goal.decreases-more
