@@ -1,9 +1,7 @@
 -- The failures that were collected are those of the phase.
-use Rattle.std.proofs.Common.{◌<◌, ◌^◌, map, Vec, ◌≡◌, ◌==◌, ℕ, suc, ◌∙◌, true, false, length, List, [], ◌∷◌, Contains, Some, refl, ap, subst, arith}
+use Rattle.std.proofs.Common.{◌<◌, ◌^◌, map, ◌≡◌, ◌==◌, ℕ, suc, ◌∙◌, true, false, length, List, [], ◌∷◌, Contains, Some, refl, ap, subst, arith}
 use Rattle.std.proofs.lemmas.Bool.Decides.{nat_tests}
-use Rattle.std.specs.Global.{Global}
 use Rattle.plain_lemmas.proofs.Lists.{length-map as mapped}
-use Rattle.topological_order.specs.Levels.{lists}
 use Rattle.rdl_base.specs.declared.fault.Fault.{Fault}
 use Rattle.rdl_tree.specs.declared.node.Elab.{Elab}
 use Rattle.rdl_values.specs.Elaborated.{nodes_of, top_name}
@@ -47,12 +45,11 @@ as-many ns [] (i ∷ is) h = absurd h
 as-many ns (x ∷ xs) [] h = absurd h
 as-many ns (x ∷ xs) (i ∷ is) h = ap suc (as-many ns xs is h.1)
 
-pub few-edges : (e : Elab) (x : Numbers) → AreNumbers e x → (vs : List (Vec ℕ Global)) → lists vs ≡ edges_of (lineages_of e) → length vs < 2 ^ 32
+pub few-edges : (e : Elab) (x : Numbers) → AreNumbers e x → (vs : List (List ℕ)) → vs ≡ edges_of (lineages_of e) → length vs < 2 ^ 32
 unfolding edges_of
 few-edges e x are vs refer =
-    let a = mapped (λ (v : Vec ℕ Global). v.items) vs in
     let b = ap length refer in
     let d = mapped (λ i. map (item_number (lineages_of e)) (refers_to (lineages_of e) i)) (items (lineages_of e)) in
     let m = as-many (nodes_of e) x.items.items (items (lineages_of e)) are.listed in
     let few = are.few in
-    omega (arith, a, b, d, m, few)
+    omega (arith, b, d, m, few)

@@ -1,12 +1,12 @@
 -- What was found of the tree of the settings.
 use Rattle.std.proofs.Common.{◌≡◌, ℕ, ◌<◌, Bool, List, length, Vec, sym, subst, arith}
 use Rattle.std.specs.Global.{Global}
-use Rattle.topological_order.specs.Waiting.{list_at}
 use Rattle.rdl_tree.specs.declared.node.Elab.{Elab}
 use Rattle.rdl_values.specs.Elaborated.{nodes_of}
 use Rattle.rdl_values.specs.Elaboration.{IsClean}
 use Rattle.rdl_nodes.proofs.Members.{get-within}
 use Rattle.rdl_sizes.proofs.Facts.{count-is, nodes-many}
+use Rattle.rdl_refs.specs.Tables.{list_at}
 use Rattle.rdl_refs.specs.declared.refs.Target.{Target}
 use Rattle.rdl_bind.specs.Given.{NameItems}
 use Rattle.rdl_bind.specs.Targeted.{AreTargets}

@@ -3,7 +3,7 @@ use Rattle.std.proofs.Common.{◌≡◌, ◌∙◌, inl, inr, ℕ, zero, suc, �
 use Rattle.std.specs.Global.{Global}
 use Rattle.std.proofs.lemmas.List.{map-append, take_more}
 use Rattle.plain_lemmas.proofs.Lists.{length-map as mapped}
-use Rattle.topological_order.specs.Levels.{AreWithin, lists}
+use Rattle.topological_order.specs.Levels.{AreWithin}
 use Rattle.rdl_tree.specs.declared.node.Elab.{Elab}
 use Rattle.rdl_values.specs.Elaborated.{nodes_of}
 use Rattle.rdl_values.specs.Instances.{Instance, kind_of}
@@ -58,22 +58,18 @@ has-item e xs are k d low = let f = known-item e xs are k d low in (f.0, f.2)
 abbrev pub edges_to : Elab → ℕ → List (List ℕ)
 edges_to e k = map (λ i. numbers_of e (refers_to (lineages_of e) i)) (take k (items (lineages_of e)))
 
-abbrev Lists : Type 0
-Lists = List (Vec ℕ Global)
-
-pub one-list : (e : Elab) (xs : List ItemOf) → AreItems e xs → (k : ℕ) (d : ItemOf) → k < length xs → (vs new : Lists) (v : Vec ℕ Global) → lists vs ≡ edges_to e k
-    → ((i : Item) → IsItem e i (get_or xs k d) → v.items ≡ numbers_of e (refers_to (lineages_of e) i)) → new ≡ vs ++ (v ∷ []) → lists new ≡ edges_to e (k + 1)
+pub one-list : (e : Elab) (xs : List ItemOf) → AreItems e xs → (k : ℕ) (d : ItemOf) → k < length xs → (vs new : List (List ℕ)) (v : List ℕ) → vs ≡ edges_to e k
+    → ((i : Item) → IsItem e i (get_or xs k d) → v ≡ numbers_of e (refers_to (lineages_of e) i)) → new ≡ vs ++ (v ∷ []) → new ≡ edges_to e (k + 1)
 one-list e xs are k d low vs new v before is put =
     let f = known-item e xs are k d low in
     let i = f.0 in
     let all = items (lineages_of e) in
     let taken : take (k + 1) all ≡ take k all ++ (i ∷ []) = take_more all k i (get-within all k i f.1) ∙ ap (λ y. take k all ++ (y ∷ [])) (get-read all k i i f.1) in
-    ap lists put
-    ∙ (map-append (λ w. w.items) vs (v ∷ [])
+    put
     ∙ ((λ j. before j ++ (is i f.2 j ∷ []))
-    ∙ (sym (map-append (λ i. numbers_of e (refers_to (lineages_of e) i)) (take k all) (i ∷ [])) ∙ ap (map (λ i. numbers_of e (refers_to (lineages_of e) i))) (sym taken))))
+    ∙ (sym (map-append (λ i. numbers_of e (refers_to (lineages_of e) i)) (take k all) (i ∷ [])) ∙ ap (map (λ i. numbers_of e (refers_to (lineages_of e) i))) (sym taken)))
 
-pub all-lists : (e : Elab) (xs : List ItemOf) → AreItems e xs → (k : ℕ) → length xs ≤ k → (vs : Lists) → lists vs ≡ edges_to e k → lists vs ≡ edges_of (lineages_of e)
+pub all-lists : (e : Elab) (xs : List ItemOf) → AreItems e xs → (k : ℕ) → length xs ≤ k → (vs : List (List ℕ)) → vs ≡ edges_to e k → vs ≡ edges_of (lineages_of e)
 unfolding edges_of
 all-lists e xs are k past vs h =
     let many = as-many (nodes_of e) xs (items (lineages_of e)) are in

@@ -2,7 +2,6 @@
 use Rattle.std.proofs.Common.{◌≡◌, ◌∙◌, ◌⊎◌, inl, inr, ℕ, zero, suc, ◌+◌, ◌<◌, ◌≤◌, List, [], ◌∷◌, ◌++◌, get_or, length, length-append, take, take_all, slice_get, Contains, Some, Vec, refl, sym, ap, subst, arith}
 use Rattle.std.specs.Global.{Global}
 use Rattle.std.proofs.lemmas.List.{take_more}
-use Rattle.topological_order.specs.Waiting.{list_at}
 use Rattle.rdl_props.specs.declared.prop.Prop.{Prop}
 use Rattle.rdl_tree.specs.declared.node.Elab.{Elab}
 use Rattle.rdl_values.specs.Elaborated.{nodes_of}
@@ -15,7 +14,7 @@ use Rattle.rdl_refs.specs.declared.refs.Target.{Target}
 use Rattle.rdl_refs.specs.Answers.{IsItemOf, TargetAt}
 use Rattle.rdl_refs.specs.Follows.{item_number}
 use Rattle.rdl_refs.specs.Items.{Item, whats}
-use Rattle.rdl_refs.specs.Tables.{item_at}
+use Rattle.rdl_refs.specs.Tables.{item_at, list_at}
 use Rattle.rdl_resolve.specs.declared.node.NamedItem.{NamedItem}
 use Rattle.rdl_resolve.specs.Named.{AreItemsNamed, all_named, named_at}
 use Rattle.rdl_bind.specs.Targeted.{AllHave, AreListed, AreNumbered, AreTargetsTo, Has}

@@ -1,7 +1,6 @@
 -- What is known of a tree when it is asked what its items refer to.
 use Rattle.std.specs.Prelude.{◌≡◌, ℕ, ◌<◌, Bool, ◌&&◌, List, length, map, Contains, Some, slice_get}
 use Rattle.std.specs.List.{list_any}
-use Rattle.topological_order.specs.Waiting.{list_at}
 use Rattle.rdl_tree.specs.declared.item.Kind.TheVariants as kind
 use Rattle.rdl_tree.specs.declared.node.Elab.{Elab}
 use Rattle.rdl_values.specs.Elaboration.{IsClean}
@@ -9,6 +8,7 @@ use Rattle.rdl_values.specs.Instances.{kind_of}
 use Rattle.rdl_values.specs.Lineages.{Lineage, lineages_of, nodes_in}
 use Rattle.rdl_layers.specs.Fields.{is_a, is_wire, views}
 use Rattle.rdl_nodes.specs.Rows.{AreRows}
+use Rattle.rdl_refs.specs.Tables.{list_at}
 use Rattle.rdl_refs.specs.declared.item.ItemOf.{ItemOf}
 use Rattle.rdl_refs.specs.Follows.{item_number, parent}
 use Rattle.rdl_refs.specs.Items.{Item, whats}

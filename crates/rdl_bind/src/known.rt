@@ -1,7 +1,7 @@
 //! What is known of a tree, and the numbers of values and of what settings name.
 
 ghost use Rattle.std.specs.Prelude.{◌≡◌, ◌<◌, ◌++◌, ◌∷◌, [], OnOk, Some, length, slice_get, true};
-ghost use Rattle.topological_order.specs.Waiting.{list_at};
+ghost use Rattle.rdl_refs.specs.Tables.{list_at};
 ghost use Rattle.rdl_refs.specs.declared.item.What.TheVariants as whats;
 ghost use Rattle.rdl_refs.specs.Follows.{given_items};
 ghost use Rattle.rdl_refs.specs.Items.{Item};

@@ -23,12 +23,13 @@ use rdl_refs::Target;
 use rdl_resolve::{NamedItem, NamedItems, NamedTree, named_items, outers_of};
 use rdl_tree::Elab;
 use std::alloc::Global;
+use topological_order::Lists;
 
 /// The items of a tree with their numbers, what each refers to, and for each node the items that its settings name.
 #[derive(Drop)]
 pub(crate) struct ItemTables {
     pub numbers: Numbers,
-    pub edges: Vec<Vec<usize>>,
+    pub edges: Lists,
     pub targets: Vec<Vec<Target>>,
 }
 
