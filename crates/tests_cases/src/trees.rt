@@ -15,11 +15,7 @@ use rdl_values::name_decides_the_top;
 use std::alloc::Global;
 
 /// The tree of a source, whose items stand in order. None where it has none.
-pub(crate) fn read<'a>(
-    alloc: Global,
-    arena: &'a Bump,
-    text: &'a [u8],
-) -> Option<&'a Source<'a>>
+pub(crate) fn read<'a>(alloc: Global, arena: &'a Bump, text: &'a [u8]) -> Option<&'a Source<'a>>
     ensures { IfSome result (λ s. IsInOrder s.now.items.now) }
 {
     spelled_in_order();

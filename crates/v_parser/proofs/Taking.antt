@@ -57,5 +57,5 @@ pub constant_here : (bytes word : List ℕ) (s : VSpot) (k : ℕ × ℕ) (ts us 
 constant_here bytes word s k ts us c w e f =
     let numbers : numbers_of (constant_in (text_of bytes s)) ≡ k = ap (λ z. numbers_of (constant_in z)) (sym w) ∙ sym f in
     let same : spotted bytes s ≡ record { token = Const k.0 k.1; place = s.place.0 } =
-        ap (λ d. record { token = token_in d (text_of bytes s); place = s.place.0 }) c ∙ ap (λ (p : ℕ × ℕ). record { token = Const p.0 p.1; place = s.place.0 }) numbers in
+    ap (λ d. record { token = token_in d (text_of bytes s); place = s.place.0 }) c ∙ ap (λ (p : ℕ × ℕ). record { token = Const p.0 p.1; place = s.place.0 }) numbers in
     (s.place.0, record { list = e ∙ ap (λ t. t ∷ us) same; token = refl })

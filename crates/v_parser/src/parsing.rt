@@ -67,11 +67,7 @@ fn read<'t, 's>(
 ///
 /// `Syntax` or `TooDeep` where they say no module or nest brackets too deep, whichever comes first; `NoMemory` where
 /// memory is refused.
-pub fn parse<'s>(
-    alloc: Global,
-    bytes: &'s [u8],
-    tokens: &[VSpot],
-) -> Result<Parsed<'s>, ParseError>
+pub fn parse<'s>(alloc: Global, bytes: &'s [u8], tokens: &[VSpot]) -> Result<Parsed<'s>, ParseError>
     ensures tree { IfOk result (λ x. (t : Tree) × IsSyntax (placed bytes.now tokens.now) x t) }
     ensures good { OnOk result (IsGood grammar nesting most_open (Non Module) (placed bytes.now tokens.now)) }
     ensures accepts { IsGood grammar nesting most_open (Non Module) (placed bytes.now tokens.now) → IfErr result (λ e. e ≡ ParseError.NoMemory) }
