@@ -1,3 +1,4 @@
 mod Assigning
 mod Finishing
+mod Quiet
 mod Reordered

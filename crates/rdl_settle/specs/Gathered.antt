@@ -1,5 +1,5 @@
 -- What was found of the nodes of a tree, one by one.
-use Rattle.std.specs.Prelude.{◌≡◌, ◌≢◌, ◌<◌, ℕ, List, ◌++◌, flat_map, length, map, Vec}
+use Rattle.std.specs.Prelude.{◌≡◌, ◌≢◌, ◌<◌, ℕ, ◌==◌, Bool, false, not, List, ◌++◌, flat_map, length, map, Option, None, Some, Vec}
 use Rattle.std.specs.Global.{Global}
 use Rattle.rdl_base.specs.declared.fault.Fault.{Fault}
 use Rattle.rdl_tree.specs.declared.node.Elab.{Elab}
@@ -19,6 +19,7 @@ use Rattle.rdl_merge.specs.Merged.{AreEntries}
 use Rattle.rdl_targets.specs.At.{IsAt}
 use Rattle.rdl_open_settings.specs.Completed.{IsNode, IsScene}
 use Rattle.rdl_open_settings.specs.Layered.{of_layers, of_nodes}
+use Rattle.rdl_open_settings.specs.declared.layers.Layers.{Layers}
 use Rattle.rdl_open_settings.specs.declared.table.LayerTable.{LayerTable}
 use Rattle.rdl_failures.specs.declared.error.PhaseError.{PhaseError}
 use Rattle.rdl_failures.specs.declared.error.PhaseError.TheVariants as error
@@ -34,6 +35,11 @@ use Rattle.rdl_settle.specs.declared.settling.Gathered.{Gathered}
 -- the failures of the dynamic assignments in the body of a node
 abbrev pub of_dynamics : Instance → List Fault
 of_dynamics n = all_failures (failures_of_dynamic (nested n)) (dynamics (body n))
+
+-- whether what the assignments of a body give has dynamic ones
+abbrev pub has_dynamics : Option Layers → Bool
+has_dynamics None = false
+has_dynamics (Some l) = not (length l.dynamics.items == 0)
 
 -- The dynamic assignments in the body of a node were judged, and what they assign was put behind the entries of nodes.
 pub record IsAssigned (e : Elab) (n : Instance) (old new : List (Vec PropSetting Global)) (before after : List Fault) : Type 0 where

@@ -1,6 +1,7 @@
 //! What the bodies of all nodes assign to nodes below them.
 
 ghost use Rattle.std.specs.Prelude.{◌≡◌, [], ℕ, IfOk, List, OnOk, length, slice_get};
+ghost use Rattle.std.specs.List.{list_any};
 ghost use Rattle.rdl_base.specs.declared.fault.Fault.{Fault};
 ghost use Rattle.rdl_tree.specs.declared.node.Elab.{Elab};
 ghost use Rattle.rdl_tree.specs.declared.node.Node.{out-Node};
@@ -11,10 +12,10 @@ ghost use Rattle.rdl_values.specs.Lineages.{lineages_of};
 ghost use Rattle.rdl_nodes.specs.Rows.{AreRows};
 ghost use Rattle.rdl_layers.specs.Tables.{entries_at};
 ghost use Rattle.rdl_open_bodies.specs.Spots.{IsOpenTree, IsSpot};
-ghost use Rattle.rdl_open_settings.specs.Layered.{AreLayers, AreLayersOf, HasLayers};
+ghost use Rattle.rdl_open_settings.specs.Layered.{AreLayers, AreLayersOf, HasLayers, layers_at};
 ghost use Rattle.rdl_targets.specs.At.{IsAt};
 ghost use Rattle.rdl_targets.specs.Contents.{AreContents};
-ghost use Rattle.rdl_settle.specs.Gathered.{AreAssigned, IsAssigned};
+ghost use Rattle.rdl_settle.specs.Gathered.{AreAssigned, IsAssigned, has_dynamics};
 
 use rb_base::NoMemory;
 use rdl_dynamic::judge_dynamics;
@@ -33,7 +34,7 @@ fn no_entries<'a>(alloc: Global, count: usize) -> Result<Vec<Vec<PropSetting<'a>
     ensures size { IfOk result (λ r. length r.items ≡ count) }
     ensures none { IfOk result (λ r. (j : ℕ) → entries_at r.items j ≡ []) }
 {
-    let mut list = Vec::new(alloc);
+    let mut list = Vec::with_capacity(alloc, count)?;
     for _ in 0..count {
         list.push(Vec::new(alloc))?;
     }
@@ -80,6 +81,23 @@ fn assign<'a>(
     Ok(())
 }
 
+// Whether a body assigns something to nodes below it.
+fn assigns_below(layers: &LayerTable, body: usize) -> bool
+    ensures { result ≡ has_dynamics (layers_at layers.now body) }
+{
+    match layers.find(body) {
+        Some(found) => !found.dynamics.is_empty(),
+        None => false,
+    }
+}
+
+// Whether the body of any of these nodes does.
+fn any_assigns_below(layers: &LayerTable, spots: &[Spot]) -> bool
+    ensures { result ≡ list_any (λ o. has_dynamics (layers_at layers.now o.body)) spots.now }
+{
+    spots.iter().any(|spot| assigns_below(layers, spot.body))
+}
+
 /// The node of a number among the open bodies.
 pub(crate) fn spot_at(spots: &[Spot], at: usize) -> Option<Spot>
     ensures { result ≡ slice_get spots.now at }
@@ -88,7 +106,7 @@ pub(crate) fn spot_at(spots: &[Spot], at: usize) -> Option<Spot>
 }
 
 /// Puts in all failures of the dynamic assignments in the bodies of the nodes of a tree, and gives what those that fail none assign to
-/// each node, in the order of the bodies.
+/// each node, in the order of the bodies. The nodes in bodies are listed only where some body has dynamic assignments.
 pub(crate) fn assign_all<'a>(
     alloc: Global,
     rows: &[Row<'a>],
@@ -98,8 +116,11 @@ pub(crate) fn assign_all<'a>(
 ) -> Result<Vec<Vec<PropSetting<'a>>>, NoMemory>
     ensures { IfOk result (λ r. (e : Elab) (before : List Fault) (held : List Fault) → IsClean e → AreRows e rows.now → IsOpenTree e tree.now → AreLayersOf e tree.now layers.now before held → AreAssigned e (nodes_of e) r.items failures.old failures.new) }
 {
-    let contents = contents_of(alloc, rows)?;
     let mut entries = no_entries(alloc, rows.len())?;
+    if !any_assigns_below(layers, &tree.spots) {
+        return Ok(entries);
+    }
+    let contents = contents_of(alloc, rows)?;
     for (at, row) in rows.iter().enumerate() {
         let Some(spot) = spot_at(&tree.spots, at) else {
             return Ok(entries);
