@@ -77,21 +77,24 @@ first_placed bytes ts i h = record {
 pub deep_fits : (bytes : List ℕ) (ts : List VSpot) (i : ℕ) → IsFirstTooDeep (nesting_in bytes) most_open ts i → Fits grammar (Non Module) (placed bytes (take (i + 1) ts)) → IsTooDeepAt grammar nesting most_open (Non Module) (placed bytes ts) i
 deep_fits bytes ts i h f = too_deep_fits grammar nesting most_open (Non Module) (placed bytes ts) i (first_placed bytes ts i h) (subst (λ z. Fits grammar (Non Module) z) (take_placed bytes (i + 1) ts) f)
 
-pub deep_stops : (bytes : List ℕ) (ts left : List VSpot) (i : ℕ) → IsFirstTooDeep (nesting_in bytes) most_open ts i → StopsAt grammar (Non Module) (placed bytes (take (i + 1) ts)) (placed bytes left) → true ≡ (length left == 0) → IsTooDeepAt grammar nesting most_open (Non Module) (placed bytes ts) i
-deep_stops bytes ts left i h s e =
-    too_deep_stops grammar nesting most_open (Non Module) (placed bytes ts) (placed bytes left) i (first_placed bytes ts i h) (subst (λ z. StopsAt grammar (Non Module) z (placed bytes left)) (take_placed bytes (i + 1) ts) s) (ap length (none_left bytes left (placed bytes left) refl e))
+pub deep_stops : (bytes : List ℕ) (ts : List VSpot) (us : Tokens) (i : ℕ) → IsFirstTooDeep (nesting_in bytes) most_open ts i → StopsAt grammar (Non Module) (placed bytes (take (i + 1) ts)) us → length us ≡ 0 → IsTooDeepAt grammar nesting most_open (Non Module) (placed bytes ts) i
+deep_stops bytes ts us i h s e =
+    too_deep_stops grammar nesting most_open (Non Module) (placed bytes ts) us i (first_placed bytes ts i h) (subst (λ z. StopsAt grammar (Non Module) z us) (take_placed bytes (i + 1) ts) s) e
 
-pub deep_wrong : (bytes : List ℕ) (ts left : List VSpot) (i k : ℕ) → IsFirstTooDeep (nesting_in bytes) most_open ts i → StopsAt grammar (Non Module) (placed bytes (take (i + 1) ts)) (placed bytes left) → false ≡ (length left == 0) → k ≡ i + 1 - length left
+pub deep_wrong : (bytes : List ℕ) (ts : List VSpot) (us : Tokens) (i k : ℕ) → IsFirstTooDeep (nesting_in bytes) most_open ts i → StopsAt grammar (Non Module) (placed bytes (take (i + 1) ts)) us → 0 < length us → k ≡ i + 1 - length us
     → (k ≤ length (placed bytes ts)) × IsWrongAt grammar nesting most_open (Non Module) (placed bytes ts) (drop k (placed bytes ts))
-deep_wrong bytes ts left i k h s e f =
-    wrong_before (placed bytes ts) (placed bytes left) i k (first_placed bytes ts i h) (subst (λ z. StopsAt grammar (Non Module) z (placed bytes left)) (take_placed bytes (i + 1) ts) s) (some_left bytes left (placed bytes left) refl e) (f ∙ ap (λ n. i + 1 - n) (sym (length_placed bytes left)))
+deep_wrong bytes ts us i k h s e f =
+    wrong_before (placed bytes ts) us i k (first_placed bytes ts i h) (subst (λ z. StopsAt grammar (Non Module) z us) (take_placed bytes (i + 1) ts) s) e f
 
-pub deep_within : (bytes : List ℕ) (ts left : List VSpot) (i : ℕ) → StopsAt grammar (Non Module) (placed bytes (take (i + 1) ts)) (placed bytes left) → length left ≤ i + 1
-deep_within bytes ts left i s = omega (arith, left_within (placed bytes (take (i + 1) ts)) (placed bytes left) s, length_placed bytes left, length_placed bytes (take (i + 1) ts), length-take (i + 1) ts)
+pub deep_within : (bytes : List ℕ) (ts : List VSpot) (us : Tokens) (i : ℕ) → StopsAt grammar (Non Module) (placed bytes (take (i + 1) ts)) us → length us ≤ i + 1
+deep_within bytes ts us i s = omega (arith, left_within (placed bytes (take (i + 1) ts)) us s, length_placed bytes (take (i + 1) ts), length-take (i + 1) ts)
 
-pub wrong_all : (bytes : List ℕ) (ts left : List VSpot) (k : ℕ) → StaysWithin (nesting_in bytes) most_open ts → StopsAt grammar (Non Module) (placed bytes ts) (placed bytes left) → k ≡ length ts - length left
+pub all_within : (bytes : List ℕ) (ts : List VSpot) (us : Tokens) → StopsAt grammar (Non Module) (placed bytes ts) us → length us ≤ length ts
+all_within bytes ts us s = omega (arith, left_within (placed bytes ts) us s, length_placed bytes ts)
+
+pub wrong_all : (bytes : List ℕ) (ts : List VSpot) (us : Tokens) (k : ℕ) → StaysWithin (nesting_in bytes) most_open ts → StopsAt grammar (Non Module) (placed bytes ts) us → k ≡ length ts - length us
     → (k ≤ length (placed bytes ts)) × IsWrongAt grammar nesting most_open (Non Module) (placed bytes ts) (drop k (placed bytes ts))
-wrong_all bytes ts left k w s e = wrong_here (placed bytes ts) (placed bytes left) k (within_placed bytes ts w) s (omega (arith, e, length_placed bytes ts, length_placed bytes left))
+wrong_all bytes ts us k w s e = wrong_here (placed bytes ts) us k (within_placed bytes ts w) s (omega (arith, e, length_placed bytes ts))
 
 pub not_good : (bytes : List ℕ) (ts : List VSpot) (i : ℕ) → IsGood grammar nesting most_open (Non Module) (placed bytes ts) → IsTooDeepAt grammar nesting most_open (Non Module) (placed bytes ts) i → ⊥
 not_good bytes ts i g d = good_not_too_deep grammar nesting most_open (Non Module) (placed bytes ts) i g d

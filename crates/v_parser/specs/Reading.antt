@@ -249,10 +249,10 @@ AddsStatements ts us ss events all = (es : List Event) × (all ≡ events ++ es)
 abbrev pub ReadsModule : List (At Token) → List (At Token) → Parsed → Type 0
 ReadsModule ts us x = us ≡ [] → (t : Tree) × IsSyntax ts x t
 
--- the tokens stop being a module before what is left
-abbrev pub StopsThere : (bytes : List ℕ) → List (At Token) → Unread → Type 0
-StopsThere bytes ts (unread.Syntax left) = StopsAt grammar (Non Module) ts (placed bytes left.now)
-StopsThere bytes ts unread.NoMemory = Unit {0}
+-- the tokens stop being a module before so many that are left
+abbrev pub StopsThere : List (At Token) → Unread → Type 0
+StopsThere ts (unread.Syntax left) = (us : List (At Token)) × StopsAt grammar (Non Module) ts us × (left ≡ length us)
+StopsThere ts unread.NoMemory = Unit {0}
 
 -- what a token of the text does to the brackets that are open
 abbrev pub nesting_in : List ℕ → VSpot → Nesting

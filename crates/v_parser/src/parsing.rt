@@ -33,22 +33,18 @@ pub enum ParseError {
     NoMemory,
 }
 
-// Why tokens are no module: these are left where they stop being one, or memory was refused.
+// Why tokens are no module: so many are left where they stop being one, or memory was refused.
 #[derive(Clone, Copy)]
-enum Unread<'t> {
-    Syntax(&'t [VSpot]),
+enum Unread {
+    Syntax(usize),
     NoMemory,
 }
 
 // The module of all tokens.
-fn read<'t, 's>(
-    alloc: Global,
-    bytes: &'s [u8],
-    tokens: &'t [VSpot],
-) -> Result<Parsed<'s>, Unread<'t>>
+fn read<'s>(alloc: Global, bytes: &'s [u8], tokens: &[VSpot]) -> Result<Parsed<'s>, Unread>
     ensures tree { IfOk result (λ x. (t : Tree) × IsSyntax (placed bytes.now tokens.now) x t) }
     ensures fits { OnOk result (Fits grammar (Non Module) (placed bytes.now tokens.now)) }
-    ensures stops { IfErr result (StopsThere bytes.now (placed bytes.now tokens.now)) }
+    ensures stops { IfErr result (StopsThere (placed bytes.now tokens.now)) }
 {
     let mut parser = Parser {
         alloc,
@@ -57,8 +53,8 @@ fn read<'t, 's>(
     };
     match parser.module() {
         Ok(module) if parser.rest.is_empty() => Ok(module),
-        Ok(_) => Err(Unread::Syntax(parser.rest)),
-        Err(Stop::Syntax) => Err(Unread::Syntax(parser.rest)),
+        Ok(_) => Err(Unread::Syntax(parser.count())),
+        Err(Stop::Syntax) => Err(Unread::Syntax(parser.count())),
         Err(Stop::NoMemory) => Err(Unread::NoMemory),
     }
 }
@@ -78,7 +74,7 @@ pub fn parse<'s>(alloc: Global, bytes: &'s [u8], tokens: &[VSpot]) -> Result<Par
     let Some(deep) = first_too_deep(bytes, tokens, MOST_OPEN) else {
         return match read(alloc, bytes, tokens) {
             Ok(module) => Ok(module),
-            Err(Unread::Syntax(left)) => Err(ParseError::Syntax(tokens.len() - left.len())),
+            Err(Unread::Syntax(left)) => Err(ParseError::Syntax(tokens.len() - left)),
             Err(Unread::NoMemory) => Err(ParseError::NoMemory),
         };
     };
@@ -87,8 +83,8 @@ pub fn parse<'s>(alloc: Global, bytes: &'s [u8], tokens: &[VSpot]) -> Result<Par
         Err(Unread::Syntax(left)) => left,
         Err(Unread::NoMemory) => return Err(ParseError::NoMemory),
     };
-    if left.is_empty() {
+    if left == 0 {
         return Err(ParseError::TooDeep(deep));
     }
-    Err(ParseError::Syntax(deep + 1 - left.len()))
+    Err(ParseError::Syntax(deep + 1 - left))
 }
