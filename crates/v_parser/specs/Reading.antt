@@ -19,7 +19,7 @@ use Rattle.v_design.specs.Seen.{expr_seen}
 use Rattle.rb_base.specs.declared.ports.Dir.{Dir}
 use Rattle.rb_base.specs.declared.ports.Port.{Port}
 use Rattle.rb_base.specs.declared.place.Place.{Place}
-use Rattle.v_syntax.specs.Tokens.{place_at, spotted, placed}
+use Rattle.v_syntax.specs.Tokens.{place_at, spotted}
 use Rattle.v_syntax.specs.Grammar.{Terminal, Quoted, Constant, Rule, quoted, id, grammar, nesting, Module, Expr, Reset}
 use Rattle.v_syntax.specs.Syntax.{capped, IsStatement, IsSyntax}
 use Rattle.rb_grammar.specs.declared.nesting.Nesting.{Nesting}

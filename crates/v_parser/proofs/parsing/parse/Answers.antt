@@ -1,4 +1,4 @@
-use Rattle.std.proofs.Common.{◌≡◌, ◌∙◌, ◌-◌, ◌+◌, ap, arith, length, refl, sym}
+use Rattle.std.proofs.Common.{◌≡◌, ◌∙◌, ◌-◌, ◌+◌, ap, arith, length, refl}
 use Rattle.rb_grammar.proofs.Bridge.{never_stops}
 use Rattle.v_syntax.specs.Grammar.{grammar}
 use Rattle.v_syntax.specs.Tokens.{placed}
@@ -32,16 +32,16 @@ returns-in-Ok-read-clause-too_deep c = λ k h.
     let same : k ≡ c.in-Some.deep = cc in
     rw same (deep_fits c.args.bytes.now c.args.tokens.now c.in-Some.deep c.in-Some.ensures c.in-Ok-read.ensures.fits)
 
-pub returns-then-left-clause-accepts : goal.returns-then-left-clause-accepts
-returns-then-left-clause-accepts c = λ good.
+pub returns-then-left-eq0-clause-accepts : goal.returns-then-left-eq0-clause-accepts
+returns-then-left-eq0-clause-accepts c = λ good.
     let s = rw c.in-Err-Syntax-read.field-0-is at c.in-Err-Syntax-read.ensures.stops in
-    absurd (not_good c.args.bytes.now c.args.tokens.now c.in-Some.deep good (deep_stops c.args.bytes.now c.args.tokens.now s.0 c.in-Some.deep c.in-Some.ensures s.1 (let zero = c.if-left.true in omega (arith, s.2, zero))))
+    absurd (not_good c.args.bytes.now c.args.tokens.now c.in-Some.deep good (deep_stops c.args.bytes.now c.args.tokens.now s.0 c.in-Some.deep c.in-Some.ensures s.1 (let zero = c.if-left-eq0.true in omega (arith, s.2, zero))))
 
-pub returns-then-left-clause-too_deep : goal.returns-then-left-clause-too_deep
-returns-then-left-clause-too_deep c = λ k h.
+pub returns-then-left-eq0-clause-too_deep : goal.returns-then-left-eq0-clause-too_deep
+returns-then-left-eq0-clause-too_deep c = λ k h.
     let s = rw c.in-Err-Syntax-read.field-0-is at c.in-Err-Syntax-read.ensures.stops in
     let same : k ≡ c.in-Some.deep = cc in
-    rw same (deep_stops c.args.bytes.now c.args.tokens.now s.0 c.in-Some.deep c.in-Some.ensures s.1 (let zero = c.if-left.true in omega (arith, s.2, zero)))
+    rw same (deep_stops c.args.bytes.now c.args.tokens.now s.0 c.in-Some.deep c.in-Some.ensures s.1 (let zero = c.if-left-eq0.true in omega (arith, s.2, zero)))
 
 pub overflow_sub-result-2 : goal.overflow_sub-result-2
 overflow_sub-result-2 c =
@@ -52,10 +52,10 @@ pub returns-clause-accepts : goal.returns-clause-accepts
 returns-clause-accepts c = λ good.
     let s = rw c.in-Err-Syntax-read.field-0-is at c.in-Err-Syntax-read.ensures.stops in
     absurd (not_wrong c.args.bytes.now c.args.tokens.now (c.in-Some.deep + 1 - length s.0) good
-    (deep_wrong c.args.bytes.now c.args.tokens.now s.0 c.in-Some.deep _ c.in-Some.ensures s.1 (let some = c.if-left.false in omega (arith, s.2, some)) refl))
+    (deep_wrong c.args.bytes.now c.args.tokens.now s.0 c.in-Some.deep _ c.in-Some.ensures s.1 (let some = c.if-left-eq0.false in omega (arith, s.2, some)) refl))
 
 pub returns-clause-syntax : goal.returns-clause-syntax
 returns-clause-syntax c = λ k h.
     let s = rw c.in-Err-Syntax-read.field-0-is at c.in-Err-Syntax-read.ensures.stops in
     let same : k ≡ c.in-Some.deep + 1 - c.in-Err-Syntax-read.left = cc in
-    deep_wrong c.args.bytes.now c.args.tokens.now s.0 c.in-Some.deep k c.in-Some.ensures s.1 (let some = c.if-left.false in omega (arith, s.2, some)) (same ∙ ap (λ n. c.in-Some.deep + 1 - n) s.2)
+    deep_wrong c.args.bytes.now c.args.tokens.now s.0 c.in-Some.deep k c.in-Some.ensures s.1 (let some = c.if-left-eq0.false in omega (arith, s.2, some)) (same ∙ ap (λ n. c.in-Some.deep + 1 - n) s.2)
