@@ -36,7 +36,7 @@ fn ports(alloc: Global) -> Result<Vec<Port>, AllocError>
 
 fn stmts(alloc: Global) -> Result<Vec<Stmt>, AllocError>
     ensures stmts { IfOk result (λ r. AreStatements r.items (Event.None ∷ []) sample.stmts) }
-    ensures places { IfOk result (λ r. map (λ s. s.place.0) r.items ≡ 10 ∷ []) }
+    ensures places { IfOk result (λ r. map (λ s. s.place.0) r.items ≡ 27 ∷ []) }
 {
     let mut stmts = Vec::new(alloc);
     stmts.push(Stmt {
