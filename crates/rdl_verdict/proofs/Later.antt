@@ -20,8 +20,8 @@ use Rattle.rdl_rules.specs.Answers.{meaning_fails}
 use Rattle.rdl_rules.specs.Numbers.{all_fields}
 use Rattle.rdl_rules.specs.declared.settled.Settled.{Settled}
 use Rattle.rdl_encodings.specs.Encoded.{encodings_of}
-use Rattle.rdl_verdict.specs.Answers.{IsJudged, Judges, Refuses}
-use Rattle.rdl_verdict.specs.Steps.{FailsLate, HasAll, HasOne, IsClear, IsGrown}
+use Rattle.rdl_verdict.specs.Answers.{Decides, IsJudged, Judges, Refuses}
+use Rattle.rdl_verdict.specs.Steps.{FailsLate, HasAll, HasOne, IsClear, IsFaultless, IsGrown}
 use Rattle.rdl_verdict.specs.Verdict.{IsVerdict, tree}
 use Rattle.rdl_verdict.specs.declared.error.JudgeError.{JudgeError}
 use Rattle.rdl_verdict.specs.declared.error.JudgeError.TheVariants as error
@@ -50,6 +50,9 @@ refused-own wanted text e reads h same (error.Faults list) late = record { verdi
 refused-own wanted text e reads h same error.NoMemory late = tt
 
 -- none
+pub faultless-own : (wanted : Option (List ℕ)) (text : List ℕ) (e : Elab) → IsGrown wanted text e → IsFaultless e → IsVerdict wanted text []
+faultless-own wanted text e g x = tree e.source.now g.reads (inr (g.tree.clean, later wanted (Some (top_name e)) e.source.now g.top [] (inr (x.settled, inr (second-alone e [] x.placed x.bound, inr (x.none, refl))))))
+
 pub judged-own : (wanted : Option (List ℕ)) (text : List ℕ) (e : Elab) (known : Settled) (b : Block) → known.props ≡ e → known.encodings ≡ encodings_of (all_fields (nodes_of e)) → Reads text e.source.now.items.now → Elaborates wanted e.source.now e → top_use_of wanted e.source.now ≡ top_use_of (Some (top_name e)) e.source.now → IsClean e → IsClear e b → IsJudged wanted text (record { elab = e; settled = known; block = b })
 judged-own wanted text e known b of encoded reads h same clean x = record {
   clean = clean;
@@ -89,6 +92,10 @@ module _ (wanted : Option (List ℕ)) (text : List ℕ) (s : Source) (e : Elab) 
 pub passed-on : (wanted : Option (List ℕ)) (text : List ℕ) (r : Result Judged JudgeError) (err : JudgeError) → IsErrAnd r (λ x. x ≡ err) → Refuses wanted text err → Judges wanted text r
 passed-on wanted text (Err x) err is h = subst (Refuses wanted text) (sym is) h
 passed-on wanted text (Ok j) err is h = absurd is
+
+pub decided-on : {A : Type 0} (wanted : Option (List ℕ)) (text : List ℕ) (r : Result A JudgeError) (err : JudgeError) → IsErrAnd r (λ x. x ≡ err) → Refuses wanted text err → Decides wanted text r
+decided-on wanted text (Err x) err is h = subst (Refuses wanted text) (sym is) h
+decided-on wanted text (Ok y) err is h = absurd is
 
 pub error-on : {A : Type 0} (wanted : Option (List ℕ)) (text : List ℕ) (r : Result A JudgeError) (err : JudgeError) → IsErrAnd r (λ x. x ≡ err) → Refuses wanted text err → IfErr r (Refuses wanted text)
 error-on wanted text (Err x) err is h = subst (Refuses wanted text) (sym is) h

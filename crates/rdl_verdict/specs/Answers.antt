@@ -29,3 +29,8 @@ Refuses wanted text error.NoMemory = Unit {0}
 abbrev pub Judges : Option (List ℕ) → List ℕ → Result Judged JudgeError → Type 0
 Judges wanted text (Ok j) = IsJudged wanted text j
 Judges wanted text (Err e) = Refuses wanted text e
+
+-- `verdict`: none, or what `judge` refuses. Want of memory may be answered anywhere.
+abbrev pub Decides : {A : Type 0} → Option (List ℕ) → List ℕ → Result A JudgeError → Type 0
+Decides wanted text (Ok x) = IsVerdict wanted text []
+Decides wanted text (Err e) = Refuses wanted text e

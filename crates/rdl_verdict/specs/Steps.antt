@@ -58,6 +58,13 @@ pub record IsClear (e : Elab) (b : Block) : Type 0 where
   pub block : IsBlockFor e b
   pub apart : IsApart b
 
+-- No later phase has a failure.
+pub record IsFaultless (e : Elab) : Type 0 where
+  pub settled : IsSettled e
+  pub placed : IsPlaced e
+  pub bound : IsBound e
+  pub none : IsListOf (meaning_fails e) []
+
 -- the error is that of the first phase behind the instances that has a failure
 pub record IsLate (e : Elab) (list : List Fault) : Type 0 where
   pub first : FirstOf (settings (Some (top_name e)) e.source.now ∷ places (Some (top_name e)) e.source.now ∷ meanings (Some (top_name e)) e.source.now ∷ []) list

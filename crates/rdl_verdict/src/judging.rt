@@ -85,8 +85,8 @@ fn describe<'a>(alloc: Global, arena: &'a Bump, elab: Elab<'a>) -> Result<Judged
     })
 }
 
-// The tree of a text, or the failures of the first of its three phases that has any.
-fn tree_of<'a>(
+/// The tree of a text, or the failures of the first of its three phases that has any.
+pub(crate) fn tree_of<'a>(
     alloc: Global,
     arena: &'a Bump,
     text: &'a [u8],

@@ -12,7 +12,7 @@ use crate::status::Status;
 use bumpalo::Bump;
 use rb_base::NoMemory;
 use rb_edge::Shelf;
-use rdl_verdict::{JudgeError, judge};
+use rdl_verdict::{JudgeError, verdict};
 use std::alloc::Global;
 use verdict_text::{push_ok, push_verdict};
 
@@ -58,8 +58,8 @@ fn add_verdict(
     requires { length source.now ≤ source_limit }
     ensures { OnOk result (IsOneMore (option_copied top.entry) file.now source.now answer.old answer.new) }
 {
-    match judge(alloc, arena, source, top) {
-        Ok(_judged) => push_ok(&mut answer.out, file),
+    match verdict(alloc, arena, source, top) {
+        Ok(()) => push_ok(&mut answer.out, file),
         Err(JudgeError::Faults(faults)) => {
             answer.status = Status::Refused;
             push_verdict(alloc, &mut answer.err, file, source, &faults)

@@ -1,5 +1,4 @@
 use Rattle.std.proofs.Common.{◌≡◌, ◌++◌, [], Result, Ok, Err, OnOk, append-nil, refl, sym}
-use Rattle.rdl_verdict.specs.Verdict.{tree}
 use Rattle.verdict_text.specs.Lines.{ok_line}
 use Rattle.replies.proofs.checking.add_verdict.Goals as goal
 
@@ -9,10 +8,9 @@ kept (Err e) f a = tt
 
 pub returns-in-Ok : goal.returns-in-Ok
 returns-in-Ok c =
-    let j = c.in-Ok.ensures in
     kept {A = c.push_ok.new.text.items ≡ c.args.answer.now.out.items ++ ok_line c.args.file.now} c.push_ok.result (λ pushed. record {
       list = [];
-      verdict = tree c.in-Ok._judged.elab.source.now j.described.reads j.described.clean;
+      verdict = c.in-Ok.ensures;
       told = sym (append-nil c.args.answer.now.err.items);
       fine = pushed;
       ends = refl;
