@@ -1,8 +1,9 @@
 -- What drives each net of a module that was parsed.
 use Rattle.std.specs.Prelude.{◌≡◌, ℕ, ◌<◌, true, false, not, ◌&&◌, ◌||◌, Option, Some, is_some, List, [], ◌∷◌, take, slice_get}
 use Rattle.std.specs.List.{list_any}
-use Rattle.std.specs.Str.{bytes_eq}
-use Rattle.std.specs.HashMap.{get_by}
+use Rattle.std.specs.BTreeMap.{get_by}
+use Rattle.std.specs.Cmp.Lexicographic.{slice_cmp}
+use Rattle.std.specs.Ordering.{nat_cmp}
 use Rattle.v_design.specs.Lexemes.{among}
 use Rattle.v_design.specs.Tree.{Statement}
 use Rattle.v_design.specs.WellFormed.{Net, Given, same_kind, drives_well}
@@ -14,7 +15,7 @@ use Rattle.v_check.specs.declared.drivers.Drivers.{Drivers}
 
 -- the number of a statement that drives a net
 abbrev pub driver_at : Drivers → List ℕ → Option ℕ
-driver_at drivers n = get_by (λ k. bytes_eq n k.now) drivers.numbers
+driver_at drivers n = get_by (λ k. slice_cmp nat_cmp n k.now) drivers.numbers
 
 -- the nets that a statement of the program drives
 abbrev pub driven_names : Stmt → Event → List (List ℕ)

@@ -2,7 +2,9 @@
 use Rattle.std.specs.Prelude.{◌≡◌, ℕ, ◌≤◌, Bool, false, not, IsTrue, if◌then◌else◌, Option, Some, None, List, [], ◌∷◌, ◌++◌, map, take, slice_get}
 use Rattle.std.specs.Option.{option_map_or}
 use Rattle.std.specs.Str.{bytes_eq}
-use Rattle.std.specs.HashMap.{get_by}
+use Rattle.std.specs.BTreeMap.{get_by}
+use Rattle.std.specs.Cmp.Lexicographic.{slice_cmp}
+use Rattle.std.specs.Ordering.{nat_cmp}
 use denote.Ref.{Bor}
 use Rattle.rb_base.specs.declared.place.Place.{Place}
 use Rattle.rb_base.specs.declared.ports.Port.{Port}
@@ -47,7 +49,7 @@ first_net (d ∷ ds) n = if bytes_eq d.name.now n then Some d else first_net ds 
 
 -- what a table has at a name
 abbrev pub net_at : Table → List ℕ → Option NetOf
-net_at table n = get_by (λ k. bytes_eq n k.now) table.nets
+net_at table n = get_by (λ k. slice_cmp nat_cmp n k.now) table.nets
 
 -- a table has the first net of each name
 pub record AreNets (table : Table) (nets : List NetOf) : Type 0 where

@@ -18,9 +18,9 @@ ghost use Rattle.v_check.specs.declared.nets.Net.{Net as NetOf};
 use crate::found::note;
 use crate::names::{bytes_of, nets_in};
 use crate::nets::{Kind, Net, Table};
-use indexmap::IndexMap;
 use rb_base::{NoMemory, Place};
 use std::alloc::Global;
+use std::collections::BTreeMap;
 use v_design::{Stmt, VExpr};
 use v_syntax::Event;
 
@@ -106,7 +106,7 @@ fn drives_well(alloc: Global, table: &Table, stmt: &Stmt, event: &Event) -> Resu
 /// The number of a statement that drives a net, by the net's name.
 #[derive(Drop)]
 pub(crate) struct Drivers<'s> {
-    numbers: IndexMap<&'s [u8], usize>,
+    numbers: BTreeMap<&'s [u8], usize>,
 }
 
 impl<'s> Drivers<'s> {
@@ -121,7 +121,7 @@ impl<'s> Drivers<'s> {
         ensures { (n : List ℕ) → driver_at result n ≡ None }
     {
         Drivers {
-            numbers: IndexMap::new(alloc),
+            numbers: BTreeMap::new(alloc),
         }
     }
 

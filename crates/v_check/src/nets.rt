@@ -8,9 +8,9 @@ ghost use Rattle.v_check.specs.Nets.{AreNets, IsTwice, declared_nets, kind_seen,
 
 use crate::found::note;
 use crate::names::bytes_of;
-use indexmap::IndexMap;
 use rb_base::{Dir, NoMemory, Place, Port};
 use std::alloc::Global;
+use std::collections::BTreeMap;
 use v_design::Decl;
 
 /// What drives a net: an input what is outside, a wire or an output an assignment, and a register a clocked block.
@@ -86,7 +86,7 @@ pub(crate) fn nets_of<'s>(
 /// The first net of each name.
 #[derive(Drop)]
 pub(crate) struct Table<'s> {
-    nets: IndexMap<&'s [u8], Net<'s>>,
+    nets: BTreeMap<&'s [u8], Net<'s>>,
 }
 
 impl<'s> Table<'s> {
@@ -101,7 +101,7 @@ impl<'s> Table<'s> {
         ensures { AreNets result [] }
     {
         Table {
-            nets: IndexMap::new(alloc),
+            nets: BTreeMap::new(alloc),
         }
     }
 

@@ -1,4 +1,4 @@
-use Rattle.std.proofs.lemmas.Map.Text.{hash_map_updates_str}
+use Rattle.std.proofs.lemmas.Map.Text.{btree_map_updates_str}
 use Rattle.v_check.proofs.Tables.{nets_again, nets_new}
 use Rattle.v_check.proofs.nets.Table.push.Goals as goal
 
@@ -8,4 +8,4 @@ returns-then-declares-clause-nets c = λ ns h. nets_again c.args.self.now c.args
 pub returns-clause-nets : goal.returns-clause-nets
 returns-clause-nets c = λ ns h.
     nets_new c.args.self.now (record { nets = c.insert.new.self }) ns c.args.net h (c.if-declares.ensures ns h)
-    (hash_map_updates_str c.args.net.name.now c.args.self.now.nets c.insert.new.self _ c.in_ok-insert.ensures.updates)
+    (btree_map_updates_str c.args.net.name.now c.args.self.now.nets c.insert.new.self _ c.in_ok-insert.ensures.updates)
