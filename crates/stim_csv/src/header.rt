@@ -1,7 +1,8 @@
 //! The header of a table: which pin each column is of.
 ghost use Rattle.std.specs.Prelude.{◌≡◌, ◌≢◌, ℕ, ◌<◌, None, Some, Option, OnOk, IfOk, IfErr, IfSome, AllPairs, List, map, take, length, []};
-ghost use Rattle.std.specs.HashMap.{get_by};
-ghost use Rattle.std.specs.Str.{bytes_eq};
+ghost use Rattle.std.specs.BTreeMap.{get_by};
+ghost use Rattle.std.specs.Cmp.Lexicographic.{slice_cmp};
+ghost use Rattle.std.specs.Ordering.{nat_cmp};
 ghost use Rattle.csv.specs.Records.{fields_of};
 ghost use Rattle.stim_csv.specs.Numeral.{cell_value};
 ghost use Rattle.stim_csv.specs.Columns.{IsHeaderOf, unfound_problem};
@@ -14,7 +15,7 @@ use crate::records::cell_at;
 use csv::ByteRecord;
 use rb_base::Pin;
 use std::alloc::{AllocError, Global};
-use std::collections::HashMap;
+use std::collections::BTreeMap;
 
 /// Where the pins stand in a table.
 #[derive(Drop)]
@@ -26,12 +27,12 @@ pub(crate) struct Header {
 }
 
 /// The place of each pin by its name.
-fn places_of(alloc: Global, pins: &[Pin]) -> Result<HashMap<&[u8], usize>, AllocError>
+fn places_of(alloc: Global, pins: &[Pin]) -> Result<BTreeMap<&[u8], usize>, AllocError>
     requires { AllPairs (λ p q. p.name ≢ q.name) pins.now }
     ensures { IfOk result
-        (λ m. (name : List ℕ) → get_by (λ k. bytes_eq name k.now) m ≡ place_of pins.now name) }
+        (λ m. (name : List ℕ) → get_by (λ k. slice_cmp nat_cmp name k.now) m ≡ place_of pins.now name) }
 {
-    let mut places = HashMap::new(alloc);
+    let mut places = BTreeMap::new(alloc);
     for (place, pin) in pins.iter().enumerate() {
         places.insert(pin.name.bytes.as_slice(), place)?;
     }
@@ -39,8 +40,8 @@ fn places_of(alloc: Global, pins: &[Pin]) -> Result<HashMap<&[u8], usize>, Alloc
 }
 
 /// The place of the pin of this name, if there is one.
-fn place_in(places: &HashMap<&[u8], usize>, pins: &[Pin], name: &[u8]) -> Option<usize>
-    requires { (name : List ℕ) → get_by (λ k. bytes_eq name k.now) places.now ≡ place_of pins.now name }
+fn place_in(places: &BTreeMap<&[u8], usize>, pins: &[Pin], name: &[u8]) -> Option<usize>
+    requires { (name : List ℕ) → get_by (λ k. slice_cmp nat_cmp name k.now) places.now ≡ place_of pins.now name }
     ensures value { result ≡ place_of pins.now name.now }
     ensures within { IfSome result (λ place. place < length pins.now) }
 {

@@ -1,7 +1,7 @@
 use Rattle.std.proofs.Common.{◌≡◌, ◌≢◌, ℕ, ◌+◌, ◌<◌, List, Option, Some, if◌then◌else◌, take, length, get_or, ap, ◌∙◌}
 use Rattle.std.specs.List.{AllPairs}
 use Rattle.std.specs.Str.{bytes_eq}
-use Rattle.std.proofs.lemmas.Map.Text.{hash_map_updates_str}
+use Rattle.std.proofs.lemmas.Map.Text.{btree_map_updates_str}
 use Rattle.rb_base.specs.declared.ports.Pin.{Pin}
 use Rattle.stim_csv.specs.PinTable.{place_of}
 use Rattle.stim_csv.proofs.Headers.{place-more}
@@ -15,7 +15,7 @@ step pins i d name text old new apart l is was e =
 
 pub loop-place-preserved : goal.loop-place-preserved
 loop-place-preserved c = λ name.
-    let updated = hash_map_updates_str c.as_slice.result.now c.loop-place.places c.insert.new.self _ c.in_ok-insert.ensures.updates name in
+    let updated = btree_map_updates_str c.as_slice.result.now c.loop-place.places c.insert.new.self _ c.in_ok-insert.ensures.updates name in
     let text = c.as_slice.ensures.value ∙ ap (λ p. p.name) c.pin.view_is in
     step c.args.pins.now c.loop-place.place c.index-pins-place.result name c.as_slice.result.now _ _ c.requires c.loop-place-test.true
     (text ∙ ap (λ p. p.name) c.index-pins-place.is) (c.loop-place.invariant name) updated
