@@ -1,10 +1,9 @@
 -- What compiled expressions compute.
 use Rattle.std.specs.Prelude.{◌≡◌, ℕ, ◌+◌, ◌<◌, ◌≤◌, ◌^◌, true, Option, Some, None, IsSome, List, [], ◌∷◌, ◌++◌, length, slice_index}
 use Rattle.std.specs.List.{AllByRecursion}
-use Rattle.std.specs.Str.{bytes_eq}
-use Rattle.std.specs.HashMap.{HashMap, get_by}
-use Rattle.std.specs.declared.hash.FoldHasher.{FoldHasher}
-use Rattle.std.specs.declared.hash.BuildHasherDefault.{BuildHasherDefault}
+use Rattle.std.specs.BTreeMap.{BTreeMap, get_by}
+use Rattle.std.specs.Cmp.Lexicographic.{slice_cmp}
+use Rattle.std.specs.Ordering.{nat_cmp}
 use denote.Ref.{Bor}
 use Rattle.v_design.specs.Expr.{Expr, Widths, Values, nets_of, width_of, is_sized, value_of}
 use Rattle.v_design.specs.Constants.{ConstantsFit}
@@ -16,11 +15,11 @@ use Rattle.cyc_sim.specs.declared.listing.Listing.{Listing}
 
 -- the nets that have a place, by name
 abbrev pub Known : Type 0
-Known = HashMap (Bor (List ℕ)) Wire (BuildHasherDefault FoldHasher)
+Known = BTreeMap (Bor (List ℕ)) Wire
 
 -- the place of a net, if it has one
 abbrev pub known_at : Known → List ℕ → Option Wire
-known_at known name = get_by (λ k. bytes_eq name k.now) known
+known_at known name = get_by (λ k. slice_cmp nat_cmp name k.now) known
 
 -- the number of places of a listing
 abbrev pub end_of : Listing → ℕ

@@ -1,10 +1,9 @@
 -- In which order the nets of a module settle.
 use Rattle.std.specs.Prelude.{◌≡◌, ℕ, ◌<◌, false, IsTrue, if◌then◌else◌, Option, Some, None, IsSome, List, [], ◌∷◌, length, map, slice_get}
 use Rattle.std.specs.List.{AllByRecursion}
-use Rattle.std.specs.Str.{bytes_eq}
-use Rattle.std.specs.HashMap.{HashMap, get_by}
-use Rattle.std.specs.declared.hash.FoldHasher.{FoldHasher}
-use Rattle.std.specs.declared.hash.BuildHasherDefault.{BuildHasherDefault}
+use Rattle.std.specs.BTreeMap.{BTreeMap, get_by}
+use Rattle.std.specs.Cmp.Lexicographic.{slice_cmp}
+use Rattle.std.specs.Ordering.{nat_cmp}
 use denote.Ref.{Bor}
 use Rattle.v_design.specs.Lexemes.{among}
 use Rattle.v_design.specs.Expr.{nets_of}
@@ -13,10 +12,10 @@ use Rattle.v_design.specs.WellFormed.{AllBelow}
 
 -- the numbers of the assignments that drive nets, by name
 abbrev pub Drivers : Type 0
-Drivers = HashMap (Bor (List ℕ)) ℕ (BuildHasherDefault FoldHasher)
+Drivers = BTreeMap (Bor (List ℕ)) ℕ
 
 abbrev pub driver_at : Drivers → List ℕ → Option ℕ
-driver_at drivers n = get_by (λ k. bytes_eq n k.now) drivers
+driver_at drivers n = get_by (λ k. slice_cmp nat_cmp n k.now) drivers
 
 -- the step of this number is an assignment to the net
 pub record Assigns (ss : List Step) (i : ℕ) (net : List ℕ) : Type 0 where

@@ -6,7 +6,7 @@ ghost use Rattle.cyc_sim.specs.Compiled.{known_at, end_of, AreBelow, Compiles, I
 use crate::listing::{Listing, Wire};
 use crate::operation::Operation;
 use rb_base::{NoMemory, Text};
-use std::collections::HashMap;
+use std::collections::BTreeMap;
 use v_design::VExpr;
 
 /// The bytes of a name.
@@ -17,7 +17,7 @@ pub(crate) fn bytes_of(name: &Text) -> &[u8]
 }
 
 /// The wire of a net that has one.
-pub(crate) fn wire_of(known: &HashMap<&[u8], Wire>, name: &Text) -> Wire
+pub(crate) fn wire_of(known: &BTreeMap<&[u8], Wire>, name: &Text) -> Wire
     requires { IsSome (known_at known.now name.now) }
     ensures { known_at known.now name.now ≡ Some result }
 {
@@ -42,7 +42,7 @@ fn behind(listing: &mut Listing, joined: Option<Wire>, low: Wire) -> Result<Wire
 
 /// Adds the operations of an expression over nets that have a place, and answers the wire of its value.
 pub(crate) fn compile(
-    known: &HashMap<&[u8], Wire>,
+    known: &BTreeMap<&[u8], Wire>,
     expr: &VExpr,
     listing: &mut Listing,
 ) -> Result<Wire, NoMemory>

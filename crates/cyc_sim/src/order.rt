@@ -7,15 +7,15 @@ ghost use Rattle.cyc_sim.specs.Order.{AreDrivers, IsAcyclic, IsSettlingOrder, al
 use crate::compile::bytes_of;
 use rb_base::NoMemory;
 use std::alloc::Global;
-use std::collections::HashMap;
+use std::collections::BTreeMap;
 use topological_order::{Levels, Lists, levelize};
 use v_design::{Stmt, VExpr};
 
 /// The number of the assignment that drives each net.
-fn drivers_of(alloc: Global, stmts: &[Stmt]) -> Result<HashMap<&[u8], usize>, NoMemory>
+fn drivers_of(alloc: Global, stmts: &[Stmt]) -> Result<BTreeMap<&[u8], usize>, NoMemory>
     ensures { IfOk result (λ d. AreDrivers d (map step_seen stmts.now)) }
 {
-    let mut drivers = HashMap::new(alloc);
+    let mut drivers = BTreeMap::new(alloc);
     for (index, stmt) in stmts.iter().enumerate() {
         if !stmt.clocked {
             drivers.insert(bytes_of(&stmt.to), index)?;
@@ -26,7 +26,7 @@ fn drivers_of(alloc: Global, stmts: &[Stmt]) -> Result<HashMap<&[u8], usize>, No
 
 /// Puts the number of a net's driver behind others, if it has one.
 fn need(
-    drivers: &HashMap<&[u8], usize>,
+    drivers: &BTreeMap<&[u8], usize>,
     name: &[u8],
     needs: &mut Vec<usize>,
 ) -> Result<(), NoMemory>
@@ -40,7 +40,7 @@ fn need(
 
 /// Puts the numbers of the drivers of the nets that an expression reads behind others.
 fn needs_in(
-    drivers: &HashMap<&[u8], usize>,
+    drivers: &BTreeMap<&[u8], usize>,
     expr: &VExpr,
     needs: &mut Vec<usize>,
 ) -> Result<(), NoMemory>
@@ -71,7 +71,7 @@ fn needs_in(
 /// The numbers of the assignments that drive the nets that an assignment reads.
 fn needs_of(
     alloc: Global,
-    drivers: &HashMap<&[u8], usize>,
+    drivers: &BTreeMap<&[u8], usize>,
     stmt: &Stmt,
 ) -> Result<Vec<usize>, NoMemory>
     ensures { IfOk result (λ r. r.items ≡ step_needs (driver_at drivers.now) (step_seen stmt.now)) }
@@ -85,7 +85,7 @@ fn needs_of(
 
 fn needs_of_each(
     alloc: Global,
-    drivers: &HashMap<&[u8], usize>,
+    drivers: &BTreeMap<&[u8], usize>,
     stmts: &[Stmt],
 ) -> Result<Lists, NoMemory>
     ensures { IfOk result (λ r. r ≡ all_needs (driver_at drivers.now) (map step_seen stmts.now)) }
@@ -99,7 +99,7 @@ fn needs_of_each(
 }
 
 /// The numbers of statements, each assignment's behind those of the assignments that drive the nets that it reads. It
-/// takes time in proportion to the size of the statements.
+/// takes time in proportion to the size of the statements, but for names, each of which is looked up in order.
 pub(crate) fn settling_order(alloc: Global, stmts: &[Stmt]) -> Result<Vec<u32>, NoMemory>
     requires { IsAcyclic (map step_seen stmts.now) }
     ensures { IfOk result (λ o. IsSettlingOrder (map step_seen stmts.now) o.items) }

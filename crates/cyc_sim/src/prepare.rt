@@ -12,7 +12,7 @@ use crate::listing::{Listing, Wire};
 use crate::operation::Operation;
 use rb_base::{NoMemory, Pin};
 use std::alloc::Global;
-use std::collections::HashMap;
+use std::collections::BTreeMap;
 use v_design::{Design, VReset};
 
 /// The wires of pins, the places of which follow each other from the first on.
@@ -20,11 +20,11 @@ pub(crate) fn place_pins(
     alloc: Global,
     pins: &[Pin],
     first: usize,
-) -> Result<HashMap<&[u8], Wire>, NoMemory>
+) -> Result<BTreeMap<&[u8], Wire>, NoMemory>
     requires { first + length pins.now < 2 ^ 64 }
     ensures { IfOk result (ArePlaced pins.now first) }
 {
-    let mut placed = HashMap::new(alloc);
+    let mut placed = BTreeMap::new(alloc);
     for (index, pin) in pins.iter().enumerate() {
         let wire = Wire {
             place: first + index,
@@ -37,7 +37,7 @@ pub(crate) fn place_pins(
 
 /// The wire of what a register takes, under its reset.
 fn guarded(
-    known: &HashMap<&[u8], Wire>,
+    known: &BTreeMap<&[u8], Wire>,
     reset: &Option<VReset>,
     next: Wire,
     listing: &mut Listing,
@@ -68,7 +68,7 @@ fn guarded(
 /// The wires of names, in the order of the pins that have these names.
 pub(crate) fn places_in(
     alloc: Global,
-    known: &HashMap<&[u8], Wire>,
+    known: &BTreeMap<&[u8], Wire>,
     pins: &[Pin],
 ) -> Result<Vec<usize>, NoMemory>
     requires { KnowsPins known.now pins.now }
@@ -84,8 +84,8 @@ pub(crate) fn places_in(
 /// Adds the values of the registers: what they contain, or their constants where their resets are asserted.
 pub(crate) fn place_registers<'d>(
     design: &'d Design,
-    kept: &HashMap<&'d [u8], Wire>,
-    known: &mut HashMap<&'d [u8], Wire>,
+    kept: &BTreeMap<&'d [u8], Wire>,
+    known: &mut BTreeMap<&'d [u8], Wire>,
     listing: &mut Listing,
 ) -> Result<(), NoMemory>
     requires accepted { IsAccepted (module_seen design.now) }
@@ -111,7 +111,7 @@ pub(crate) fn place_registers<'d>(
 pub(crate) fn place_nets<'d>(
     design: &'d Design,
     order: &[u32],
-    known: &mut HashMap<&'d [u8], Wire>,
+    known: &mut BTreeMap<&'d [u8], Wire>,
     listing: &mut Listing,
 ) -> Result<(), NoMemory>
     requires accepted { IsAccepted (module_seen design.now) }
@@ -138,9 +138,9 @@ pub(crate) fn place_nets<'d>(
 pub(crate) fn place_moves<'d>(
     alloc: Global,
     design: &'d Design,
-    known: &HashMap<&'d [u8], Wire>,
+    known: &BTreeMap<&'d [u8], Wire>,
     listing: &mut Listing,
-) -> Result<HashMap<&'d [u8], Wire>, NoMemory>
+) -> Result<BTreeMap<&'d [u8], Wire>, NoMemory>
     requires accepted { IsAccepted (module_seen design.now) }
     requires prepared { Prepared (module_seen design.now) known.now listing.old }
     requires pins { KnowsPins known.now (inputs (module_seen design.now)) }
@@ -149,7 +149,7 @@ pub(crate) fn place_moves<'d>(
     ensures moves { IfOk result (λ moves. Moving (module_seen design.now) moves listing.new) }
     ensures registers { IfOk result (λ moves. KnowsRegisters moves (module_seen design.now).steps) }
 {
-    let mut moves = HashMap::new(alloc);
+    let mut moves = BTreeMap::new(alloc);
     for stmt in &design.stmts {
         if !stmt.clocked {
             continue;

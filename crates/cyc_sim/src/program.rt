@@ -34,7 +34,8 @@ impl Program {
     ghost use Rattle.cyc_sim.specs.Accepted.{IsAccepted};
     ghost use Rattle.cyc_sim.specs.Simulation.{IsProgramOf};
 
-    /// The program of an accepted module. It takes time in proportion to the size of the module.
+    /// The program of an accepted module. It takes time in proportion to the size of the module, but for names,
+    /// each of which is looked up in order.
     pub fn new(alloc: Global, design: &Design) -> Result<Program, NoMemory>
         requires { IsAccepted (module_seen design.now) }
         ensures { IfOk result (IsProgramOf (module_seen design.now)) }

@@ -1,6 +1,6 @@
 use Rattle.std.proofs.Common.{◌+◌, map, sym, subst, arith}
 use Rattle.std.proofs.lemmas.List.{length-map}
-use Rattle.std.proofs.lemmas.Map.Text.{hash_map_updates_str}
+use Rattle.std.proofs.lemmas.Map.Text.{btree_map_updates_str}
 use Rattle.v_design.specs.Seen.{step_seen}
 use Rattle.cyc_sim.proofs.Ordering.{DriversBelow, drivers-all, drivers-more, drivers-skip, step-at}
 use Rattle.cyc_sim.proofs.order.drivers_of.Goals as goal
@@ -15,7 +15,7 @@ loop-index-preserved c =
     elim c.if-not-stmt.branch [
       | then-not-stmt+in_ok-insert w ↦ subst (λ d. DriversBelow d ss (i + 1)) (sym w.drivers-is)
           (drivers-more c.loop-index.drivers w.insert.new.self ss i s w.bytes_of.result.now at w.if-not-stmt.true w.bytes_of.ensures
-          (hash_map_updates_str w.bytes_of.result.now c.loop-index.drivers w.insert.new.self _ w.in_ok-insert.ensures.updates) c.loop-index.invariant)
+          (btree_map_updates_str w.bytes_of.result.now c.loop-index.drivers w.insert.new.self _ w.in_ok-insert.ensures.updates) c.loop-index.invariant)
       | else-not-stmt w ↦ drivers-skip c.loop-index.drivers c.if-not-stmt.drivers ss i s at w.if-not-stmt.false w.drivers-is c.loop-index.invariant
     ]
 

@@ -1,4 +1,4 @@
-use Rattle.std.proofs.lemmas.Map.Text.{hash_map_updates_str}
+use Rattle.std.proofs.lemmas.Map.Text.{btree_map_updates_str}
 use Rattle.v_design.specs.Seen.{module_seen, step_seen}
 use Rattle.cyc_sim.proofs.Compiling.{below_more, extends_both}
 use Rattle.cyc_sim.proofs.Stages.{still_prepared, more_moving}
@@ -16,7 +16,7 @@ loop-stmt-preserved c =
     let acts = statement_acts c.args.design.now c.requires.accepted c.deref-stmt-items.result.now c.loop-stmt.stmt-index c.stmt-item.result c.deref-stmt-items.ensures.value c.loop-stmt-test.true c.stmt-item.is in
     let at = step-of c.args.design.now.stmts.items c.deref-stmt-items.result.now c.loop-stmt.stmt-index c.stmt-item.result c.deref-stmt-items.ensures.value c.loop-stmt-test.true c.stmt-item.is in
     let updated = updated_at c.loop-stmt.moves c.insert.new.self c.bytes_of.result.now _ c.in_ok-wire.wire c.bytes_of.ensures
-    (hash_map_updates_str c.bytes_of.result.now c.loop-stmt.moves c.insert.new.self _ c.in_ok-insert.ensures.updates) in
+    (btree_map_updates_str c.bytes_of.result.now c.loop-stmt.moves c.insert.new.self _ c.in_ok-insert.ensures.updates) in
     record {
       prepared = still_prepared m c.args.known.now c.loop-stmt.listing c.guarded.new.listing c.loop-stmt.invariant.prepared (extends_both c.loop-stmt.listing c.compile.new.listing c.guarded.new.listing c.in_ok-next.ensures.extends c.in_ok-wire.ensures.extends);
       moving = more_moving m c.args.known.now c.loop-stmt.moves c.insert.new.self c.loop-stmt.listing c.compile.new.listing c.guarded.new.listing (step_seen c.stmt-item.result) c.in_ok-next.next c.in_ok-wire.wire

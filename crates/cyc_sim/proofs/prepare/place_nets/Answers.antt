@@ -1,6 +1,6 @@
 use Rattle.std.proofs.Common.{◌≡◌, ℕ, ◌<◌, Some, List, length, map, get_or, slice_get, refl, arith}
 use Rattle.std.proofs.lemmas.List.{length-map}
-use Rattle.std.proofs.lemmas.Map.Text.{hash_map_updates_str}
+use Rattle.std.proofs.lemmas.Map.Text.{btree_map_updates_str}
 use Rattle.v_design.specs.Design.{inputs}
 use Rattle.v_design.specs.Seen.{module_seen, step_seen}
 use Rattle.v_design.specs.declared.design.Stmt.{Stmt}
@@ -35,7 +35,7 @@ loop-index-preserved c =
     let n = next c.args.design.now.stmts.items c.args.order.now c.loop-index.index-index x c.requires.order c.loop-index-test.true c.index-stmt.ensures in
     let acts = statement_acts c.args.design.now c.requires.accepted c.args.design.now.stmts.items _ x refl n.2 c.index-stmt.ensures in
     let updated = updated_at c.loop-index.known c.insert.new.self c.bytes_of.result.now _ c.in_ok-wire.wire c.bytes_of.ensures
-    (hash_map_updates_str c.bytes_of.result.now c.loop-index.known c.insert.new.self _ c.in_ok-insert.ensures.updates) in
+    (btree_map_updates_str c.bytes_of.result.now c.loop-index.known c.insert.new.self _ c.in_ok-insert.ensures.updates) in
     record {
       prepared = net_prepared m c.loop-index.known c.insert.new.self c.loop-index.listing c.compile.new.listing (step_seen x) c.in_ok-wire.wire c.loop-index.invariant.prepared
           c.if-stmt.false acts.sound acts.settled c.in_ok-wire.ensures updated;

@@ -1,7 +1,7 @@
 use Rattle.std.specs.List.{slice_get}
 use Rattle.std.specs.Str.{bytes_eq}
 use Rattle.std.proofs.Common.{◌≡◌, ℕ, ◌+◌, ◌<◌, if◌then◌else◌, Some, IsSome, List, length, take, get_or, refl, ap, sym, ◌∙◌, inl, inr, subst, add-one}
-use Rattle.std.proofs.lemmas.Map.Text.{hash_map_updates_str}
+use Rattle.std.proofs.lemmas.Map.Text.{btree_map_updates_str}
 use Rattle.rb_base.specs.declared.ports.Pin.{Pin}
 use Rattle.cyc_sim.specs.declared.listing.Wire.{Wire}
 use Rattle.cyc_sim.specs.Compiled.{Known, known_at}
@@ -31,4 +31,4 @@ pub loop-index-preserved : goal.loop-index-preserved
 loop-index-preserved c =
     more_placed c.args.pins.now c.loop-index.index c.args.first c.index-pins-index.result c.bytes_of.result.now _ c.loop-index.placed c.insert.new.self c.loop-index-test.true
     (c.bytes_of.ensures ∙ ap (λ p. p.name) c.index-pins-index.is) refl (ap (λ p. p.width) c.index-pins-index.is) c.loop-index.invariant
-    (hash_map_updates_str c.bytes_of.result.now c.loop-index.placed c.insert.new.self _ c.in_ok-insert.ensures.updates)
+    (btree_map_updates_str c.bytes_of.result.now c.loop-index.placed c.insert.new.self _ c.in_ok-insert.ensures.updates)

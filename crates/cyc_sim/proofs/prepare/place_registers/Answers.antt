@@ -1,5 +1,5 @@
 use Rattle.v_design.specs.Design.{inputs}
-use Rattle.std.proofs.lemmas.Map.Text.{hash_map_updates_str}
+use Rattle.std.proofs.lemmas.Map.Text.{btree_map_updates_str}
 use Rattle.v_design.specs.Seen.{module_seen, step_seen}
 use Rattle.cyc_sim.proofs.Stages.{kept_below, register_prepared}
 use Rattle.cyc_sim.proofs.Ordering.{step-of, steps-past}
@@ -26,7 +26,7 @@ loop-stmt-preserved c =
     let acts = statement_acts c.args.design.now c.requires.accepted c.deref-stmt-items.result.now c.loop-stmt.stmt-index c.stmt-item.result c.deref-stmt-items.ensures.value c.loop-stmt-test.true c.stmt-item.is in
     let at = step-of c.args.design.now.stmts.items c.deref-stmt-items.result.now c.loop-stmt.stmt-index c.stmt-item.result c.deref-stmt-items.ensures.value c.loop-stmt-test.true c.stmt-item.is in
     let updated = updated_at c.loop-stmt.known c.insert.new.self c.bytes_of.result.now _ c.in_ok-wire.wire c.bytes_of.ensures
-    (hash_map_updates_str c.bytes_of.result.now c.loop-stmt.known c.insert.new.self _ c.in_ok-insert.ensures.updates) in
+    (btree_map_updates_str c.bytes_of.result.now c.loop-stmt.known c.insert.new.self _ c.in_ok-insert.ensures.updates) in
     record {
       prepared = register_prepared m c.loop-stmt.known c.insert.new.self c.args.kept.now c.loop-stmt.listing c.guarded.new.listing (step_seen c.stmt-item.result) c.wire_of-contents.result c.in_ok-wire.wire c.requires.accepted c.loop-stmt.invariant.prepared c.requires.kept
           c.if-not-stmt.false acts.sound acts.settled c.wire_of-contents.ensures c.in_ok-wire.ensures updated;
