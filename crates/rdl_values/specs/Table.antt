@@ -1,12 +1,13 @@
 -- What tables of a body's names mean.
-use Rattle.std.specs.Prelude.{ℕ, Bool, List, map, bytes_eq}
+use Rattle.std.specs.Prelude.{ℕ, Bool, List, [], map, bytes_eq, Box, Option, None, Some}
 use Rattle.std.specs.List.{IsDistinct, list_any}
 use Rattle.std.specs.Borrow.{Bor}
+use Rattle.std.specs.Global.{Global}
 use Rattle.rdl_tree.specs.declared.value.Value.{Value}
 use Rattle.rdl_values.specs.Firsts.{AreFirsts}
 use Rattle.rdl_values.specs.declared.firsts.Firsts.{Firsts}
 use Rattle.rdl_values.specs.Seen.{val_of}
-use Rattle.rdl_values.specs.Values.{Val, EnumOf}
+use Rattle.rdl_values.specs.Values.{Val, EnumOf, Names}
 
 -- parameters and their values
 abbrev pub bound_by : List (Bor (List ℕ) × Value) → List (List ℕ × Val)
@@ -28,3 +29,8 @@ pub record AreBodyNames (bound_places : Firsts) (bound : List (Bor (List ℕ) ×
 
 abbrev pub is_enum_named : List ℕ → List EnumOf → Bool
 is_enum_named n es = list_any (λ e. bytes_eq e.name n) es
+
+-- the names of a body that may have none
+abbrev pub names_or_none : Option (Box Names Global) → Names
+names_or_none None = record { bound = []; enums = [] }
+names_or_none (Some names) = names.value

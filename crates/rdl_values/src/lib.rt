@@ -6,6 +6,7 @@ mod constants;
 mod firsts;
 mod laws;
 mod lookup;
+mod name_table;
 mod numbers;
 mod operators;
 mod table;

@@ -1,6 +1,7 @@
 //! The names of a body by their texts: look-ups that don't go through them one by one.
 
 use crate::firsts::Firsts;
+use crate::name_table::NameTable;
 use rb_base::NoMemory;
 use rdl_tree::{Name, Value};
 use std::alloc::Global;
@@ -9,7 +10,7 @@ use std::marker::Model;
 /// An enumeration: the numbers of its entries by their names, of two of one name the first.
 #[derive(Drop)]
 pub struct EnumTable<'a> {
-    name: Name<'a>,
+    pub(crate) name: Name<'a>,
     places: Firsts<'a>,
     entries: Vec<(&'a [u8], u64)>,
 }
@@ -65,31 +66,28 @@ impl<'a> EnumTable<'a> {
     }
 
     // Whether it stands before a name.
-    fn stands_before(&self, name: &Name) -> bool
+    pub(crate) fn stands_before(&self, name: &Name) -> bool
         ensures { result ≡ nat_lt self.now.place name.now.place.0 }
     {
         self.name.place.0 < name.place.0
     }
 }
 
-/// The parameters of a body and its enumerations, by their names, of two of one name the first.
+/// The parameters of a body and its enumerations, by their names, of two of one name the first. Most bodies have neither, and then it
+/// keeps nothing.
 #[derive(Drop)]
 pub struct Table<'a> {
-    bound_places: Firsts<'a>,
-    bound: Vec<(&'a [u8], Value<'a>)>,
-    enum_places: Firsts<'a>,
-    enums: Vec<EnumTable<'a>>,
+    alloc: Global,
+    names: Option<Box<NameTable<'a>>>,
 }
 
 impl<'a> Model for Table<'a> {
+    ghost use Rattle.rdl_values.specs.Table.{names_or_none};
     ghost use Rattle.rdl_values.specs.Values.{Names};
-    ghost use Rattle.rdl_values.specs.Table.{AreBodyNames, bound_by};
 
     ghost Value = { Names };
 
-    ghost view = { λ t. record { bound = bound_by t.bound.items; enums = t.enums.items } };
-
-    ghost invariant = { λ t. AreBodyNames t.bound_places t.bound.items t.enum_places t.enums.items };
+    ghost view = { λ t. names_or_none t.names };
 }
 
 impl<'a> Table<'a> {
@@ -103,12 +101,7 @@ impl<'a> Table<'a> {
     pub fn new(alloc: Global) -> Self
         ensures { result ≡ (record { bound = []; enums = [] }) }
     {
-        Table {
-            bound_places: Firsts::new(alloc),
-            bound: Vec::new(alloc),
-            enum_places: Firsts::new(alloc),
-            enums: Vec::new(alloc),
-        }
+        Table { alloc, names: None }
     }
 
     /// Puts a parameter behind the others, where none has its name. It changes nothing where memory is wanting.
@@ -117,11 +110,12 @@ impl<'a> Table<'a> {
         ensures added { OnOk result (self.new.bound ≡ cond (is_some (entry_named name.now self.old.bound)) self.old.bound (self.old.bound ++ ((name.now, val_of value.entry) ∷ []))) }
         ensures unchanged { OnErr result (self.new.bound ≡ self.old.bound) }
     {
-        self.bound.reserve(1)?;
-        let again = self.bound_places.put(name, self.bound.len())?;
-        if !again {
-            self.bound.push((name, value))?;
+        if let Some(names) = &mut self.names {
+            return names.add(name, value);
         }
+        let mut names = NameTable::new(self.alloc);
+        names.add(name, value)?;
+        self.names = Some(Box::new(self.alloc, names)?);
         Ok(())
     }
 
@@ -131,11 +125,12 @@ impl<'a> Table<'a> {
         ensures added { OnOk result (self.new.enums ≡ cond (is_enum_named of.entry.name self.old.enums) self.old.enums (self.old.enums ++ (of.entry ∷ []))) }
         ensures unchanged { OnErr result (self.new.enums ≡ self.old.enums) }
     {
-        self.enums.reserve(1)?;
-        let again = self.enum_places.put(of.name.text, self.enums.len())?;
-        if !again {
-            self.enums.push(of)?;
+        if let Some(names) = &mut self.names {
+            return names.add_enum(of);
         }
+        let mut names = NameTable::new(self.alloc);
+        names.add_enum(of)?;
+        self.names = Some(Box::new(self.alloc, names)?);
         Ok(())
     }
 
@@ -143,15 +138,19 @@ impl<'a> Table<'a> {
     pub(crate) fn value(&self, name: &[u8]) -> Option<Value<'a>>
         ensures { MatchOption result (entry_named name.now self.now.bound ≡ None) (λ v. entry_named name.now self.now.bound ≡ Some (val_of v)) }
     {
-        let at = self.bound_places.find(name)?;
-        Some(self.bound[at].1)
+        match &self.names {
+            Some(names) => names.value(name),
+            None => None,
+        }
     }
 
     // The enumeration that the name means: of that name, and standing before it.
     pub(crate) fn enum_before(&self, name: &Name<'a>) -> Option<&EnumTable<'a>>
         ensures { MatchOption result (visible.enum_before name.now self.now ≡ None) (λ e. visible.enum_before name.now self.now ≡ Some (record e.now { name = name.now.text.now })) }
     {
-        let of = &self.enums[self.enum_places.find(name.text)?];
-        of.stands_before(name).then_some(of)
+        match &self.names {
+            Some(names) => names.enum_before(name),
+            None => None,
+        }
     }
 }

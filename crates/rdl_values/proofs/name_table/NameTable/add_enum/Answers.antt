@@ -3,7 +3,7 @@ use Rattle.rdl_values.specs.Firsts.{place_of}
 use Rattle.rdl_values.specs.Table.{is_enum_named}
 use Rattle.rdl_values.proofs.Named.{IsPut}
 use Rattle.rdl_values.proofs.Tables.{firsts_pushed, is-enum, kept, pushed, unique_pushed}
-use Rattle.rdl_values.proofs.table.Table.add_enum.Goals as goal
+use Rattle.rdl_values.proofs.name_table.NameTable.add_enum.Goals as goal
 
 pub invariant_of-self-in-Continue-branch-3 : goal.invariant_of-self-in-Continue-branch-3
 invariant_of-self-in-Continue-branch-3 c =

@@ -4,7 +4,7 @@ use Rattle.rdl_values.specs.Seen.{val_of}
 use Rattle.rdl_values.specs.Table.{keys_of}
 use Rattle.rdl_values.specs.Values.{entry_named}
 use Rattle.rdl_values.proofs.Tables.{named-none, named-some, place_within}
-use Rattle.rdl_values.proofs.table.Table.value.Goals as goal
+use Rattle.rdl_values.proofs.name_table.NameTable.value.Goals as goal
 
 pub returns-in_err-at : goal.returns-in_err-at
 returns-in_err-at c =

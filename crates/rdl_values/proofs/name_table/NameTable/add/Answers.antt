@@ -3,7 +3,7 @@ use Rattle.rdl_values.specs.Seen.{val_of}
 use Rattle.rdl_values.specs.Table.{bound_by}
 use Rattle.rdl_values.specs.Values.{entry_named}
 use Rattle.rdl_values.proofs.Tables.{behind, firsts_pushed, is-named, kept}
-use Rattle.rdl_values.proofs.table.Table.add.Goals as goal
+use Rattle.rdl_values.proofs.name_table.NameTable.add.Goals as goal
 
 pub invariant_of-self-in-Continue-branch-3 : goal.invariant_of-self-in-Continue-branch-3
 invariant_of-self-in-Continue-branch-3 c =

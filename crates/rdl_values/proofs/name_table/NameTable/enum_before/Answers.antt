@@ -3,7 +3,7 @@ use Rattle.std.proofs.lemmas.List.{length-map}
 use Rattle.rdl_values.specs.Values.{EnumOf}
 use Rattle.rdl_values.specs.Visible as visible
 use Rattle.rdl_values.proofs.Tables.{called, enum-none, enum-some, handed_out, place_within}
-use Rattle.rdl_values.proofs.table.Table.enum_before.Goals as goal
+use Rattle.rdl_values.proofs.name_table.NameTable.enum_before.Goals as goal
 
 pub returns-in_err-find : goal.returns-in_err-find
 returns-in_err-find c =
