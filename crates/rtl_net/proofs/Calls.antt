@@ -13,7 +13,9 @@ use Rattle.rtl_net.specs.Value.{At, expr_width, expr_value, under}
 use Rattle.rtl_net.specs.Net.{Net, Settles, Extends, Keeps, Grows, IsNode, IsInput, IsWire, IsWidth, CanWire, CanReset, Stands, Has, HasClock, is_clock, Awaits, registers_of, undriven, width_in, widths}
 use Rattle.rtl_net.specs.Ports.{seated, IsNew, IsFree}
 use Rattle.rtl_net.specs.Made.{IsMade}
+use Rattle.rtl_net.specs.Places.{HasNames}
 use Rattle.rtl_net.specs.Shared.{LacksWire}
+use Rattle.rtl_net.specs.declared.names.Names.{Names}
 use Rattle.rtl_net.specs.declared.node.Id.{Id}
 use Rattle.rtl_net.specs.declared.node.NetNode.{NetNode}
 use Rattle.rtl_net.specs.declared.node.NetNode.TheVariants.{Input, Register, Wire}
@@ -22,6 +24,7 @@ use Rattle.rtl_net.specs.declared.node.NetReset.{NetReset}
 use Rattle.rtl_net.specs.declared.node.Seat.{Seat}
 use Rattle.rtl_net.specs.declared.node.Occupant.TheVariants as takes
 use Rattle.rtl_net.proofs.Places.{slice_get-end, one_item}
+use Rattle.rtl_net.proofs.NameLists.{IsPut, names_more}
 use Rattle.rtl_net.proofs.Nets.{Extends-trans, Has-stands}
 use Rattle.rtl_net.proofs.Added.{pushed, pushed_extends, pushed_keeps, pushed_stands, pushed_wire, pushed_grows, registers_of-push, undriven-push, width-end}
 use Rattle.rtl_net.proofs.Seating.{KeepsTaken-push, KeepsTaken-seated, seats_extend, seated_has}
@@ -181,8 +184,8 @@ module _ (net : Net) (name : List ℕ) (w : ℕ) (reset : NetReset) (id : Id) (n
   }
 
 -- the registers' names after one more
-pub names_pushed : (rs rs' : List Pin) (names names' : List (List ℕ)) (r : Pin) → names ≡ map (λ x. x.name) rs → names' ≡ names ++ r.name ∷ [] → rs' ≡ rs ++ r ∷ [] → names' ≡ map (λ x. x.name) rs'
-names_pushed rs rs' names names' r a b c = b ∙ ap (λ x. x ++ r.name ∷ []) a ∙ sym (ap (map (λ x. x.name)) c ∙ map-append (λ x. x.name) rs (r ∷ []))
+pub names_pushed : (rs rs' : List Pin) (old new : Names) (r : Pin) (at : ℕ) → HasNames old (map (λ x. x.name) rs) → IsPut r.name at old new → rs' ≡ rs ++ r ∷ [] → HasNames new (map (λ x. x.name) rs')
+names_pushed rs rs' old new r at h put e = subst (HasNames new) (sym (ap (map (λ x. x.name)) e ∙ map-append (λ x. x.name) rs (r ∷ []))) (names_more old new (map (λ x. x.name) rs) r.name at h put)
 
 -- what the call of a register shows
 pub record RegisterAdded (net new : Net) (name : List ℕ) (w : ℕ) (reset : NetReset) (id : Id) : Type 0 where

@@ -5,7 +5,6 @@ mod Exprs
 pub mod HasRun
 pub mod Making
 mod NameLists
-mod Named
 pub mod Nets
 mod NodeLists
 mod Numbers
@@ -19,3 +18,4 @@ mod Tying
 pub mod Values
 pub mod ValuesFit
 pub mod Widths
+mod Wires

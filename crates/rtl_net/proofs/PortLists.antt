@@ -1,13 +1,17 @@
 -- Seats in lists.
 use Rattle.std.specs.List.{list_any}
 use Rattle.std.specs.Str.{bytes_eq}
-use Rattle.std.proofs.Common.{◌≡◌, ℕ, zero, suc, true, false, ◌||◌, if◌then◌else◌, List, [], ◌∷◌, ◌++◌, take, slice_get, Some, None, refl, ap, sym, ◌∙◌}
+use Rattle.std.proofs.Common.{◌≡◌, ℕ, zero, suc, true, false, cond, ◌||◌, if◌then◌else◌, List, [], ◌∷◌, ◌++◌, length, take, slice_get, Some, None, refl, ap, sym, ◌∙◌, subst}
 use Rattle.std.proofs.Math.ListN.{set}
+use Rattle.std.proofs.lemmas.List.{length-map, map-append}
 use Rattle.std.proofs.lemmas.Slice.Eq.{bytes_eq-Decides}
 use Rattle.rtl_net.specs.Names.{Lacks}
+use Rattle.rtl_net.specs.Places.{ArePlaces, place_of}
 use Rattle.rtl_net.specs.Ports.{seat_names, seated, taken_in}
+use Rattle.rtl_net.specs.declared.names.Names.{Names}
 use Rattle.rtl_net.specs.declared.node.Seat.{Seat}
 use Rattle.rtl_net.specs.declared.node.Occupant.{Occupant}
+use Rattle.rtl_net.proofs.NameLists.{IsPut, places_more}
 use Rattle.plain_lemmas.proofs.Bools.{or-left_false, or-right_false}
 
 -- the seat that has the name at this place
@@ -66,3 +70,9 @@ module _ (name : List ℕ) where
   taken_in-absent (r ∷ ss) l =
       let b : bytes_eq name r.name ≡ false = or-left_false (bytes_eq name r.name) (list_any (bytes_eq name) (seat_names ss)) l in
       ap (λ x. if x then r.taken else taken_in ss name) b ∙ taken_in-absent ss (or-right_false (bytes_eq name r.name) (list_any (bytes_eq name) (seat_names ss)) l)
+
+-- the places with one seat more
+pub seat_pushed : (old new : Names) (ss : List Seat) (s : Seat) → ArePlaces old (seat_names ss) → Lacks (seat_names ss) s.name → IsPut s.name (length ss) old new → ArePlaces new (seat_names (ss ++ s ∷ []))
+seat_pushed old new ss s h l put =
+    subst (ArePlaces new) (sym (map-append (λ x. x.name) ss (s ∷ [])))
+    (places_more old new (seat_names ss) s.name h l (λ n. put n ∙ ap (λ k. cond (bytes_eq s.name n) (Some k) (place_of old n)) (sym (length-map ss (λ x. x.name)))))

@@ -5,6 +5,7 @@ pub mod Ids
 pub mod Made
 pub mod Names
 pub mod Net
+pub mod Places
 pub mod Ports
 pub mod Run
 pub mod Shared

@@ -1,16 +1,11 @@
 -- The wires of a netlist by their expressions.
-use Rattle.std.specs.Prelude.{ℕ, ◌+◌, ◌≢◌, Bool, true, false, List, [], ◌∷◌, slice_get, Some}
+use Rattle.std.specs.Prelude.{ℕ, ◌≡◌, ◌≢◌, Bool, true, false, List, Option, slice_get, Some, IfSome, IfNone}
+use Rattle.std.specs.BTreeMap.{BTreeMap, get}
 use Rattle.rtl_net.specs.declared.node.Id.{Id}
 use Rattle.rtl_net.specs.declared.node.NetExpr.{NetExpr}
 use Rattle.rtl_net.specs.declared.node.NetNode.{NetNode}
 use Rattle.rtl_net.specs.declared.node.NetNode.TheVariants.{Input, Register, Wire}
-
--- the expressions of the wires and their numbers, where the first node has the number k
-abbrev pub wires_from : ℕ → List NetNode → List (NetExpr × Id)
-wires_from k [] = []
-wires_from k (Input name w ∷ ns) = wires_from (k + 1) ns
-wires_from k (Register name w reset next ∷ ns) = wires_from (k + 1) ns
-wires_from k (Wire e ∷ ns) = (e, record { 0 = k }) ∷ wires_from (k + 1) ns
+use Rattle.rtl_net.specs.contracts.node.NetExprOrd.TheImpl.{cmp-value}
 
 abbrev pub is_wire : NetNode → Bool
 is_wire (Input name w) = false
@@ -20,3 +15,12 @@ is_wire (Wire e) = true
 -- no wire is of the expression
 abbrev pub LacksWire : List NetNode → NetExpr → Type 0
 LacksWire ns e = (i : ℕ) → slice_get ns i ≢ Some (Wire e)
+
+-- the wire under an expression
+abbrev pub wire_under : BTreeMap NetExpr Id → NetExpr → Option Id
+wire_under wires e = get cmp-value.it wires e
+
+-- each expression that has a wire among the nodes has its number, and no other one has a number
+pub record AreWires (wires : BTreeMap NetExpr Id) (ns : List NetNode) : Type 0 where
+  pub found : (e : NetExpr) → IfSome (wire_under wires e) (λ id. slice_get ns id.0 ≡ Some (Wire e))
+  pub absent : (e : NetExpr) → IfNone (wire_under wires e) (LacksWire ns e)

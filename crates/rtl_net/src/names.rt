@@ -1,69 +1,41 @@
-//! Names in order, found by their bytes.
+//! Places under names, found by their bytes.
 
-ghost use Rattle.std.specs.Prelude.{◌≡◌, ◌++◌, ◌∷◌, [], ℕ, List, map, OnOk, OnErr, IfSome, IfNone, slice_get, Some, take};
-ghost use Rattle.rtl_net.specs.Names.{Lacks};
+ghost use Rattle.std.specs.Prelude.{◌≡◌, ℕ, List, Some, None, OnOk, OnErr, cond, bytes_eq};
+ghost use Rattle.rtl_net.specs.Places.{place_of};
 
-use indexmap::IndexSet;
 use rb_base::NoMemory;
 use std::alloc::Global;
-use std::marker::Model;
+use std::collections::BTreeMap;
 
-/// Different names in order.
+/// Different names, each with a place. A source may choose them, so they are found in order and not by a hash.
 #[derive(Drop)]
 pub(crate) struct Names {
-    set: IndexSet<Vec<u8>>,
-}
-
-impl Model for Names {
-    ghost use Rattle.std.specs.Prelude.{List, ℕ, map};
-
-    ghost Value = { List (List ℕ) };
-
-    ghost view = { λ names. map (λ name. name.items) names.set.keys };
-}
-
-/// Puts a name at the end, or changes nothing.
-fn insert(alloc: Global, set: &mut IndexSet<Vec<u8>>, name: &[u8]) -> Result<(), NoMemory>
-    requires { Lacks (map (λ n. n.items) set.old.keys) name.now }
-    ensures ok { OnOk result (map (λ n. n.items) set.new.keys ≡ map (λ n. n.items) set.old.keys ++ name.now ∷ []) }
-    ensures err { OnErr result (set.new.keys ≡ set.old.keys) }
-{
-    let bytes = Vec::from_slice(alloc, name)?;
-    set.insert(bytes)?;
-    Ok(())
+    places: BTreeMap<Vec<u8>, usize>,
 }
 
 impl Names {
     pub(crate) fn new(alloc: Global) -> Self
-        ensures { result ≡ [] }
+        ensures { (n : List ℕ) → place_of result n ≡ None }
     {
         Names {
-            set: IndexSet::new(alloc),
+            places: BTreeMap::new(alloc),
         }
     }
 
     /// The place of a name.
     pub(crate) fn find(&self, name: &[u8]) -> Option<usize>
-        ensures found { IfSome result (λ i. slice_get self.now i ≡ Some name.now) }
-        ensures first { IfSome result (λ i. Lacks (take i self.now) name.now) }
-        ensures absent { IfNone result (Lacks self.now name.now) }
+        ensures { result ≡ place_of self.now name.now }
     {
-        self.set.get_index_of(name)
+        self.places.get(name).copied()
     }
 
-    /// Puts a new name at the end, or changes nothing.
-    pub(crate) fn push(&mut self, alloc: Global, name: &[u8]) -> Result<(), NoMemory>
-        requires { Lacks self.old name.now }
-        ensures ok { OnOk result (self.new ≡ self.old ++ name.now ∷ []) }
-        ensures err { OnErr result (self.new ≡ self.old) }
+    /// Puts a place under a name, or changes nothing.
+    pub(crate) fn put(&mut self, alloc: Global, name: &[u8], place: usize) -> Result<(), NoMemory>
+        ensures ok { OnOk result ((n : List ℕ) → place_of self.new n ≡ cond (bytes_eq name.now n) (Some place) (place_of self.old n)) }
+        ensures err { OnErr result ((n : List ℕ) → place_of self.new n ≡ place_of self.old n) }
     {
-        insert(alloc, &mut self.set, name)
-    }
-
-    /// Takes the last name away.
-    pub(crate) fn pop(&mut self)
-        ensures { (front : List (List ℕ)) (last : List ℕ) → self.old ≡ front ++ last ∷ [] → self.new ≡ front }
-    {
-        let _ = self.set.pop();
+        let bytes = Vec::from_slice(alloc, name)?;
+        self.places.insert(bytes, place)?;
+        Ok(())
     }
 }

@@ -1,9 +1,10 @@
 //! The netlist and the calls that build it.
 
-ghost use Rattle.std.specs.Prelude.{◌≡◌, ◌≢◌, ◌+◌, ◌<◌, ◌≤◌, ◌^◌, ◌++◌, ◌∷◌, [], ℕ, List, Some, None, Ok, true, false, IfOk, OnOk, OnErr, IfSome, IfNone, IsTrue, length, slice_get, if◌then◌else◌};
+ghost use Rattle.std.specs.Prelude.{◌≡◌, ◌≢◌, ◌+◌, ◌<◌, ◌≤◌, ◌^◌, ◌++◌, ◌∷◌, [], ℕ, List, Some, None, Ok, true, false, IfOk, OnOk, OnErr, IfSome, IfNone, IsTrue, length, slice_get, if◌then◌else◌, cond};
 ghost use Rattle.std.specs.Bool.{OnTrue, OnFalse};
 ghost use Rattle.std.specs.Str.{bytes_eq};
-ghost use Rattle.rtl_net.specs.Names.{Lacks, clock, is_identifier, is_net_name};
+ghost use Rattle.rtl_net.specs.Places.{place_of};
+ghost use Rattle.rtl_net.specs.Names.{clock, is_identifier, is_net_name};
 ghost use Rattle.rtl_net.specs.Value.{At, expr_width, expr_value, under};
 ghost use Rattle.rtl_net.specs.Net.{Net, Settles, Extends, Keeps, Grows, IsNode, IsInput, IsWire, IsWidth, CanWire, CanReset, CanDrive, Has, HasClock, Awaits, registers_of, undriven, width_in, widths};
 ghost use Rattle.rtl_net.specs.Ports.{IsNew, IsFree, is_named, seated};
@@ -34,15 +35,16 @@ pub struct Netlist {
 }
 
 impl Model for Netlist {
-    ghost use Rattle.std.specs.Prelude.{◌≡◌, map};
+    ghost use Rattle.std.specs.Prelude.{map};
     ghost use Rattle.rtl_net.specs.Net.{Net, registers_of};
     ghost use Rattle.rtl_net.specs.Made.{IsMade};
+    ghost use Rattle.rtl_net.specs.Places.{HasNames};
 
     ghost Value = { Net };
 
     ghost view = { λ n. record { name = n.name; nodes = n.nodes; seats = n.ports } };
 
-    ghost invariant = { λ n. IsMade (record { name = n.name; nodes = n.nodes; seats = n.ports }) × (n.registers ≡ map (λ r. r.name) (registers_of n.nodes)) };
+    ghost invariant = { λ n. IsMade (record { name = n.name; nodes = n.nodes; seats = n.ports }) × HasNames n.registers (map (λ r. r.name) (registers_of n.nodes)) };
 }
 
 fn copied(alloc: Global, bytes: &[u8]) -> Result<Text, NoMemory>
@@ -95,7 +97,7 @@ fn add_input(
     Ok(id)
 }
 
-/// Puts a register and its name at the end, or changes nothing.
+/// Puts a register at the end and its number under its name, or changes nothing.
 fn add_register(
     alloc: Global,
     nodes: &mut Nodes,
@@ -104,12 +106,11 @@ fn add_register(
     width: u8,
     reset: NetReset,
 ) -> Result<Id, NoMemory>
-    requires { Lacks names.old name.now }
     ensures id { IfOk result (λ id. id.0 ≡ length nodes.old) }
     ensures nodes { OnOk result (nodes.new ≡ nodes.old ++ NetNode.Register name.now width reset None ∷ []) }
-    ensures names { OnOk result (names.new ≡ names.old ++ name.now ∷ []) }
+    ensures names { IfOk result (λ id. (n : List ℕ) → place_of names.new n ≡ cond (bytes_eq name.now n) (Some id.0) (place_of names.old n)) }
     ensures same_nodes { OnErr result (nodes.new ≡ nodes.old) }
-    ensures same_names { OnErr result (names.new ≡ names.old) }
+    ensures same_names { OnErr result ((n : List ℕ) → place_of names.new n ≡ place_of names.old n) }
 {
     let node = NetNode::Register {
         name: copied(alloc, name)?,
@@ -118,7 +119,7 @@ fn add_register(
         next: None,
     };
     let id = nodes.push(node, width)?;
-    if names.push(alloc, name).is_err() {
+    if names.put(alloc, name, id.0).is_err() {
         nodes.pop();
         return Err(NoMemory);
     }

@@ -3,7 +3,7 @@
 use rb_base::Text;
 
 /// A node's number: its place among the nodes of its netlist, from 0.
-#[derive(Clone, Copy, Debug, PartialEq, Eq, Hash)]
+#[derive(Clone, Copy, Debug, PartialEq, Eq, PartialOrd, Ord, Hash)]
 pub struct Id(pub usize);
 
 /// A register's asynchronous reset: none, or by a one-bit input that is active at 0 where it is `low` and else at 1.
@@ -20,7 +20,7 @@ pub enum NetReset {
 /// operand above its second. `All`, `Any` and `Odd` reduce all bits to one by and, or, and exclusive or. `Add` and `Sub`
 /// are modulo the width. `Eq` and `Lt` give one bit, and compare unsigned numbers. `Pick` is its second operand where
 /// its first is 1, and else its third.
-#[derive(Clone, Copy, Debug, PartialEq, Eq, Hash)]
+#[derive(Clone, Copy, Debug, PartialEq, Eq, PartialOrd, Ord, Hash)]
 pub enum NetExpr {
     Const(u8, u128),
     Part(Id, u8, u8),

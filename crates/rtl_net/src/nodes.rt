@@ -1,37 +1,39 @@
 //! The nodes in order, with their widths, and the wires found by their expressions.
 
-ghost use Rattle.std.specs.Prelude.{◌≡◌, ◌≢◌, ◌<◌, ◌+◌, ◌^◌, ◌++◌, ◌∷◌, [], ℕ, List, Option, false, OnOk, OnErr, IfOk, IfSome, IfNone, slice_get, slice_index, slice_set, Some, None, length, Contains};
+ghost use Rattle.std.specs.Prelude.{◌≡◌, ◌≢◌, ◌<◌, ◌+◌, ◌^◌, ◌++◌, ◌∷◌, [], ℕ, List, Option, false, OnOk, OnErr, IfOk, IfSome, IfNone, slice_get, slice_index, slice_set, Some, None, length, cond};
 ghost use Rattle.rtl_net.specs.Value.{node_width, expr_width, widths_after};
-ghost use Rattle.rtl_net.specs.Shared.{wires_from, is_wire, LacksWire};
-ghost use Rattle.rtl_net.specs.declared.node.Id.{Id as IdOf};
+ghost use Rattle.std.specs.BTreeMap.{is_at};
+ghost use Rattle.rtl_net.specs.Shared.{wire_under, is_wire, LacksWire};
+ghost use Rattle.rtl_net.specs.contracts.node.NetExprOrd.TheImpl.{cmp-value};
+ghost use Rattle.rtl_net.specs.declared.node.NetExpr.{NetExpr as ExprOf};
 ghost use Rattle.rtl_net.specs.declared.node.NetNode.{NetNode as NodeOf};
 ghost use Rattle.rtl_net.specs.declared.node.NetReset.{NetReset as ResetOf};
 
 use crate::node::{Id, NetExpr, NetNode};
-use indexmap::IndexMap;
 use rb_base::NoMemory;
 use std::alloc::Global;
+use std::collections::BTreeMap;
 use std::marker::Model;
 
-/// The nodes in order.
+/// The nodes in order. A source may choose constants, so wires are found in order and not by a hash.
 #[derive(Drop)]
 pub(crate) struct Nodes {
     nodes: Vec<NetNode>,
     widths: Vec<u8>,
-    wires: IndexMap<NetExpr, Id>,
+    wires: BTreeMap<NetExpr, Id>,
 }
 
 impl Model for Nodes {
     ghost use Rattle.std.specs.Prelude.{List, [], ◌≡◌};
     ghost use Rattle.rtl_net.specs.declared.node.NetNode.{NetNode as NodeOf};
     ghost use Rattle.rtl_net.specs.Value.{widths_after};
-    ghost use Rattle.rtl_net.specs.Shared.{wires_from};
+    ghost use Rattle.rtl_net.specs.Shared.{AreWires};
 
     ghost Value = { List NodeOf };
 
     ghost view = { λ n. n.nodes.items };
 
-    ghost invariant = { λ n. (n.widths.items ≡ widths_after [] n.nodes.items) × (n.wires.entries ≡ wires_from 0 n.nodes.items) };
+    ghost invariant = { λ n. (n.widths.items ≡ widths_after [] n.nodes.items) × AreWires n.wires n.nodes.items };
 }
 
 /// Puts a node and its width at the end, or changes nothing.
@@ -65,18 +67,9 @@ fn pop(nodes: &mut Vec<NetNode>, widths: &mut Vec<u8>)
     let _ = widths.pop();
 }
 
-/// The wire of an expression.
-fn wire_of(wires: &IndexMap<NetExpr, Id>, expr: NetExpr) -> Option<Id>
-    ensures found { IfSome result (λ id. Contains wires.now.entries (expr, id)) }
-    ensures absent { IfNone result ((id : IdOf) → ¬ (Contains wires.now.entries (expr, id))) }
-{
-    wires.get(&expr).copied()
-}
-
-/// Notes the wire of an expression that has none, or changes nothing.
-fn note(wires: &mut IndexMap<NetExpr, Id>, expr: NetExpr, id: Id) -> Result<(), NoMemory>
-    requires { (id : IdOf) → ¬ (Contains wires.old.entries (expr, id)) }
-    ensures ok { OnOk result (wires.new.entries ≡ wires.old.entries ++ (expr, id) ∷ []) }
+/// Notes the wire of an expression, or changes nothing.
+fn note(wires: &mut BTreeMap<NetExpr, Id>, expr: NetExpr, id: Id) -> Result<(), NoMemory>
+    ensures ok { OnOk result ((e : ExprOf) → wire_under wires.new e ≡ cond (is_at (cmp-value.it expr) e) (Some id) (wire_under wires.old e)) }
     ensures err { OnErr result (wires.new.entries ≡ wires.old.entries) }
 {
     wires.insert(expr, id)?;
@@ -87,15 +80,14 @@ fn note(wires: &mut IndexMap<NetExpr, Id>, expr: NetExpr, id: Id) -> Result<(), 
 fn push_wire(
     nodes: &mut Vec<NetNode>,
     widths: &mut Vec<u8>,
-    wires: &mut IndexMap<NetExpr, Id>,
+    wires: &mut BTreeMap<NetExpr, Id>,
     expr: NetExpr,
     width: u8,
 ) -> Result<Id, NoMemory>
-    requires { (id : IdOf) → ¬ (Contains wires.old.entries (expr, id)) }
     ensures id { IfOk result (λ id. id.0 ≡ length nodes.old.items) }
     ensures nodes { OnOk result (nodes.new.items ≡ nodes.old.items ++ NetNode.Wire expr ∷ []) }
     ensures widths { OnOk result (widths.new.items ≡ widths.old.items ++ width ∷ []) }
-    ensures wires { IfOk result (λ id. wires.new.entries ≡ wires.old.entries ++ (expr, id) ∷ []) }
+    ensures wires { IfOk result (λ id. (e : ExprOf) → wire_under wires.new e ≡ cond (is_at (cmp-value.it expr) e) (Some id) (wire_under wires.old e)) }
     ensures same_nodes { OnErr result (nodes.new.items ≡ nodes.old.items) }
     ensures same_widths { OnErr result (widths.new.items ≡ widths.old.items) }
     ensures same_wires { OnErr result (wires.new.entries ≡ wires.old.entries) }
@@ -135,7 +127,7 @@ impl Nodes {
         Nodes {
             nodes: Vec::new(alloc),
             widths: Vec::new(alloc),
-            wires: IndexMap::new(alloc),
+            wires: BTreeMap::new(alloc),
         }
     }
 
@@ -157,7 +149,7 @@ impl Nodes {
         ensures found { IfSome result (λ id. slice_get self.now id.0 ≡ Some (NetNode.Wire expr)) }
         ensures absent { IfNone result (LacksWire self.now expr) }
     {
-        wire_of(&self.wires, expr)
+        self.wires.get(&expr).copied()
     }
 
     /// Puts an input or a register at the end, or changes nothing.

@@ -1,7 +1,8 @@
 //! The ports in order, found by their names.
 
-ghost use Rattle.std.specs.Prelude.{◌≡◌, ◌<◌, ◌++◌, ◌∷◌, [], List, ℕ, OnOk, OnErr, IfSome, IfNone, slice_get, slice_set, Some, take, length};
+ghost use Rattle.std.specs.Prelude.{◌≡◌, ◌<◌, ◌++◌, ◌∷◌, [], List, ℕ, OnOk, OnErr, IfSome, IfNone, slice_get, slice_set, Some, take, length, cond, bytes_eq};
 ghost use Rattle.rtl_net.specs.Names.{Lacks};
+ghost use Rattle.rtl_net.specs.Places.{place_of};
 ghost use Rattle.rtl_net.specs.Ports.{seat_names, seated, taken_in};
 ghost use Rattle.rtl_net.specs.declared.node.Seat.{Seat as SeatOf};
 
@@ -15,45 +16,45 @@ use std::marker::Model;
 #[derive(Drop)]
 pub(crate) struct Ports {
     seats: Vec<Seat>,
-    names: Names,
+    places: Names,
 }
 
 impl Model for Ports {
-    ghost use Rattle.std.specs.Prelude.{List, ◌≡◌};
+    ghost use Rattle.std.specs.Prelude.{List};
     ghost use Rattle.rtl_net.specs.Ports.{seat_names};
+    ghost use Rattle.rtl_net.specs.Places.{ArePlaces};
     ghost use Rattle.rtl_net.specs.declared.node.Seat.{Seat as SeatOf};
 
     ghost Value = { List SeatOf };
 
     ghost view = { λ ports. ports.seats.items };
 
-    ghost invariant = { λ ports. ports.names ≡ seat_names ports.seats.items };
+    ghost invariant = { λ ports. ArePlaces ports.places (seat_names ports.seats.items) };
 }
 
-/// Puts a seat and its name at the end, or changes nothing.
+/// Puts a seat at the end and its place under its name, or changes nothing.
 fn push(
     alloc: Global,
     seats: &mut Vec<Seat>,
-    names: &mut Names,
+    places: &mut Names,
     name: &[u8],
     width: u8,
     taken: Option<Occupant>,
 ) -> Result<(), NoMemory>
-    requires { Lacks names.old name.now }
     ensures seats { OnOk result (seats.new.items ≡ seats.old.items ++ record { name = name.now; width = width; taken = taken } ∷ []) }
-    ensures names { OnOk result (names.new ≡ names.old ++ name.now ∷ []) }
+    ensures places { OnOk result ((n : List ℕ) → place_of places.new n ≡ cond (bytes_eq name.now n) (Some (length seats.old.items)) (place_of places.old n)) }
     ensures same_seats { OnErr result (seats.new.items ≡ seats.old.items) }
-    ensures same_names { OnErr result (names.new ≡ names.old) }
+    ensures same_places { OnErr result ((n : List ℕ) → place_of places.new n ≡ place_of places.old n) }
 {
     let bytes = Vec::from_slice(alloc, name)?;
-    names.push(alloc, name)?;
-    let seat = Seat {
+    let place = seats.len();
+    seats.push(Seat {
         name: Text { bytes },
         width,
         taken,
-    };
-    if seats.push(seat).is_err() {
-        names.pop();
+    })?;
+    if places.put(alloc, name, place).is_err() {
+        let _ = seats.pop();
         return Err(NoMemory);
     }
     Ok(())
@@ -83,7 +84,7 @@ impl Ports {
     {
         Ports {
             seats: Vec::new(alloc),
-            names: Names::new(alloc),
+            places: Names::new(alloc),
         }
     }
 
@@ -99,7 +100,7 @@ impl Ports {
         ensures first { IfSome result (λ i. Lacks (take i (seat_names self.now)) name.now) }
         ensures absent { IfNone result (Lacks (seat_names self.now) name.now) }
     {
-        self.names.find(name)
+        self.places.find(name)
     }
 
     /// What has taken the seat of the name.
@@ -124,7 +125,8 @@ impl Ports {
         ensures ok { OnOk result (self.new ≡ self.old ++ record { name = name.now; width = width; taken = taken } ∷ []) }
         ensures err { OnErr result (self.new ≡ self.old) }
     {
-        push(alloc, &mut self.seats, &mut self.names, name, width, taken)
+        push(alloc, &mut self.seats, &mut self.places, name, width, taken)?;
+        Ok(())
     }
 
     /// Takes the seat of the name, or puts a taken one at the end, or changes nothing.

@@ -3,6 +3,7 @@ use Rattle.rtl_net.specs.Value.{under}
 use Rattle.rtl_net.specs.Net.{Awaits, Stands, registers_of, undriven}
 use Rattle.rtl_net.specs.contracts.net.Netlist.{the_view}
 use Rattle.rtl_net.proofs.Calls.{Driven, register_driven, with_nodes, one_waiting}
+use Rattle.rtl_net.proofs.NameLists.{names_moved}
 use Rattle.rtl_net.proofs.net.Netlist.drive.Goals as goal
 
 tied : (c : goal.After-tie) → Driven (the_view c.self.inside) (with_nodes (the_view c.self.inside) c.tie.new.self) c.args.reg c.args.next c.requires.name c.requires.reset
@@ -12,7 +13,7 @@ tied c =
     register_driven (the_view c.self.inside) _ _ _ _ _ _ c.self.invariant.0 a s (c.tie.ensures _ _ _ a.is)
 
 pub invariant_of-self : goal.invariant_of-self
-invariant_of-self c = ((tied c).made, c.self.invariant.1 ∙ ap (map (λ r. r.name)) (sym (tied c).registers))
+invariant_of-self c = ((tied c).made, names_moved _ _ _ c.self.invariant.1 (ap (map (λ r. r.name)) (sym (tied c).registers)))
 
 pub returns-clause-older : goal.returns-clause-older
 returns-clause-older c = rw (← c.self.view_is) (tied c).older

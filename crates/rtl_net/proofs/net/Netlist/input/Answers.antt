@@ -3,6 +3,7 @@ use Rattle.rtl_net.specs.Net.{registers_of}
 use Rattle.rtl_net.specs.Ports.{IsFree}
 use Rattle.rtl_net.specs.contracts.net.Netlist.{the_view}
 use Rattle.rtl_net.proofs.Calls.{InputAdded, input_added}
+use Rattle.rtl_net.proofs.NameLists.{names_moved}
 use Rattle.rtl_net.proofs.net.Netlist.input.Goals as goal
 
 added : (c : goal.In_ok-id) → InputAdded (the_view c.self.inside) (record { name = c.self.inside.name; nodes = c.add_input.new.nodes; seats = c.add_input.new.ports }) c.args.name.now c.args.width c.in_ok-id.id
@@ -12,7 +13,7 @@ added c =
     input_added (the_view c.self.inside) _ _ _ _ _ c.self.invariant.0 c.requires.named c.requires.wide c.requires.clock free e.id e.nodes e.ports
 
 pub invariant_of-self-2 : goal.invariant_of-self-2
-invariant_of-self-2 c = ((added c).made, c.self.invariant.1 ∙ (added c).names)
+invariant_of-self-2 c = ((added c).made, names_moved _ _ _ c.self.invariant.1 (added c).names)
 
 pub returns-clause-older : goal.returns-clause-older
 returns-clause-older c = rw (← c.self.view_is) (added c).older

@@ -3,6 +3,7 @@ use Rattle.rtl_net.specs.Net.{CanWire}
 use Rattle.rtl_net.specs.contracts.net.Netlist.{the_view}
 use Rattle.rtl_net.proofs.Places.{slice_get-within}
 use Rattle.rtl_net.proofs.Calls.{WireAdded, wire_added, standing_node, with_nodes}
+use Rattle.rtl_net.proofs.NameLists.{names_moved}
 use Rattle.rtl_net.proofs.net.Netlist.wire.Goals as goal
 
 pub returns-in-Some-clause-node : goal.returns-in-Some-clause-node
@@ -16,7 +17,7 @@ added c =
     wire_added (the_view c.self.inside) _ _ _ c.self.invariant.0 can c.in_default.ensures.absent c.in_ok-id.ensures.id c.in_ok-id.ensures.ok
 
 pub invariant_of-self-2 : goal.invariant_of-self-2
-invariant_of-self-2 c = ((added c).made, c.self.invariant.1 ∙ (added c).names)
+invariant_of-self-2 c = ((added c).made, names_moved _ _ _ c.self.invariant.1 (added c).names)
 
 pub returns-clause-older : goal.returns-clause-older
 returns-clause-older c = rw (← c.self.view_is) (added c).older

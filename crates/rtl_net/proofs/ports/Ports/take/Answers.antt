@@ -1,4 +1,5 @@
-use Rattle.std.proofs.Common.{◌≡◌, ◌∙◌, sym, ap, slice_get, Some}
+use Rattle.std.proofs.Common.{◌≡◌, ◌∙◌, sym, ap, subst, slice_get, Some}
+use Rattle.rtl_net.specs.Places.{ArePlaces}
 use Rattle.rtl_net.specs.Ports.{seat_names, seated}
 use Rattle.rtl_net.proofs.PortLists.{seat_at, taken_by, seated-found, seated-new, seat_names-set}
 use Rattle.rtl_net.proofs.ports.Ports.take.Goals as goal
@@ -7,7 +8,7 @@ pub invariant_of-self : goal.invariant_of-self
 invariant_of-self c =
     let found : slice_get (seat_names c.self.inside.seats.items) c.in-Some.at ≡ Some c.args.name.now = rw c.self.view_is c.in-Some.ensures.found in
     let s = seat_at c.self.inside.seats.items c.in-Some.at c.args.name.now found in
-    c.self.invariant ∙ sym (ap seat_names (c.mark.ensures s.0 s.1) ∙ seat_names-set c.self.inside.seats.items c.in-Some.at s.0 (taken_by s.0 c.args.taken) s.1 (λ i. s.0.name))
+    subst (ArePlaces c.self.inside.places) (sym (ap seat_names (c.mark.ensures s.0 s.1) ∙ seat_names-set c.self.inside.seats.items c.in-Some.at s.0 (taken_by s.0 c.args.taken) s.1 (λ i. s.0.name))) c.self.invariant
 
 pub returns-in-Some-clause-ok : goal.returns-in-Some-clause-ok
 returns-in-Some-clause-ok c =
