@@ -1,9 +1,8 @@
 -- The places of a block's input pins, by name.
 use Rattle.std.specs.Prelude.{◌≡◌, ℕ, Option, Some, IsSome, List, length, slice_get}
-use Rattle.std.specs.Str.{bytes_eq}
-use Rattle.std.specs.HashMap.{HashMap, get_by}
-use Rattle.std.specs.declared.hash.FoldHasher.{FoldHasher}
-use Rattle.std.specs.declared.hash.BuildHasherDefault.{BuildHasherDefault}
+use Rattle.std.specs.BTreeMap.{BTreeMap, get_by}
+use Rattle.std.specs.Cmp.Lexicographic.{slice_cmp}
+use Rattle.std.specs.Ordering.{nat_cmp}
 use denote.Ref.{Bor}
 use Rattle.rb_base.specs.declared.ports.Pin.{Pin}
 use Rattle.rb_model.specs.Ports.{input_pins}
@@ -12,11 +11,11 @@ use Rattle.block_plan.specs.declared.places.Places.{Places}
 
 -- places by name
 abbrev pub Known : Type 0
-Known = HashMap (Bor (List ℕ)) ℕ (BuildHasherDefault FoldHasher)
+Known = BTreeMap (Bor (List ℕ)) ℕ
 
 -- the place of a name, if it has one
 abbrev pub known_at : Known → List ℕ → Option ℕ
-known_at known name = get_by (λ k. bytes_eq name k.now) known
+known_at known name = get_by (λ k. slice_cmp nat_cmp name k.now) known
 
 -- the names of these pins have their places, and no other name has one
 pub record AreKnown (pins : List Pin) (known : Known) : Type 0 where

@@ -8,13 +8,13 @@ use crate::plan::{BusPlaces, FieldPlaces, PartPlaces};
 use rb_base::{Dir, NoMemory, Port, Text};
 use rb_model::{Block, Field, Gate, Signal, View};
 use std::alloc::Global;
-use std::collections::HashMap;
+use std::collections::BTreeMap;
 
-/// The places of a block's input pins by name, and how many there are.
+/// The places of a block's input pins by name, and how many there are. A source chooses the names, so they are found in order and not by a hash.
 #[derive(Drop)]
 pub(crate) struct Places<'a> {
     pub block: &'a Block,
-    pub known: HashMap<&'a [u8], usize>,
+    pub known: BTreeMap<&'a [u8], usize>,
     pub end: usize,
 }
 
@@ -36,11 +36,11 @@ fn is_data_input(port: &Port) -> bool
 }
 
 /// The places of the inputs among ports by name, and how many there are.
-fn known_places(alloc: Global, ports: &[Port]) -> Result<(HashMap<&[u8], usize>, usize), NoMemory>
+fn known_places(alloc: Global, ports: &[Port]) -> Result<(BTreeMap<&[u8], usize>, usize), NoMemory>
     ensures known { IfOk result (λ r. AreKnown (inputs_among ports.now) r.0) }
     ensures end { IfOk result (λ r. r.1 ≡ length (inputs_among ports.now)) }
 {
-    let mut known = HashMap::new(alloc);
+    let mut known = BTreeMap::new(alloc);
     let mut end = 0;
     for port in ports {
         if !is_data_input(port) {
