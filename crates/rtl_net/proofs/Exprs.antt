@@ -1,6 +1,6 @@
 -- Expressions in order.
 use Rattle.std.specs.BTreeMap.{is_at}
-use Rattle.std.proofs.Common.{◌≡◌, true, rules, refl}
+use Rattle.std.proofs.Common.{◌≡◌, true, rules}
 use Rattle.rtl_net.specs.declared.node.NetExpr.{NetExpr}
 use Rattle.rtl_net.specs.contracts.node.NetExprOrd.TheImpl.{cmp-value}
 

@@ -1,4 +1,4 @@
-use Rattle.std.proofs.Common.{◌∙◌, sym, subst}
+use Rattle.std.proofs.Common.{sym, subst}
 use Rattle.rtl_net.specs.Net.{CanWire}
 use Rattle.rtl_net.specs.contracts.net.Netlist.{the_view}
 use Rattle.rtl_net.proofs.Places.{slice_get-within}

@@ -1,4 +1,4 @@
-use Rattle.std.proofs.Common.{◌≡◌, ◌∙◌, sym, ap, []}
+use Rattle.std.proofs.Common.{◌≡◌, []}
 use Rattle.rtl_net.specs.Value.{widths_after, node_width}
 use Rattle.rtl_net.proofs.NodeLists.{widths-pushed}
 use Rattle.rtl_net.proofs.Wires.{wires_leaf}

@@ -1,4 +1,4 @@
-use Rattle.std.proofs.Common.{◌≡◌, ◌∙◌, ap, sym, subst, [], ◌++◌, ◌∷◌}
+use Rattle.std.proofs.Common.{sym, subst}
 use Rattle.rtl_net.specs.Names.{Lacks}
 use Rattle.rtl_net.specs.Places.{ArePlaces}
 use Rattle.rtl_net.specs.Ports.{seat_names}
