@@ -6,6 +6,7 @@ use indexmap::IndexMap;
 use rdl_scopes::Components;
 use rdl_tree::{Bound, Def, Env, Item, Kind};
 use rdl_values::Table;
+use std::alloc::Global;
 use std::collections::BTreeMap;
 
 /// A definition in the bodies round its text, with the values of its parameters.
@@ -92,5 +93,19 @@ impl<'a> Bodies<'a> {
         ensures { result ≡ slice_get self.now.sites.items number }
     {
         self.sites.get(number).copied()
+    }
+
+    /// The same bodies and sites, without the keys by which they are found again: for readers, after the last body was opened.
+    pub fn without_keys(self, alloc: Global) -> Self
+        ensures tables { result.tables ≡ self.entry.tables }
+        ensures components { result.components ≡ self.entry.components }
+        ensures list { result.list ≡ self.entry.list }
+        ensures sites { result.sites ≡ self.entry.sites }
+    {
+        Bodies {
+            known: BTreeMap::new(alloc),
+            opened: IndexMap::new(alloc),
+            ..self
+        }
     }
 }
