@@ -21,4 +21,4 @@ names_enum _ = false
 
 -- Where the entries of some node set `encode` to a name, the enumerations are those of the open bodies.
 abbrev pub Serves : Enums → OpenTree → List (Vec PropSetting Global) → Type 0
-Serves t tree es = (k : ℕ) → names_enum (setting_in prop.Encode (entries_at es k)) ≡ true → AreEnumsOfBodies t tree.walk.bodies
+Serves t tree es = (k : ℕ) → names_enum (setting_in prop.Encode (entries_at es k)) ≡ true → AreEnumsOfBodies t tree.bodies

@@ -68,7 +68,7 @@ pub(crate) fn enums_for<'a>(
     if !some_name(entries) {
         return Ok(Enums::none(alloc));
     }
-    let enums = Enums::of(alloc, &tree.walk.bodies)?;
+    let enums = Enums::of(alloc, &tree.bodies)?;
     Ok(enums)
 }
 
@@ -79,7 +79,7 @@ fn meant_from<'a>(
     name: &Name<'a>,
     scope: u32,
 ) -> Option<Meant<'a>>
-    ensures { (e : Elab) (round : Scope) → NamesEnum e tree.now name.now scope round → AreEnumsOfBodies enums.now tree.now.walk.bodies → visible_enum (around round) name.now ≡ option_map (enum_meant enums.now) result }
+    ensures { (e : Elab) (round : Scope) → NamesEnum e tree.now name.now scope round → AreEnumsOfBodies enums.now tree.now.bodies → visible_enum (around round) name.now ≡ option_map (enum_meant enums.now) result }
 {
     let Some(body) = body_round(tree, scope) else {
         return None;
@@ -100,7 +100,7 @@ pub(crate) fn enum_of<'a>(
     enums: &Enums<'a>,
     entries: &[PropSetting<'a>],
 ) -> Option<Meant<'a>>
-    ensures { (e : Elab) (n : Instance) → IsClean e → IsOpenTree e tree.now → Contains (nodes_of e) n → AreEntries (nodes_of e) entries.now (applied_to n) → (names_enum (setting_in props.Encode entries.now) ≡ true → AreEnumsOfBodies enums.now tree.now.walk.bodies)
+    ensures { (e : Elab) (n : Instance) → IsClean e → IsOpenTree e tree.now → Contains (nodes_of e) n → AreEntries (nodes_of e) entries.now (applied_to n) → (names_enum (setting_in props.Encode entries.now) ≡ true → AreEnumsOfBodies enums.now tree.now.bodies)
         → encoded_by n ≡ option_map (enum_meant enums.now) result }
 {
     entries_say();

@@ -110,7 +110,7 @@ pub none_to : (xs : List Row) (tree : OpenTree) (es : List (Vec PropSetting Glob
 none_to xs tree es [] e = record { many = refl; within = omega arith; low = λ k d l. absurd (omega (arith, l)); known = λ e clean settled rows open_ told k n l. absurd (omega (arith, l)) }
 none_to xs tree es (f ∷ fs) e = cc e
 
-pub more_to : (xs : List Row) (tree : OpenTree) (enums : EnumNumbers) (es : List (Vec PropSetting Global)) (i : ℕ) (d : Row) (o : Spot) (facts : List Fact) (fact : Fact) → i < length xs → slice_get tree.spots.items i ≡ Some o → AreNumbersOf enums tree.walk.bodies → FactsTo xs tree es i facts → fact.width ≤ 64
+pub more_to : (xs : List Row) (tree : OpenTree) (enums : EnumNumbers) (es : List (Vec PropSetting Global)) (i : ℕ) (d : Row) (o : Spot) (facts : List Fact) (fact : Fact) → i < length xs → slice_get tree.spots.items i ≡ Some o → AreNumbersOf enums tree.bodies → FactsTo xs tree es i facts → fact.width ≤ 64
     → ((e : Elab) (n : Instance) (beside : List Node) → IsTold e tree enums o (entries_at es i) n → Says beside (get_or xs i d).node.now n → is_unit (kind_of n) ≡ true → width_of n ≤ 64 → IsFact fact n) → FactsTo xs tree es (i + 1) (facts ++ (fact ∷ []))
 more_to xs tree enums es i d o facts fact l listed numbers before low one = record {
   many = (let a = length-push facts fact in let b = before.many in omega (arith, a, b));
@@ -126,19 +126,19 @@ more_to xs tree enums es i d o facts fact l listed numbers before low one = reco
     go e clean settled rows open_ told k n here unit (inr same) =
         let at : slice_get (nodes_of e) i ≡ Some n = subst (λ j. slice_get (nodes_of e) j ≡ Some n) same here in
         let x = row-at e xs i d l rows in
-        let s = spot_there e tree.walk.bodies tree.spots.items (nodes_of e) i o open_.nodes_ listed in
+        let s = spot_there e tree.bodies tree.spots.items (nodes_of e) i o open_.nodes_ listed in
         let row : Some x.node ≡ Some n = sym x.here ∙ at in
         let row-same : x.node ≡ n = cc in
         let spot : Some s.node ≡ Some n = sym s.here ∙ at in
         let spot-same : s.node ≡ n = cc in
         let among = place-in (nodes_of e) i n at in
-        let found : IsTold e tree enums o (entries_at es i) n = record { clean = clean; open_ = open_; numbers = numbers; there = in-to (nodes_of e) n among; spot = subst (IsSpot e tree.walk.bodies o) spot-same s.spot; entries = told.each i n at } in
+        let found : IsTold e tree enums o (entries_at es i) n = record { clean = clean; open_ = open_; numbers = numbers; there = in-to (nodes_of e) n among; spot = subst (IsSpot e tree.bodies o) spot-same s.spot; entries = told.each i n at } in
         subst (λ f. IsFact f n) (sym (at-end facts fact _ k (same ∙ sym before.many))) (one e n x.beside found (subst (Says x.beside (get_or xs i d).node.now) row-same x.says) unit (narrow e n settled among unit))
 
 pub no_spot : (e : Elab) (xs : List Row) (tree : OpenTree) (i : ℕ) (d : Row) → i < length xs → AreRows e xs → IsOpenTree e tree → slice_get tree.spots.items i ≡ None → ⊥
 no_spot e xs tree i d l rows open_ none =
     let x = row-at e xs i d l rows in
-    let both : Some x.node ≡ None = sym x.here ∙ none_there e tree.walk.bodies tree.spots.items (nodes_of e) i open_.nodes_ none in
+    let both : Some x.node ≡ None = sym x.here ∙ none_there e tree.bodies tree.spots.items (nodes_of e) i open_.nodes_ none in
     cc
 
 pub all_to : (xs : List Row) (tree : OpenTree) (es : List (Vec PropSetting Global)) (i : ℕ) (facts : List Fact) → length xs ≤ i → FactsTo xs tree es i facts → (e : Elab) → IsClean e → IsSettled e → AreRows e xs → IsOpenTree e tree → AreTold e es → AreFacts e facts

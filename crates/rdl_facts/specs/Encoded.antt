@@ -23,7 +23,7 @@ body_or (Some o) = o.body
 
 -- the body is open, and the bodies of its numbers are these
 abbrev pub Shows : OpenTree → Option Body → Around → Type 0
-Shows tree o names = (x : Body) × (o ≡ Some x) × HaveEnvs tree.walk.bodies.list.items x.numbers.now names
+Shows tree o names = (x : Body) × (o ≡ Some x) × HaveEnvs tree.bodies.list.items x.numbers.now names
 
 -- A property of a node of the tree is set to the enumeration of this name, which is looked up from the body of this number.
 pub record NamesEnum (e : Elab) (tree : OpenTree) (name : Name) (number : ℕ) (scope : Scope) : Type 0 where

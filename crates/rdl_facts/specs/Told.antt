@@ -19,9 +19,9 @@ use Rattle.rdl_facts.specs.declared.table.EnumNumbers.{EnumNumbers}
 pub record IsTold (e : Elab) (tree : OpenTree) (enums : EnumNumbers) (o : Spot) (es : List PropSetting) (n : Instance) : Type 0 where
   pub clean : IsClean e
   pub open_ : IsOpenTree e tree
-  pub numbers : AreNumbersOf enums tree.walk.bodies
+  pub numbers : AreNumbersOf enums tree.bodies
   pub there : Contains (nodes_of e) n
-  pub spot : IsSpot e tree.walk.bodies o n
+  pub spot : IsSpot e tree.bodies o n
   pub entries : AreEntries (nodes_of e) es (applied_to n)
 
 -- The entries of each node tell of all that applies to it.

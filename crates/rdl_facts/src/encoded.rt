@@ -45,7 +45,7 @@ pub fn body_round<'a>(tree: &OpenTree<'a>, scope: u32) -> Option<Body<'a>>
     ensures { (e : Elab) (name : AnyName) (round : Scope) → NamesEnum e tree.now name scope round → Shows tree.now result (around round) }
 {
     settings_in_bodies();
-    tree.walk.bodies.body(open_body(&tree.spots, scope))
+    tree.bodies.body(open_body(&tree.spots, scope))
 }
 
 // Whether a number needs more bits than these.
@@ -79,7 +79,7 @@ pub(crate) fn has_wide_entry<'a>(
     width: u64,
 ) -> bool
     requires { width ≤ 64 }
-    ensures { (e : Elab) (n : Instance) → IsClean e → IsOpenTree e tree.now → AreNumbersOf enums.now tree.now.walk.bodies → Contains (nodes_of e) n → AreEntries (nodes_of e) entries.now (applied_to n) → width_of n ≡ width → result ≡ encode_too_wide n }
+    ensures { (e : Elab) (n : Instance) → IsClean e → IsOpenTree e tree.now → AreNumbersOf enums.now tree.now.bodies → Contains (nodes_of e) n → AreEntries (nodes_of e) entries.now (applied_to n) → width_of n ≡ width → result ≡ encode_too_wide n }
 {
     entries_say();
     match setting_of(entries, Prop::Encode) {

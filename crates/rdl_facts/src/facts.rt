@@ -60,12 +60,12 @@ fn unit_fact<'a>(
     ensures narrow { IfOk result (λ fact. fact.width ≤ 64) }
     ensures fact { IfOk result (λ fact. (e : Elab) (n : Instance) → IsTold e tree.now enums.now spot.now entries.now n → kind_of n ≡ kind → IsOfText inst.now n → phase.width_of n ≤ 64 → IsFact fact n) }
 {
-    let Some(body) = tree.walk.bodies.body(spot.within) else {
+    let Some(body) = tree.bodies.body(spot.within) else {
         return Ok(no_fact());
     };
     let visible = Chain {
         nearest: None,
-        tables: tree.walk.bodies.tables(),
+        tables: tree.bodies.tables(),
         numbers: body.numbers,
     };
     let width = unit_width(alloc, inst, kind, entries, &visible)?;
@@ -113,7 +113,7 @@ pub fn facts_of<'a>(
     requires { length rows.now ≡ length entries.now }
     ensures { IfOk result (λ facts. (e : Elab) → IsClean e → IsSettled e → AreRows e rows.now → IsOpenTree e tree.now → AreTold e entries.now → AreFacts e facts.items) }
 {
-    let enums = EnumNumbers::of(alloc, &tree.walk.bodies)?;
+    let enums = EnumNumbers::of(alloc, &tree.bodies)?;
     let mut facts = Vec::with_capacity(alloc, rows.len())?;
     for (at, row) in rows.iter().enumerate() {
         let Some(spot) = spot_at(&tree.spots, at) else {

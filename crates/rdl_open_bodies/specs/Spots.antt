@@ -62,6 +62,6 @@ AreSpots e t _ _ = ⊥
 
 -- The root's body is open, and so is that of each node, in order. The items of each stand in order.
 pub record IsOpenTree (e : Elab) (x : OpenTree) : Type 0 where
-  pub in_order : (k : ℕ) (b : Body) → slice_get x.walk.bodies.list.items k ≡ Some b → IsInOrder b.items.now
-  pub root_ : IsOpenAt x.walk.bodies 0 (root e.source.now)
-  pub nodes_ : AreSpots e x.walk.bodies x.spots.items (nodes_of e)
+  pub in_order : (k : ℕ) (b : Body) → slice_get x.bodies.list.items k ≡ Some b → IsInOrder b.items.now
+  pub root_ : IsOpenAt x.bodies 0 (root e.source.now)
+  pub nodes_ : AreSpots e x.bodies x.spots.items (nodes_of e)

@@ -185,5 +185,6 @@ pub fn open_tree<'a>(
     let mut spots = Vec::new(alloc);
     open_signals(alloc, arena, elab, rows, &mut walk, &mut spots)?;
     open_top(alloc, arena, elab, rows, &mut walk, &mut spots)?;
-    Ok(OpenTree { walk, spots })
+    let bodies = walk.bodies.without_keys(alloc);
+    Ok(OpenTree { bodies, spots })
 }

@@ -1,7 +1,7 @@
 //! Where nodes stand among open bodies.
 
+use rdl_bodies::Bodies;
 use rdl_uses::Standing;
-use rdl_walk::Walk;
 
 /// A node among the open bodies, which are known by their numbers.
 #[derive(Clone, Copy)]
@@ -21,7 +21,7 @@ pub struct Spot {
 /// The open bodies of a tree, and its nodes among them, each at its number. The root's body has the number 0.
 #[derive(Drop)]
 pub struct OpenTree<'a> {
-    pub walk: Walk<'a>,
+    pub bodies: Bodies<'a>,
     pub spots: Vec<Spot>,
 }
 

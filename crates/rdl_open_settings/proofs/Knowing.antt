@@ -155,26 +155,26 @@ all_nodes e t (o ∷ os) (n ∷ ns) (suc i) l h = ap (λ xs. n ∷ xs) (all_node
 
 module _ (e : Elab) (tree : OpenTree) (open_ : IsOpenTree e tree) (start : List Fault) (i : ℕ) where
   abbrev pub done : LayerTable → List Fault → ℕ → Type 0
-  done x now k = Done e tree.walk.bodies x start now (take k tree.spots.items) (take k (nodes_of e))
+  done x now k = Done e tree.bodies x start now (take k tree.spots.items) (take k (nodes_of e))
 
   module _ (x y : LayerTable) (before after : List Fault) (o d : Spot) (l : i < length tree.spots.items) (at : o ≡ get_or tree.spots.items i d) where
-    here : IsNth e tree.walk.bodies o (nodes_of e) i
-    here = subst (λ z. IsNth e tree.walk.bodies z (nodes_of e) i) (sym at) (nth e tree.walk.bodies tree.spots.items (nodes_of e) i d l open_.nodes_)
+    here : IsNth e tree.bodies o (nodes_of e) i
+    here = subst (λ z. IsNth e tree.bodies z (nodes_of e) i) (sym at) (nth e tree.bodies tree.spots.items (nodes_of e) i d l open_.nodes_)
 
-    pub next_done : done x before i → ((b : values.Body) → IsOpenAt tree.walk.bodies o.body b → IsKnown tree.walk.bodies x y before after o.body b) → done y after (i + 1)
+    pub next_done : done x before i → ((b : values.Body) → IsOpenAt tree.bodies o.body b → IsKnown tree.bodies x y before after o.body b) → done y after (i + 1)
     next_done h known =
         let front : take (i + 1) tree.spots.items ≡ take i tree.spots.items ++ (o ∷ []) = take_more tree.spots.items i d l ∙ ap (λ z. take i tree.spots.items ++ (z ∷ [])) (sym at) in
-        subst (λ os. Done e tree.walk.bodies y start after os (take (i + 1) (nodes_of e))) (sym front)
-        (subst (Done e tree.walk.bodies y start after (take i tree.spots.items ++ (o ∷ []))) (sym (ap (λ k. take k (nodes_of e)) (add-one i) ∙ here.more)) (done_more e tree.walk.bodies x y start before after (take i tree.spots.items) (take i (nodes_of e)) o here.n h (known (body here.n) here.open_)))
+        subst (λ os. Done e tree.bodies y start after os (take (i + 1) (nodes_of e))) (sym front)
+        (subst (Done e tree.bodies y start after (take i tree.spots.items ++ (o ∷ []))) (sym (ap (λ k. take k (nodes_of e)) (add-one i) ∙ here.more)) (done_more e tree.bodies x y start before after (take i tree.spots.items) (take i (nodes_of e)) o here.n h (known (body here.n) here.open_)))
 
   -- the same, where the spots are listed under another name
   pub next_listed : (x y : LayerTable) (before after : List Fault) (os : List Spot) (same : os ≡ tree.spots.items) (d : Spot) → i < length os → done x before i
-      → ((b : values.Body) → IsOpenAt tree.walk.bodies (get_or os i d).body b → IsKnown tree.walk.bodies x y before after (get_or os i d).body b) → done y after (i + 1)
+      → ((b : values.Body) → IsOpenAt tree.bodies (get_or os i d).body b → IsKnown tree.bodies x y before after (get_or os i d).body b) → done y after (i + 1)
   next_listed x y before after os same d l h known = next_done x y before after (get_or os i d) d (subst (λ ps. i < length ps) same l) (ap (λ ps. get_or ps i d) same) h known
 
   pub all_done : (x : LayerTable) (now : List Fault) → length tree.spots.items ≤ i → done x now i → AreLayersOf e tree x start now
   all_done x now l h =
-      let ns = all_nodes e tree.walk.bodies tree.spots.items (nodes_of e) i l open_.nodes_ in
+      let ns = all_nodes e tree.bodies tree.spots.items (nodes_of e) i l open_.nodes_ in
       let os = take_all i tree.spots.items l in
       record {
         all = h.all;
@@ -185,7 +185,7 @@ module _ (e : Elab) (tree : OpenTree) (open_ : IsOpenTree e tree) (start : List 
 
 -- Bodies that can be judged.
 
-pub root_judged : (e : Elab) (tree : OpenTree) → IsOpenTree e tree → CanJudge tree.walk.bodies 0
+pub root_judged : (e : Elab) (tree : OpenTree) → IsOpenTree e tree → CanJudge tree.bodies 0
 root_judged e tree open_ = record { in_order = open_.in_order; shown = root e.source.now; open_ = open_.root_; distinct = subst (AreDistinct []) (sym (names_bound [] [] e.source.now.items.now)) tt }
 
 node-distinct : (n : Instance) → bound_of n.use_ n.closure ≡ Ok n.bound → AreDistinct [] (body n).names.bound
@@ -217,9 +217,9 @@ nth-bound e t (o ∷ os) [] i d l h g = absurd h
 nth-bound e t (o ∷ os) (n ∷ ns) zero d l h g = (n, h.0.own, g.0)
 nth-bound e t (o ∷ os) (n ∷ ns) (suc i) d l h g = nth-bound e t os ns i d (omega (arith, l)) h.1 g.1
 
-pub node_judged : (e : Elab) (tree : OpenTree) (os : List Spot) (i : ℕ) (d : Spot) → IsOpenTree e tree → os ≡ tree.spots.items → i < length os → CanJudge tree.walk.bodies (get_or os i d).body
+pub node_judged : (e : Elab) (tree : OpenTree) (os : List Spot) (i : ℕ) (d : Spot) → IsOpenTree e tree → os ≡ tree.spots.items → i < length os → CanJudge tree.bodies (get_or os i d).body
 node_judged e tree os i d open_ same l =
-    let h = nth-bound e tree.walk.bodies os (nodes_of e) i d l (subst (λ ps. AreSpots e tree.walk.bodies ps (nodes_of e)) (sym same) open_.nodes_) (all-bound _ e.source.now) in
+    let h = nth-bound e tree.bodies os (nodes_of e) i d l (subst (λ ps. AreSpots e tree.bodies ps (nodes_of e)) (sym same) open_.nodes_) (all-bound _ e.source.now) in
     record { in_order = open_.in_order; shown = body h.0; open_ = h.1; distinct = node-distinct h.0 h.2 }
 
 pub can_read : (t : Bodies) (k : ℕ) (x : Body) → CanJudge t k → slice_get t.list.items k ≡ Some x → CanRead t x

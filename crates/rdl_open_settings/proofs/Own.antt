@@ -51,13 +51,13 @@ module _ (e : Elab) (tree : OpenTree) (r : Node) (o : Spot) (n : Instance) (h : 
   own_reset i some = ap (λ f. f.reset) (own_inst i some).1
 
   -- what the use sees
-  pub use_sees : (x : Body) → slice_get tree.walk.bodies.list.items o.within ≡ Some x → IsAlike (chained tree.walk.bodies.tables.items x.numbers.now) (around n.use_.scope)
+  pub use_sees : (x : Body) → slice_get tree.bodies.list.items o.within ≡ Some x → IsAlike (chained tree.bodies.tables.items x.numbers.now) (around n.use_.scope)
   use_sees x at =
       let both : Some h.spot.use_.open_ ≡ Some x = sym h.spot.use_.here ∙ at in
       let same : h.spot.use_.open_ ≡ x = cc in
-      subst (λ y. IsAlike (chained tree.walk.bodies.tables.items y.numbers.now) (around n.use_.scope)) same h.spot.use_.alike
+      subst (λ y. IsAlike (chained tree.bodies.tables.items y.numbers.now) (around n.use_.scope)) same h.spot.use_.alike
 
-  pub use_open : slice_get tree.walk.bodies.list.items o.within ≡ None → ⊥
+  pub use_open : slice_get tree.bodies.list.items o.within ≡ None → ⊥
   use_open none = let both : Some h.spot.use_.open_ ≡ None = sym h.spot.use_.here ∙ none in cc
 
   pub no_reset : (all : List Instance) (es : List PropSetting) (xs : List Applied) → (out-Node r).inst ≡ None → AreEntries all es xs → AreEntries all es (xs ++ from_instance n.use_)
@@ -84,7 +84,7 @@ module _ (e : Elab) (tree : OpenTree) (x : LayerTable) (count number : ℕ) (r :
       cc
 
   pub own_locals : (l : Layers) → layers_at x o.body ≡ Some l → AreGiven 0 l.locals.items (sound (failures_of (legal_on n)) (locals (body n)))
-  own_locals l found = (scene.layered.all.known o.body l found (body n) (subst (λ k. IsOpenAt tree.walk.bodies k (body n)) same-body known.open_)).1.locals_are
+  own_locals l found = (scene.layered.all.known o.body l found (body n) (subst (λ k. IsOpenAt tree.bodies k (body n)) same-body known.open_)).1.locals_are
 
   pub own_in : (out-Node r).id ≡ number → AreIn (nodes_of e) number (sound (failures_of (legal_on n)) (locals (body n)))
   own_in id = locals_in (nodes_of e) number (failures_of (legal_on n)) (body n) (n, subst (λ k. slice_get (nodes_of e) k ≡ Some n) id h.there, refl)

@@ -47,14 +47,14 @@ spot_found e t x (o ∷ os) (m ∷ ns) (suc k) n h g at =
     record { o = rec.o; here = rec.here; is = rec.is; layers = rec.layers }
 
 pub root_known : (e : Elab) (tree : OpenTree) (x : LayerTable) (count : ℕ) (b : values.Body) → IsScene e tree x count → b ≡ root e.source.now → IsKnownAt tree x (Some 0) b
-root_known e tree x count b scene is = record { k = 0; is = refl; open_ = subst (IsOpenAt tree.walk.bodies 0) (sym is) scene.open_.root_; layers = scene.layered.root_ }
+root_known e tree x count b scene is = record { k = 0; is = refl; open_ = subst (IsOpenAt tree.bodies 0) (sym is) scene.open_.root_; layers = scene.layered.root_ }
 
 module _ (e : Elab) (tree : OpenTree) (x : LayerTable) (count : ℕ) (node : ℕ) (scene : IsScene e tree x count) (n : Instance) (at : slice_get (nodes_of e) node ≡ Some n) where
-  there : IsSpotAt e tree.walk.bodies x tree.spots.items node n
-  there = spot_found e tree.walk.bodies x tree.spots.items (nodes_of e) node n scene.open_.nodes_ scene.layered.nodes_ at
+  there : IsSpotAt e tree.bodies x tree.spots.items node n
+  there = spot_found e tree.bodies x tree.spots.items (nodes_of e) node n scene.open_.nodes_ scene.layered.nodes_ at
 
-  pub spot_there : (o : Spot) → slice_get tree.spots.items node ≡ Some o → IsSpot e tree.walk.bodies o n
-  spot_there o here = let both : Some there.o ≡ Some o = sym there.here ∙ here in let same : there.o ≡ o = cc in subst (λ p. IsSpot e tree.walk.bodies p n) same there.is
+  pub spot_there : (o : Spot) → slice_get tree.spots.items node ≡ Some o → IsSpot e tree.bodies o n
+  spot_there o here = let both : Some there.o ≡ Some o = sym there.here ∙ here in let same : there.o ≡ o = cc in subst (λ p. IsSpot e tree.bodies p n) same there.is
 
   pub node_known : (o : Spot) → slice_get tree.spots.items node ≡ Some o → (b : values.Body) → b ≡ body n → IsKnownAt tree x (Some o.body) b
   node_known o here b is =
@@ -63,18 +63,18 @@ module _ (e : Elab) (tree : OpenTree) (x : LayerTable) (count : ℕ) (node : ℕ
       record {
         k = o.body;
         is = refl;
-        open_ = subst (IsOpenAt tree.walk.bodies o.body) (sym is) (spot_there o here).own;
+        open_ = subst (IsOpenAt tree.bodies o.body) (sym is) (spot_there o here).own;
         layers = subst (λ p. HasLayers x p.body) same there.layers;
       }
 
   pub none_there : slice_get tree.spots.items node ≡ None → ⊥
   none_there none = let both : Some there.o ≡ None = sym there.here ∙ none in cc
 
-pub found_layers : (tree : OpenTree) (x : LayerTable) (r : Option ℕ) (b : values.Body) (body_ : ℕ) → IsKnownAt tree x r b → r ≡ Some body_ → HasLayers x body_ × IsOpenAt tree.walk.bodies body_ b
+pub found_layers : (tree : OpenTree) (x : LayerTable) (r : Option ℕ) (b : values.Body) (body_ : ℕ) → IsKnownAt tree x r b → r ≡ Some body_ → HasLayers x body_ × IsOpenAt tree.bodies body_ b
 found_layers tree x r b body_ h is =
     let both : Some h.k ≡ Some body_ = sym h.is ∙ is in
     let same : h.k ≡ body_ = cc in
-    (subst (HasLayers x) same h.layers, subst (λ k. IsOpenAt tree.walk.bodies k b) same h.open_)
+    (subst (HasLayers x) same h.layers, subst (λ k. IsOpenAt tree.bodies k b) same h.open_)
 
 pub none_known : (tree : OpenTree) (x : LayerTable) (r : Option ℕ) (b : values.Body) → IsKnownAt tree x r b → r ≡ None → ⊥
 none_known tree x r b h is = let both : Some h.k ≡ None = sym h.is ∙ is in cc
@@ -100,7 +100,7 @@ module _ (e : Elab) (tree : OpenTree) (x : LayerTable) (count : ℕ) (scene : Is
   abbrev mine : List Applied
   mine = filter (λ a. is_legal a.candidate.prop (kind_of n)) (flat_map (gives (rank.Default distance)) assigned)
 
-  module _ (k : ℕ) (l : Layers) (open_ : IsOpenAt tree.walk.bodies k b) (found : layers_at x k ≡ Some l) (old new : List PropSetting) (given : List ValidAssignment) (given_is : given ≡ before_in l.defaults upto)
+  module _ (k : ℕ) (l : Layers) (open_ : IsOpenAt tree.bodies k b) (found : layers_at x k ≡ Some l) (old new : List PropSetting) (given : List ValidAssignment) (given_is : given ≡ before_in l.defaults upto)
       (adds : (all : List Instance) (ys : List Applied) (judged : ℕ) (as' : List Assignment) (r : Rank) → AreGiven judged given as' → AreIn all (number_or round count) as' → AreEntries all old ys
       → AreEntries all new (ys ++ filter (λ y. is_legal y.candidate.prop kind) (flat_map (gives r) as'))) (before : AreEntries (nodes_of e) old xs) where
     step : AreEntries (nodes_of e) new (xs ++ mine)

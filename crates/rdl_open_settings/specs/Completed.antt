@@ -33,11 +33,11 @@ pub record IsNode (e : Elab) (tree : OpenTree) (r : Node) (o : Spot) (n : Instan
   pub beside : List Node
   pub says : Says beside r n
   pub listed : slice_get tree.spots.items (out-Node r).id ≡ Some o
-  pub spot : IsSpot e tree.walk.bodies o n
+  pub spot : IsSpot e tree.bodies o n
 
 -- The body of a node or of the root, which is open there, and whose layers are known.
 pub record IsKnownAt (tree : OpenTree) (x : LayerTable) (r : Option ℕ) (b : values.Body) : Type 0 where
   pub k : ℕ
   pub is : r ≡ Some k
-  pub open_ : IsOpenAt tree.walk.bodies k b
+  pub open_ : IsOpenAt tree.bodies k b
   pub layers : HasLayers x k

@@ -88,7 +88,7 @@ of_nodes ns = flat_map (λ n. of_layers (body n)) ns
 
 -- The layers of all bodies of a tree are found, and their failures were put in.
 pub record AreLayersOf (e : Elab) (tree : OpenTree) (x : LayerTable) (before after : List Fault) : Type 0 where
-  pub all : AreLayers tree.walk.bodies after x
+  pub all : AreLayers tree.bodies after x
   pub noted : after ≡ with_all (of_layers (root e.source.now) ++ of_nodes (nodes_of e)) before
   pub root_ : HasLayers x 0
   pub nodes_ : AllByRecursion (λ o. HasLayers x o.body) tree.spots.items

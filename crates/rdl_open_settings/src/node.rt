@@ -37,12 +37,12 @@ fn add_own<'a>(
     let Some(inst) = node.inst else {
         return Ok(());
     };
-    let Some(body) = tree.walk.bodies.body(spot.within) else {
+    let Some(body) = tree.bodies.body(spot.within) else {
         return Ok(());
     };
     let visible = Chain {
         nearest: None,
-        tables: tree.walk.bodies.tables(),
+        tables: tree.bodies.tables(),
         numbers: body.numbers,
     };
     add_reset(list, inst.reset, &visible)?;
@@ -81,12 +81,12 @@ fn judge_unit_of<'a>(
     let Some(inst) = node.inst else {
         return Ok(());
     };
-    let Some(body) = tree.walk.bodies.body(spot.within) else {
+    let Some(body) = tree.bodies.body(spot.within) else {
         return Ok(());
     };
     let visible = Chain {
         nearest: None,
-        tables: tree.walk.bodies.tables(),
+        tables: tree.bodies.tables(),
         numbers: body.numbers,
     };
     judge_unit(alloc, inst, node.kind, node.place, list, &visible, failures)?;

@@ -73,7 +73,7 @@ pub fn judge_layers<'a>(
     let mut table = LayerTable {
         list: IndexMap::new(alloc),
     };
-    let bodies = &tree.walk.bodies;
+    let bodies = &tree.bodies;
     table.judge(alloc, arena, bodies, 0, failures)?;
     for spot in &tree.spots {
         table.judge(alloc, arena, bodies, spot.body, failures)?;

@@ -169,21 +169,21 @@ has-layers x (p ∷ os) zero o h at = let same : p ≡ o = cc in subst (λ q. Ha
 has-layers x (p ∷ os) (suc i) o h at = has-layers x os i o h.1 at
 
 pub to_more : (xs : List Row) (tree : OpenTree) (layers : LayerTable) (start : List Fault) (i : ℕ) (d : Row) (o : Spot) (es fs : List (Vec PropSetting Global)) (before after : List Fault) → i < length xs → slice_get tree.spots.items i ≡ Some o → AssignedTo xs tree layers start i es before
-    → ((e : Elab) (n : Instance) (held : List Fault) → AreRows e xs → AreLayers tree.walk.bodies held layers → HasLayers layers o.body → IsAt (lineages_of e) (out-Node (get_or xs i d).node.now).id n → IsSpot e tree.walk.bodies o n → IsAssigned e n es fs before after)
+    → ((e : Elab) (n : Instance) (held : List Fault) → AreRows e xs → AreLayers tree.bodies held layers → HasLayers layers o.body → IsAt (lineages_of e) (out-Node (get_or xs i d).node.now).id n → IsSpot e tree.bodies o n → IsAssigned e n es fs before after)
     → AssignedTo xs tree layers start (i + 1) fs after
 to_more xs tree layers start i d o es fs before after l listed h one = λ e first held clean rows open_ layered.
-    let r = row_found e tree.walk.bodies tree.spots.items xs i d l rows open_.nodes_ in
+    let r = row_found e tree.bodies tree.spots.items xs i d l rows open_.nodes_ in
     let both : Some r.o ≡ Some o = sym r.listed ∙ listed in
     let same : r.o ≡ o = cc in
     let at = subst (λ k. IsAt (lineages_of e) k r.n) (sym r.number) r.there in
     let all : take (i + 1) (nodes_of e) ≡ take i (nodes_of e) ++ (r.n ∷ []) = ap (λ k. take k (nodes_of e)) (add-one i) ∙ r.more in
     subst (λ ns. AreAssigned e ns fs start after) (sym all)
     (assigned_more e (take i (nodes_of e)) r.n es fs start before after (h e first held clean rows open_ layered)
-    (one e r.n held rows layered.all (has-layers layers tree.spots.items i o layered.nodes_ listed) at (subst (λ p. IsSpot e tree.walk.bodies p r.n) same r.spot)))
+    (one e r.n held rows layered.all (has-layers layers tree.spots.items i o layered.nodes_ listed) at (subst (λ p. IsSpot e tree.bodies p r.n) same r.spot)))
 
 pub no_spot : (e : Elab) (xs : List Row) (tree : OpenTree) (i : ℕ) (d : Row) → i < length xs → AreRows e xs → IsOpenTree e tree → slice_get tree.spots.items i ≡ None → ⊥
 no_spot e xs tree i d l rows open_ none =
-    let r = row_found e tree.walk.bodies tree.spots.items xs i d l rows open_.nodes_ in
+    let r = row_found e tree.bodies tree.spots.items xs i d l rows open_.nodes_ in
     let both : Some r.o ≡ None = sym r.listed ∙ none in
     cc
 

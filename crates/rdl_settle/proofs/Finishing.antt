@@ -184,12 +184,12 @@ pub cut_more : (xs : List Row) (tree : OpenTree) (layers : LayerTable) (count : 
 cut_more xs tree layers count first start i d o es fs before after l listed h one = (
   one.same_length ∙ h.0,
   λ e a b rows scene assigned.
-      let r = row_found e tree.walk.bodies tree.spots.items xs i d l rows scene.open_.nodes_ in
+      let r = row_found e tree.bodies tree.spots.items xs i d l rows scene.open_.nodes_ in
       let both : Some r.o ≡ Some o = sym r.listed ∙ listed in
       let same : r.o ≡ o = cc in
       let size = rows_count e xs scene.clean rows in
       done_more e tree layers count (get_or xs i d).node.now o i r.n es fs start before after scene
-      (record { there = subst (λ k. slice_get (nodes_of e) k ≡ Some r.n) (sym r.number) r.node_there; beside = r.beside; says = r.says; listed = subst (λ k. slice_get tree.spots.items k ≡ Some o) (sym r.number) listed; spot = subst (λ p. IsSpot e tree.walk.bodies p r.n) same r.spot })
+      (record { there = subst (λ k. slice_get (nodes_of e) k ≡ Some r.n) (sym r.number) r.node_there; beside = r.beside; says = r.says; listed = subst (λ k. slice_get tree.spots.items k ≡ Some o) (sym r.number) listed; spot = subst (λ p. IsSpot e tree.bodies p r.n) same r.spot })
       (omega (arith, l, size)) r.there r.more (h.1 e a b rows scene assigned) one,
 )
 

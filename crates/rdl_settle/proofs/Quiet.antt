@@ -112,7 +112,7 @@ all-given m (n ∷ ns) h = ap (λ xs. xs ++ flat_map (from_above m) (map nested 
 pub none_assigned : (e : Elab) (xs : List Row) (tree : OpenTree) (layers : LayerTable) (es : List (Vec PropSetting Global)) (start before held : List Fault) → list_any (λ o. has_dynamics (layers_at layers o.body)) tree.spots.items ≡ false → length es ≡ length xs → ((j : ℕ) → entries_at es j ≡ [])
     → IsClean e → AreRows e xs → IsOpenTree e tree → AreLayersOf e tree layers before held → AreAssigned e (nodes_of e) es start start
 none_assigned e xs tree layers es start before held quiet size none clean rows open_ layered =
-    let all = all-quiet e tree.walk.bodies held layers tree.spots.items (nodes_of e) layered.all open_.nodes_ layered.nodes_ quiet in
+    let all = all-quiet e tree.bodies held layers tree.spots.items (nodes_of e) layered.all open_.nodes_ layered.nodes_ quiet in
     record {
       all_nodes = size ∙ rows_count e xs clean rows;
       noted = sym (ap (λ fs. with_all fs start) (all-failed (nodes_of e) all));

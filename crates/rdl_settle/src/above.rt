@@ -53,10 +53,10 @@ fn assign<'a>(
     entries: &mut Vec<Vec<PropSetting<'a>>>,
     failures: &mut Failures,
 ) -> Result<(), NoMemory>
-    ensures { OnOk result ((e : Elab) (n : Instance) (held : List Fault) → AreRows e rows.now → AreContents e contents.now → AreLayers tree.now.walk.bodies held layers.now → HasLayers layers.now spot.now.body → IsAt (lineages_of e) (out-Node row.now.node.now).id n → IsSpot e tree.now.walk.bodies spot.now n
+    ensures { OnOk result ((e : Elab) (n : Instance) (held : List Fault) → AreRows e rows.now → AreContents e contents.now → AreLayers tree.now.bodies held layers.now → HasLayers layers.now spot.now.body → IsAt (lineages_of e) (out-Node row.now.node.now).id n → IsSpot e tree.now.bodies spot.now n
         → IsAssigned e n entries.old.items entries.new.items failures.old failures.new) }
 {
-    let bodies = &tree.walk.bodies;
+    let bodies = &tree.bodies;
     let Some(body) = bodies.body(spot.body) else {
         return Ok(());
     };

@@ -17,8 +17,8 @@ returns-in_default-place c = λ e round named are.
     let shown = c.body_round.ensures e c.args.name.now round named in
     let both : Some shown.0 ≡ Some c.in-Some.body = sym shown.1 ∙ c.in-Some.is in
     let same : shown.0 ≡ c.in-Some.body = cc in
-    let envs = subst (λ (y : Body). HaveEnvs t.walk.bodies.list.items y.numbers.now (around round)) same shown.2 in
-    c.place.ensures t.walk.bodies (around round) are envs ∙ ap (option_map (enum_found c.args.enums.now c.args.name.now.text.now)) c.in_default-place.is
+    let envs = subst (λ (y : Body). HaveEnvs t.bodies.list.items y.numbers.now (around round)) same shown.2 in
+    c.place.ensures t.bodies (around round) are envs ∙ ap (option_map (enum_found c.args.enums.now c.args.name.now.text.now)) c.in_default-place.is
 
 pub returns : goal.returns
 returns c = λ e round named are.
@@ -26,5 +26,5 @@ returns c = λ e round named are.
     let shown = c.body_round.ensures e c.args.name.now round named in
     let both : Some shown.0 ≡ Some c.in-Some.body = sym shown.1 ∙ c.in-Some.is in
     let same : shown.0 ≡ c.in-Some.body = cc in
-    let envs = subst (λ (y : Body). HaveEnvs t.walk.bodies.list.items y.numbers.now (around round)) same shown.2 in
-    c.place.ensures t.walk.bodies (around round) are envs ∙ ap (option_map (enum_found c.args.enums.now c.args.name.now.text.now)) c.in-Some-place.is
+    let envs = subst (λ (y : Body). HaveEnvs t.bodies.list.items y.numbers.now (around round)) same shown.2 in
+    c.place.ensures t.bodies (around round) are envs ∙ ap (option_map (enum_found c.args.enums.now c.args.name.now.text.now)) c.in-Some-place.is

@@ -7,5 +7,5 @@ use Rattle.rdl_facts.proofs.encoded.body_round.Goals as goal
 pub returns : goal.returns
 returns c = λ e name round h.
     let t = c.args.tree.now in
-    subst (λ o. Shows t o (around round)) (sym (c.body.ensures ∙ ap (slice_get t.walk.bodies.list.items) (c.open_body.ensures ∙ ap (λ os. body_or (slice_get os c.args.scope)) c.deref.ensures.value)))
+    subst (λ o. Shows t o (around round)) (sym (c.body.ensures ∙ ap (slice_get t.bodies.list.items) (c.open_body.ensures ∙ ap (λ os. body_or (slice_get os c.args.scope)) c.deref.ensures.value)))
     (shown c.settings_in_bodies.ensures e t name c.args.scope round h)

@@ -19,8 +19,8 @@ returns-in-Some c = λ e n clean open_ numbers there entries width.
     let shown = c.body_round.ensures e name named.scope (record { clean = clean; open_ = open_; node = n; there = there; prop = prop.Encode; named = named.is; seen_from = named.number }) in
     let both : Some shown.0 ≡ Some x = sym shown.1 ∙ c.in-Some.is in
     let same : shown.0 ≡ x = cc in
-    let envs = subst (λ (y : Body). HaveEnvs t.walk.bodies.list.items y.numbers.now (around named.scope)) same shown.2 in
-    c.is_wide.ensures ∙ of_enum n c.args.width c.greatest.result name named.scope named.is width (c.greatest.ensures t.walk.bodies (around named.scope) numbers envs)
+    let envs = subst (λ (y : Body). HaveEnvs t.bodies.list.items y.numbers.now (around named.scope)) same shown.2 in
+    c.is_wide.ensures ∙ of_enum n c.args.width c.greatest.result name named.scope named.is width (c.greatest.ensures t.bodies (around named.scope) numbers envs)
 
 pub returns-in-None : goal.returns-in-None
 returns-in-None c = λ e n clean open_ numbers there entries width.

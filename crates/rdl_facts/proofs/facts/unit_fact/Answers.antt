@@ -13,7 +13,7 @@ returns-clause-fact c =
     (λ fact h e n told kind text low.
     let t = c.args.tree.now in
     let x = c.in-Some.body in
-    let sees = seen_by t.walk.bodies n c.args.spot.now.within x told.spot.use_ (sym c.body.ensures ∙ c.in-Some.is) in
+    let sees = seen_by t.bodies n c.args.spot.now.within x told.spot.use_ (sym c.body.ensures ∙ c.in-Some.is) in
     let shown = subst (λ ts. IsAlike (chained ts x.numbers.now) (around n.use_.scope)) (sym c.tables.ensures) sees in
     let width = c.in_ok-width.ensures.width (nodes_of e) n told.entries kind text shown low in
     h (nodes_of e) n told.entries kind text shown low (c.has_wide_entry-wide.ensures e n told.clean told.open_ told.numbers told.there told.entries (sym width))) c.fact_of.ensures.fact

@@ -4,7 +4,7 @@ use Rattle.rdl_open_settings.proofs.Knowing.{all_done, done_none, next_listed, n
 use Rattle.rdl_open_settings.proofs.table.judge_layers.Goals as goal
 
 pub loop-spot-init : goal.loop-spot-init
-loop-spot-init c = λ e open_. done_none e c.args.tree.now.walk.bodies _ c.judge.new.self c.args.failures.now c.judge.new.failures (c.in_ok-judge.ensures (root e.source.now) open_.root_)
+loop-spot-init c = λ e open_. done_none e c.args.tree.now.bodies _ c.judge.new.self c.args.failures.now c.judge.new.failures (c.in_ok-judge.ensures (root e.source.now) open_.root_)
 
 pub judge-requires-in-loop-spot : goal.judge-requires-in-loop-spot
 judge-requires-in-loop-spot c = record { kept = (c.loop-spot.invariant c.requires.0 c.requires.1).all; some = node_judged c.requires.0 c.args.tree.now c.deref-spot-items.result.now c.loop-spot.spot-index _ c.requires.1 c.deref-spot-items.ensures.value c.loop-spot-test.true }

@@ -11,7 +11,7 @@ use Rattle.rdl_settle.proofs.above.assign.Goals as goal
 
 pub returns : goal.returns
 returns c = λ e n held rows contents known has at spot.
-    let t = c.args.tree.now.walk.bodies in
+    let t = c.args.tree.now.bodies in
     let x = c.in-Some.body in
     let own = own_is t c.args.spot.now.body x (body n) spot.own (sym c.body.ensures ∙ c.in-Some.is) in
     let shown = subst (λ ts. IsAlike (chained ts x.numbers.now) (around_body n)) (sym c.tables.ensures) (open_alike t x (body n) own) in
