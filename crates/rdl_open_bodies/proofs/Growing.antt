@@ -1,7 +1,8 @@
 -- A node whose body is opened, and those below it.
-use Rattle.std.proofs.Common.{◌≡◌, ◌≢◌, ◌∙◌, ℕ, zero, suc, ◌+◌, ◌-◌, ◌<◌, ◌≤◌, List, [], ◌∷◌, ◌++◌, length, get_or, drop, take, map, flat_map, slice_get, slice_index_or, Option, None, Some, add-one, refl, sym, ap, subst, arith, append_assoc, append-nil}
+use Rattle.std.proofs.Common.{◌≡◌, ◌≢◌, ◌∙◌, ℕ, zero, suc, ◌+◌, ◌-◌, ◌<◌, ◌≤◌, ◌==◌, true, List, [], ◌∷◌, ◌++◌, length, get_or, drop, take, map, flat_map, slice_get, slice_index_or, Option, None, Some, add-one, refl, sym, ap, subst, arith, append_assoc, append-nil}
+use Rattle.std.proofs.lemmas.Bool.{eqb-true}
 use Rattle.std.proofs.lemmas.Grind.{flat_map-append}
-use Rattle.std.proofs.lemmas.List.{length-map, take_all}
+use Rattle.std.proofs.lemmas.List.{length-map, nil_from_length, take_all}
 use Rattle.std.proofs.lemmas.Option.{slice_get-map}
 use Rattle.rdl_tree.specs.declared.node.Elab.{Elab}
 use Rattle.rdl_tree.specs.declared.node.Node.{Node, out-Node}
@@ -226,6 +227,14 @@ module _ (e : Elab) (rows : List Row) (number : ℕ) (x : Start) (levels : ℕ) 
 
   pub spot_v : (n : Instance) → targets.IsAt (lineages_of e) number n → IsSpot e v.bodies o n
   spot_v n at = (own n at).spot_is
+
+  -- nothing is below a node without nodes in it
+  pub none_in : (length nodes_in == 0) ≡ true → (n : Instance) → targets.IsAt (lineages_of e) number n → AreNodesOpen e w v a b (with_below levels n)
+  none_in none n at =
+      let few = few_in n at in
+      let zero_is = eqb-true (length nodes_in) 0 none in
+      let no : children n ≡ [] = nil_from_length (children n) (omega (arith, few, zero_is)) in
+      subst (λ k. AreNodesOpen e w v a b (with_below k n)) less-is (subst (λ ns. AreNodesOpen e w v a b (n ∷ flat_map (with_below one_less) ns)) (sym no) (one_node e w v a b o n (own n at)))
 
   module _ (u : Walk) (xs : List Start) (listed : (n : Instance) → targets.IsAt (lineages_of e) number n → AreInside e v u xs one_less (children n)) where
     pub walking_u : AreWalking u

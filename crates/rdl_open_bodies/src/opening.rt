@@ -127,6 +127,9 @@ pub(crate) fn open_node<'a>(
         return Ok(());
     };
     let nodes = row.node.children;
+    if nodes.is_empty() {
+        return Ok(());
+    }
     let starts = starts_in(alloc, arena, number, &spot, start, nodes.len(), walk)?;
     open_nodes(
         alloc,

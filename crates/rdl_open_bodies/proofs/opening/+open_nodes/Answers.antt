@@ -4,7 +4,7 @@ use Rattle.rdl_values.specs.Lineages.{lineages_of}
 use Rattle.rdl_targets.specs.At.{IsAt, id_of}
 use Rattle.rdl_targets.proofs.Numbered.{no_row}
 use Rattle.rdl_open_bodies.specs.Starts.{CanOpenNode, CanOpenNodes}
-use Rattle.rdl_open_bodies.proofs.Growing.{all_open, can_all, can_ask_v, can_next, far_all, far_more, far_none, few_in, no_levels, none_missing, spot_v, start_v, walking_u, walking_v}
+use Rattle.rdl_open_bodies.proofs.Growing.{all_open, can_all, can_ask_v, can_next, far_all, far_more, far_none, few_in, no_levels, none_in, none_missing, spot_v, start_v, walking_u, walking_v}
 use Rattle.rdl_open_bodies.proofs.opening.+open_nodes.Goals as goal
 
 pub open_node-returns-then-levels-eq0 : goal.open_node-returns-then-levels-eq0
@@ -12,6 +12,9 @@ open_node-returns-then-levels-eq0 t c = λ n at. no_levels c.args.elab.now c.arg
 
 pub open_node-returns-in_default : goal.open_node-returns-in_default
 open_node-returns-in_default t c = λ n at. absurd (no_row c.args.elab.now c.args.rows.now c.args.number n c.requires.rows (sym c.row_at.ensures ∙ c.in_default.is) at)
+
+pub open_node-returns-then-is_empty : goal.open_node-returns-then-is_empty
+open_node-returns-then-is_empty t c = none_in c.args.elab.now c.args.rows.now c.args.number c.args.start.now c.args.levels c.args.walk.now c.open_one.new.walk c.args.spots.now.items c.open_one.new.spots.items c.in_ok-spot.spot c.requires.some c.requires.rows c.in-Some.row (sym c.row_at.ensures ∙ c.in-Some.is) c.if-levels-eq0.false c.requires.walking (λ m start. c.in_ok-spot.ensures c.args.elab.now c.args.levels m start) (sym c.is_empty.ensures ∙ c.if-is_empty.true)
 
 pub open_node-starts_in-requires-clause-walking : goal.open_node-starts_in-requires-clause-walking
 open_node-starts_in-requires-clause-walking t c = walking_v c.args.elab.now c.args.rows.now c.args.number c.args.start.now c.args.levels c.args.walk.now c.open_one.new.walk c.args.spots.now.items c.open_one.new.spots.items c.in_ok-spot.spot c.requires.some c.requires.rows c.in-Some.row (sym c.row_at.ensures ∙ c.in-Some.is) c.if-levels-eq0.false c.requires.walking (λ m start. c.in_ok-spot.ensures c.args.elab.now c.args.levels m start)
