@@ -35,7 +35,7 @@ pub struct Layer<'a> {
 }
 
 impl<'a> Layer<'a> {
-    ghost use Rattle.std.specs.Prelude.{◌++◌, [], ◌∷◌, ℕ, Bool, List, OnOk};
+    ghost use Rattle.std.specs.Prelude.{◌++◌, [], ◌∷◌, ℕ, Bool, List, IfOk, OnOk};
     ghost use Rattle.rdl_base.specs.declared.fault.Fault.{Fault};
     ghost use Rattle.rdl_props.specs.declared.prop.Prop.{Prop};
     ghost use Rattle.rdl_values.specs.Bodies.{Scope, around};
@@ -52,6 +52,16 @@ impl<'a> Layer<'a> {
             taken: AssignedProps::new(alloc),
             given: Vec::new(alloc),
         }
+    }
+
+    /// No assignments yet, and room for what so many give.
+    pub(crate) fn with_room(alloc: Global, room: usize) -> Result<Self, NoMemory>
+        ensures { IfOk result (λ r. (legal : Prop → Bool) (body : ℕ) (start : List Fault) → IsLayer legal body r start start []) }
+    {
+        Ok(Layer {
+            taken: AssignedProps::new(alloc),
+            given: Vec::with_capacity(alloc, room)?,
+        })
     }
 
     /// Reads an assignment in the body of this number behind the others: puts in its failures, V rules in its value, P1 to P6 and P8.

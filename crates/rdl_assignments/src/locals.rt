@@ -39,6 +39,14 @@ fn read_local<'a>(
     }
 }
 
+// How many items assign something to the node.
+fn count_locals(items: &[Item<'_>]) -> usize {
+    items
+        .iter()
+        .filter(|item| matches!(item, Item::Local(_)))
+        .count()
+}
+
 /// Puts in all failures of the assignments of a body to its node, which is of the kind: V rules in values, P1 to P6 and P8. It gives
 /// those that fail none, in text order. The body has the number, and its names and those round it are visible.
 pub fn judge_locals<'a>(
@@ -52,7 +60,7 @@ pub fn judge_locals<'a>(
     ensures noted { OnOk result ((b : Body) → b.items ≡ items.now → IsShown visible.now (b.names ∷ around b.outer) → failures.new ≡ with_all (all_failures (failures_of (λ p. is_legal p kind)) (locals b)) failures.old) }
     ensures given { IfOk result (λ r. (b : Body) → b.items ≡ items.now → IsShown visible.now (b.names ∷ around b.outer) → AreGiven body r.items (sound (failures_of (λ p. is_legal p kind)) (locals b))) }
 {
-    let mut layer = Layer::new(alloc);
+    let mut layer = Layer::with_room(alloc, count_locals(items))?;
     for item in items {
         read_local(&mut layer, item, kind, body, visible, failures)?;
     }

@@ -1,18 +1,19 @@
 use Rattle.std.proofs.Common.{◌≡◌, ◌∙◌, ℕ, ◌≤◌, List, length, get_or, take, flat_map, sym, ap, subst, arith}
 use Rattle.rdl_tree.specs.declared.item.Item.{Item}
 use Rattle.rdl_values.specs.Bodies.{standing}
-use Rattle.rdl_layers.specs.Assignments.{default_in}
+use Rattle.rdl_layers.specs.Assignments.{default_in, defaults_before}
 use Rattle.rdl_layers.specs.Judged.{anywhere, failures_of, sound}
-use Rattle.rdl_assignments.specs.Defaults.{whole}
+use Rattle.rdl_assignments.specs.Defaults.{seen_behind, whole}
+use Rattle.rdl_assignments.specs.Layers.{AreGiven}
 use Rattle.rdl_assignments.proofs.Behind.{counted_more, counts_more, given-length, given_behind}
 use Rattle.rdl_assignments.proofs.Reading.{items_all, locals_more}
 use Rattle.rdl_assignments.proofs.defaults.judge_defaults.Goals as goal
 
 pub loop-item-init : goal.loop-item-init
 loop-item-init c = record {
-  listed = ap length c.new-counts.ensures.items;
+  listed = ap length c.in_ok-counts.ensures.items;
   counted = λ b shown p l. absurd (omega (arith, l));
-  layer = λ b shown. c.new-layer.ensures anywhere c.args.body c.args.failures.now;
+  layer = λ b shown. c.in_ok-layer.ensures anywhere c.args.body c.args.failures.now;
 }
 
 pub loop-item-preserved : goal.loop-item-preserved
@@ -31,5 +32,5 @@ returns-clause-given c = λ b e shown.
     record {
       seen = λ p l.
           let below : p ≤ length c.args.items.now = subst (λ xs. p ≤ length xs) e l in
-          given_behind (failures_of anywhere) c.args.body gs (default_in (whole b) b.outer) b.items p (get_or c.push-2.new.self.items p 0) at_end.given (counted p (let k = c.loop-item-test.false in omega (arith, below, k)) ∙ ap (λ xs. f xs p) (sym e));
+          subst (λ hs. AreGiven c.args.body hs (sound (failures_of anywhere) (defaults_before (seen_behind b p) b.outer))) (sym (c.counted.ensures p)) (given_behind (failures_of anywhere) c.args.body gs (default_in (whole b) b.outer) b.items p (get_or c.push-2.new.self.items p 0) at_end.given (counted p (let k = c.loop-item-test.false in omega (arith, below, k)) ∙ ap (λ xs. f xs p) (sym e)));
     }

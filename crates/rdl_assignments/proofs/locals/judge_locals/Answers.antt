@@ -3,7 +3,7 @@ use Rattle.rdl_assignments.proofs.Reading.{items_all, locals_more}
 use Rattle.rdl_assignments.proofs.locals.judge_locals.Goals as goal
 
 pub loop-item-init : goal.loop-item-init
-loop-item-init c = λ b shown. c.new-layer.ensures _ c.args.body c.args.failures.now
+loop-item-init c = λ b shown. c.in_ok-layer.ensures _ c.args.body c.args.failures.now
 
 pub loop-item-preserved : goal.loop-item-preserved
 loop-item-preserved c = λ b shown. locals_more _ c.args.body c.read_local.new.layer c.args.failures.now c.read_local.new.failures (local_in b) c.args.items.now c.loop-item.item-index c.item-item.result c.loop-item-test.true c.item-item.is (c.in_ok-read_local.ensures c.args.failures.now _ b _ shown (c.loop-item.invariant b shown))
