@@ -183,6 +183,17 @@ module _ (e : Elab) (tree : OpenTree) (open_ : IsOpenTree e tree) (start : List 
         nodes_ = subst (AllByRecursion (λ o. HasLayers x o.body)) os h.nodes_;
       }
 
+-- The same holds of a table in which the same is found.
+pub found_again : (e : Elab) (tree : OpenTree) (x y : LayerTable) (before after : List Fault) → ((k : ℕ) → layers_at y k ≡ layers_at x k) → AreLayersOf e tree x before after → AreLayersOf e tree y before after
+found_again e tree x y before after same h =
+    let on : (j : ℕ) (l : Layers) → layers_at x j ≡ Some l → layers_at y j ≡ Some l = λ j l k. same j ∙ k in
+    record {
+      all = record { known = λ k l g. h.all.known k l (sym (same k) ∙ g) };
+      noted = h.noted;
+      root_ = has-on x y 0 on h.root_;
+      nodes_ = all-on x y tree.spots.items on h.nodes_;
+    }
+
 -- Bodies that can be judged.
 
 pub root_judged : (e : Elab) (tree : OpenTree) → IsOpenTree e tree → CanJudge tree.bodies 0

@@ -25,6 +25,16 @@ use rdl_tree::{Kind, Node};
 use rdl_values::Chain;
 use std::alloc::Global;
 
+// Moves entries to a list with no room to spare.
+fn fit<'a>(alloc: Global, list: &mut Vec<PropSetting<'a>>) -> Result<(), NoMemory>
+    ensures { OnOk result (list.new.items ≡ list.old.items) }
+{
+    if list.len() < list.capacity() {
+        *list = Vec::from_slice(alloc, list.as_slice())?;
+    }
+    Ok(())
+}
+
 // Puts the value that a node's instance has of its own behind others.
 fn add_own<'a>(
     tree: &OpenTree<'a>,
@@ -122,7 +132,7 @@ fn judge_widths<'a>(
 }
 
 /// Puts what decides the properties of a node behind what the bodies above it assign to it: the instance's own value, the body of its
-/// definition, and defaults. Then puts in P9 to P11 of the node.
+/// definition, and defaults. Then puts in P9 to P11 of the node. The list is kept from then on, so it has no room to spare.
 pub fn complete_node<'a>(
     alloc: Global,
     tree: &OpenTree<'a>,
@@ -139,6 +149,7 @@ pub fn complete_node<'a>(
     add_own(tree, node, spot, list)?;
     add_body(layers, node.id, spot, list)?;
     add_rounds(tree, layers, count, node.kind, spot, spot.depth, list)?;
+    fit(alloc, list)?;
     judge_widths(alloc, tree, node, spot, list, failures)?;
     Ok(())
 }

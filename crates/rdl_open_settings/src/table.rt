@@ -21,7 +21,7 @@ pub struct LayerTable<'a> {
 }
 
 impl<'a> LayerTable<'a> {
-    ghost use Rattle.std.specs.Prelude.{◌≡◌, OnOk};
+    ghost use Rattle.std.specs.Prelude.{◌≡◌, ℕ, OnOk};
     ghost use Rattle.std.specs.Option.{option_copied};
     ghost use Rattle.rdl_values.specs.Bodies.{Body as BodyOf};
     ghost use Rattle.rdl_open_bodies.specs.Spots.{IsOpenAt};
@@ -57,6 +57,13 @@ impl<'a> LayerTable<'a> {
         self.list.insert(number, layers)?;
         Ok(())
     }
+
+    // Gives back the room that is not used.
+    fn fit(&mut self)
+        ensures { (number : ℕ) → layers_at self.new number ≡ layers_at self.old number }
+    {
+        self.list.shrink_to_fit();
+    }
 }
 
 /// Puts in all failures of the assignments of the bodies of a tree to its nodes, of their defaults and of their enumerations' entries, of
@@ -78,5 +85,6 @@ pub fn judge_layers<'a>(
     for spot in &tree.spots {
         table.judge(alloc, arena, bodies, spot.body, failures)?;
     }
+    table.fit();
     Ok(table)
 }

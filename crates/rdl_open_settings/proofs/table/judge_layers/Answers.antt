@@ -1,6 +1,6 @@
 use Rattle.std.proofs.Common.{◌≤◌, length, subst}
 use Rattle.rdl_values.specs.Top.{root}
-use Rattle.rdl_open_settings.proofs.Knowing.{all_done, done_none, next_listed, node_judged, root_judged}
+use Rattle.rdl_open_settings.proofs.Knowing.{all_done, done_none, found_again, next_listed, node_judged, root_judged}
 use Rattle.rdl_open_settings.proofs.table.judge_layers.Goals as goal
 
 pub loop-spot-init : goal.loop-spot-init
@@ -14,7 +14,8 @@ loop-spot-preserved c = λ e open_.
     next_listed e c.args.tree.now open_ c.args.failures.now c.loop-spot.spot-index c.loop-spot.table c.judge-in-loop-spot.new.self c.loop-spot.failures c.judge-in-loop-spot.new.failures c.deref-spot-items.result.now c.deref-spot-items.ensures.value _ c.loop-spot-test.true (c.loop-spot.invariant e open_) c.in_ok-judge-2.ensures
 
 pub returns : goal.returns
-returns c = λ e open_. all_done e c.args.tree.now open_ c.args.failures.now c.loop-spot.spot-index c.loop-spot.table c.loop-spot.failures (subst (λ os. length os ≤ c.loop-spot.spot-index) c.deref-spot-items.ensures.value c.loop-spot-test.false) (c.loop-spot.invariant e open_)
+returns c = λ e open_. found_again e c.args.tree.now c.loop-spot.table c.fit.new.self c.args.failures.now c.loop-spot.failures c.fit.ensures
+    (all_done e c.args.tree.now open_ c.args.failures.now c.loop-spot.spot-index c.loop-spot.table c.loop-spot.failures (subst (λ os. length os ≤ c.loop-spot.spot-index) c.deref-spot-items.ensures.value c.loop-spot-test.false) (c.loop-spot.invariant e open_))
 
 pub judge-requires-clause-some : goal.judge-requires-clause-some
 judge-requires-clause-some c = root_judged c.requires.0 c.args.tree.now c.requires.1
