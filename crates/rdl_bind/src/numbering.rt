@@ -5,7 +5,7 @@ ghost use Rattle.rdl_values.specs.Elaboration.{IsClean};
 ghost use Rattle.rdl_nodes.specs.Rows.{AreRows};
 ghost use Rattle.rdl_bind.specs.Numbered.{AreNumbers};
 
-use crate::own::{add_items, before};
+use crate::own::{add_items, before, whats};
 use rb_base::{NoMemory, Place};
 use rdl_nodes::Row;
 use rdl_refs::ItemOf;
@@ -64,15 +64,25 @@ fn small(count: usize) -> Result<u32, NoMemory>
     }
 }
 
+// How many items the nodes of some rows have.
+fn count_items(rows: &[Row<'_>]) -> usize {
+    let mut count: usize = 0;
+    for row in rows {
+        count = count.saturating_add(whats(row.node.kind).len());
+    }
+    count
+}
+
 /// The numbers of the items of a tree, of which these are the rows. The only error is want of memory.
 pub fn item_numbers(alloc: Global, elab: &Elab<'_>, rows: &[Row<'_>]) -> Result<Numbers, NoMemory>
     requires clean { IsClean elab.now }
     requires rows { AreRows elab.now rows.now }
     ensures { IfOk result (AreNumbers elab.now) }
 {
-    let mut items = Vec::new(alloc);
-    let mut places = Vec::new(alloc);
-    let mut firsts = Vec::new(alloc);
+    let count = count_items(rows);
+    let mut items = Vec::with_capacity(alloc, count)?;
+    let mut places = Vec::with_capacity(alloc, count)?;
+    let mut firsts = Vec::with_capacity(alloc, rows.len())?;
     for at in 0..rows.len() {
         let first = small(items.len())?;
         firsts.push(first)?;

@@ -29,7 +29,7 @@ static OF_REG: [What; 2] = [What::Intr, What::Halt];
 static OF_OTHERS: [What; 0] = [];
 
 /// The items of a node of this kind, in order.
-fn whats(kind: Kind) -> &'static [What]
+pub(crate) fn whats(kind: Kind) -> &'static [What]
     ensures { result.now ≡ items_of.whats kind }
 {
     match kind {

@@ -25,7 +25,7 @@ fn node_targets(
 ) -> Result<Vec<Target>, NoMemory>
     ensures { IfOk result (λ ts. (e : AnyElab) (ys : List (AnyProp × Item)) → IsClean e → AreNumbers e numbers.now → AreItemsNamed (nodes_of e) named.now ys → AllHave ys → AreNumbered e ts.items ys) }
 {
-    let mut targets = Vec::new(alloc);
+    let mut targets = Vec::with_capacity(alloc, named.len())?;
     for each in named {
         let Some(item) = numbers.number(each.item) else {
             return Err(NoMemory);
@@ -51,7 +51,7 @@ pub fn ref_targets(
     requires named { AreListed elab.now named.now }
     ensures { IfOk result (λ ts. AreTargets elab.now ts.items) }
 {
-    let mut targets = Vec::new(alloc);
+    let mut targets = Vec::with_capacity(alloc, named.len())?;
     for node in 0..named.len() {
         let numbered = node_targets(alloc, numbers, &named[node])?;
         targets.push(numbered)?;
