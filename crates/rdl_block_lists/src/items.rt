@@ -72,5 +72,6 @@ pub fn block_order(
     for number in order {
         add_shown(known, *number, &mut list)?;
     }
+    list.shrink_to_fit();
     Ok(list)
 }
