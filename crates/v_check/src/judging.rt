@@ -53,7 +53,7 @@ fn judge(
 ///
 /// `Twice`, `Undeclared`, `Driver`, `Width` and `Loop` are judged in this order, each where those before it do not fail,
 /// and answered at its least place. `NoMemory` comes for want of memory alone. Takes time in proportion to the size of
-/// the module, and stack in proportion to the nesting of its expressions.
+/// the module, but for names, each of which is looked up in order, and stack in proportion to the nesting of its expressions.
 pub fn check(
     alloc: Global,
     bytes: &[u8],

@@ -59,7 +59,8 @@ fn unranked(ranks: &[Rank], stmts: &[Stmt]) -> Option<Place>
 }
 
 /// The least place of an assignment from whose net one can go on for ever, from a net to one that its assignment reads.
-/// Takes time in proportion to the size of the statements, and no stack in proportion to a chain of them.
+/// Takes time in proportion to the size of the statements, but for names, each of which is looked up in order, and no stack in
+/// proportion to a chain of them.
 pub(crate) fn looping(
     alloc: Global,
     drivers: &Drivers,

@@ -25,7 +25,7 @@ use v_syntax::{Parsed, VError};
 /// Reads a module of the subset from fewer than 2^32 - 1 bytes (IEEE 1364-2005, annex A).
 ///
 /// The answer is the module exactly where the bytes are a well-formed one, and else their one error with its place; or want of
-/// memory. Names are looked up by `indexmap` maps, whose hash is fixed: who picks a module's names can make them slow.
+/// memory. Names are looked up in order, whoever picks them.
 pub fn read(alloc: Global, bytes: &[u8]) -> Result<Design, VError>
     requires { length bytes.now < 2 ^ 32 - 1 }
     ensures ok { IfOk result (IsDesign bytes.now) }
