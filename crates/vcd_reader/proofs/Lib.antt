@@ -13,3 +13,4 @@ pub mod Taking
 pub mod Values
 pub mod Walking
 pub mod Within
+pub mod WordSets

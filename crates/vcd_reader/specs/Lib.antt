@@ -9,3 +9,4 @@ pub mod Steps
 pub mod Tables
 pub mod Variables
 pub mod Walks
+pub mod WordSets

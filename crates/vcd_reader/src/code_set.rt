@@ -76,7 +76,7 @@ fn note(places: &mut Vec<u32>, code: &[u8], number: usize) -> Result<(), AllocEr
 
 /// Codes that differ, in the order in which they came. Contracts see the list of the codes.
 ///
-/// One of at most three bytes is found at its own place in a table, and any other by its hash. The table has at most
+/// One of at most three bytes is found at its own place in a table, and any other in order. The table has at most
 /// 857,375 numbers of four bytes.
 #[derive(Drop)]
 pub(crate) struct CodeSet<'s> {

@@ -15,8 +15,8 @@ use vcd_syntax::VcdError;
 ///
 /// The variables are pins in the order of their declarations, and there is a row for each time, with the last value that each
 /// variable is given before the next time. Of several problems the one at the least place is answered, and of those at one
-/// place the first in the order of `VcdError`. Want of memory may be answered in place of the table or of a problem. Codes
-/// and names are looked up by `indexmap` sets, whose hash is fixed: who picks them can make look-ups slow.
+/// place the first in the order of `VcdError`. Want of memory may be answered in place of the table or of a problem. Names,
+/// and codes of more than three bytes, are looked up in order, whoever picks them.
 pub fn read(alloc: Global, bytes: &[u8]) -> Result<Waves, VcdError>
     requires { length bytes.now < 2 ^ 32 - 1 }
     ensures table { IfOk result (λ w. IsTable bytes.now w.pins w.rows) }

@@ -1,21 +1,25 @@
 //! Words that differ, in the order in which they came.
 
-use indexmap::IndexSet;
 use std::alloc::{AllocError, Global};
+use std::collections::BTreeMap;
 use std::marker::Model;
 
 /// Words that differ, each found by one look-up. Contracts see the list of the words.
 #[derive(Drop)]
 pub(crate) struct WordSet<'s> {
-    words: IndexSet<&'s [u8]>,
+    words: Vec<&'s [u8]>,
+    places: BTreeMap<&'s [u8], usize>,
 }
 
 impl<'s> Model for WordSet<'s> {
     ghost use Rattle.std.specs.Prelude.{ℕ, List, map};
+    ghost use Rattle.vcd_reader.specs.WordSets.{AreTheirPlaces};
 
     ghost Value = { List (List ℕ) };
 
-    ghost view = { λ s. map (λ w. w.now) s.words.keys };
+    ghost view = { λ s. map (λ w. w.now) s.words.items };
+
+    ghost invariant = { λ s. AreTheirPlaces s.places (map (λ w. w.now) s.words.items) };
 }
 
 impl<'s> WordSet<'s> {
@@ -29,7 +33,8 @@ impl<'s> WordSet<'s> {
         ensures { result ≡ [] }
     {
         WordSet {
-            words: IndexSet::new(alloc),
+            words: Vec::new(alloc),
+            places: BTreeMap::new(alloc),
         }
     }
 
@@ -45,14 +50,14 @@ impl<'s> WordSet<'s> {
     pub fn find(&self, word: &[u8]) -> Option<usize>
         ensures { result ≡ position (bytes_eq word.now) self.now }
     {
-        self.words.get_index_of(word)
+        self.places.get(word).copied()
     }
 
     /// The word of a number.
     pub fn get(&self, at: usize) -> Option<&'s [u8]>
         ensures { option_copied result ≡ slice_get self.now at }
     {
-        self.words.get_index(at).copied()
+        self.words.get(at).copied()
     }
 
     /// Adds a word behind the others, and answers whether it is there before.
@@ -61,7 +66,13 @@ impl<'s> WordSet<'s> {
         ensures words { IfOk result (λ again. self.new ≡ (if again then self.old else self.old ++ word.now ∷ [])) }
         ensures kept { OnErr result (self.new ≡ self.old) }
     {
-        let (_, new) = self.words.insert_full(word)?;
-        Ok(!new)
+        if self.find(word).is_some() {
+            return Ok(true);
+        }
+        let number = self.words.len();
+        self.words.reserve(1)?;
+        self.places.insert(word, number)?;
+        self.words.push_reserved(word);
+        Ok(false)
     }
 }
