@@ -1,6 +1,6 @@
 //! The uses of a body that give nodes.
 
-ghost use Rattle.std.specs.Prelude.{◌≡◌, List, Some, IfOk, slice_get};
+ghost use Rattle.std.specs.Prelude.{◌≡◌, [], List, Some, IfOk, slice_get};
 ghost use Rattle.rdl_values.specs.Bodies.{Body as BodyOf};
 ghost use Rattle.rdl_values.specs.Uses.{parent_of, seen};
 ghost use Rattle.rdl_uses.specs.Placed.{IsParent};
@@ -44,6 +44,13 @@ fn judge<'a>(
     Ok(items)
 }
 
+// No uses.
+fn none<'s, 'a>() -> &'s [Child<'a>]
+    ensures { result.now ≡ [] }
+{
+    &[]
+}
+
 // How many instances some items have.
 fn count_instances(items: &[ItemUses<'_>]) -> usize {
     let mut count: usize = 0;
@@ -54,41 +61,44 @@ fn count_instances(items: &[ItemUses<'_>]) -> usize {
 }
 
 // The uses that give nodes, one by one.
-fn list_uses<'a>(
+fn list_uses<'s, 'a>(
     alloc: Global,
+    scratch: &'s Bump,
     arena: &'a Bump,
     bodies: &mut Bodies<'a>,
     body: &Body<'a>,
     items: &[ItemUses<'a>],
-) -> Result<&'a [Child<'a>], NoMemory>
+) -> Result<&'s [Child<'a>], NoMemory>
     requires { CanList bodies.old body.now items.now }
     ensures { IfOk result (λ r. Lists bodies.old bodies.new body.now items.now r.now) }
 {
-    let mut list = Vec::with_capacity(arena, count_instances(items))?;
+    let mut list = Vec::with_capacity(scratch, count_instances(items))?;
     for item in items {
         add_uses(alloc, arena, bodies, body, item, &mut list)?;
     }
     Ok(into_bump_slice(list))
 }
 
-/// Puts in all failures of the uses in an open body that stands there, and gives those that give nodes, in the order of the text.
-pub fn judge_children<'a>(
+/// Puts in all failures of the uses in an open body that stands there, and gives those that give nodes, in the order of the text. Their
+/// list stands in the arena `scratch`, what outlasts it in the other.
+pub fn judge_children<'s, 'a>(
     alloc: Global,
+    scratch: &'s Bump,
     arena: &'a Bump,
     bodies: &mut Bodies<'a>,
     number: usize,
     parent: Parent,
     failures: &mut Failures,
-) -> Result<&'a [Child<'a>], NoMemory>
+) -> Result<&'s [Child<'a>], NoMemory>
     requires kept { AreKept bodies.old failures.old }
     requires some { CanJudge bodies.old number parent }
     ensures { IfOk result (λ r. (above : List BodyOf) (x : OpenBody) (b : BodyOf) → slice_get bodies.old.list.items number ≡ Some x → IsOpenAs bodies.old x b → IsParent parent (parent_of b)
         → IsJudged bodies.old bodies.new failures.old failures.new r.now (seen above b)) }
 {
     let Some(body) = bodies.body(number) else {
-        return Ok(&[]);
+        return Ok(none());
     };
     let items = judge(alloc, bodies, &body, parent, failures)?;
-    let children = list_uses(alloc, arena, bodies, &body, &items)?;
+    let children = list_uses(alloc, scratch, arena, bodies, &body, &items)?;
     Ok(children)
 }

@@ -22,12 +22,12 @@ fn dims_in<'a>(arena: &'a Bump, dims: &[u64]) -> Result<&'a [u64], NoMemory>
 }
 
 // Puts an instance behind the others.
-fn add_one<'a>(
+fn add_one<'s, 'a>(
     arena: &'a Bump,
     site: usize,
     alias: Option<Name<'a>>,
     one: &SizedInst<'a>,
-    list: &mut Vec<Child<'a>, &'a Bump>,
+    list: &mut Vec<Child<'a>, &'s Bump>,
 ) -> Result<(), NoMemory>
     ensures { OnOk result (AddsOne site alias.entry one.now list.old.items list.new.items) }
 {
@@ -42,12 +42,12 @@ fn add_one<'a>(
 }
 
 // Puts the instances of an item behind the others.
-fn add_given<'a>(
+fn add_given<'s, 'a>(
     arena: &'a Bump,
     site: usize,
     alias: Option<Name<'a>>,
     given: &[SizedInst<'a>],
-    list: &mut Vec<Child<'a>, &'a Bump>,
+    list: &mut Vec<Child<'a>, &'s Bump>,
 ) -> Result<(), NoMemory>
     ensures { OnOk result (AddsGiven site alias.entry given.now list.old.items list.new.items) }
 {
@@ -87,14 +87,14 @@ fn uptos_of(
 }
 
 // Puts the instances of an item behind the others, with the values of their parameters.
-fn add_bound<'a>(
+fn add_bound<'s, 'a>(
     alloc: Global,
     arena: &'a Bump,
     bodies: &mut Bodies<'a>,
     body: &Body<'a>,
     item: &ItemUses<'a>,
     binding: &Binding<'a>,
-    list: &mut Vec<Child<'a>, &'a Bump>,
+    list: &mut Vec<Child<'a>, &'s Bump>,
 ) -> Result<(), NoMemory>
     requires can { CanAdd bodies.old body.now item.now }
     requires given { item.now.uses.given.items ≢ [] }
@@ -109,13 +109,13 @@ fn add_bound<'a>(
 }
 
 /// Puts the instances of an item behind the others.
-pub(crate) fn add_uses<'a>(
+pub(crate) fn add_uses<'s, 'a>(
     alloc: Global,
     arena: &'a Bump,
     bodies: &mut Bodies<'a>,
     body: &Body<'a>,
     item: &ItemUses<'a>,
-    list: &mut Vec<Child<'a>, &'a Bump>,
+    list: &mut Vec<Child<'a>, &'s Bump>,
 ) -> Result<(), NoMemory>
     requires { CanAdd bodies.old body.now item.now }
     ensures { OnOk result (AddsUses bodies.old bodies.new body.now item.now list.old.items list.new.items) }

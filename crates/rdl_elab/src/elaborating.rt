@@ -48,7 +48,8 @@ pub fn elaborate<'a>(
     requires { IsInOrder source.now.items.now }
     ensures { Answers3 (option_copied top.entry) source.now result }
 {
-    let surveyed = survey(alloc, arena, source, bytes_of(top))?;
+    let scratch = Bump::new(alloc);
+    let surveyed = survey(alloc, &scratch, arena, source, bytes_of(top))?;
     if !is_clean(&surveyed) {
         let list = failures_of(alloc, surveyed.walk)?;
         return Err(PhaseError::Faults(list));

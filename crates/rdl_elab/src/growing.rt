@@ -7,12 +7,12 @@ use rdl_walk::Walk;
 
 /// The walk whose bodies the tree is made of, and how many nodes there are so far.
 #[derive(Drop)]
-pub(crate) struct Growing<'a> {
-    pub walk: Walk<'a>,
+pub(crate) struct Growing<'s, 'a> {
+    pub walk: Walk<'s, 'a>,
     pub count: u32,
 }
 
-impl<'a> Growing<'a> {
+impl<'s, 'a> Growing<'s, 'a> {
     /// The number of the next node. The only error is a number behind which a u32 has none.
     pub(crate) fn number(&mut self) -> Result<u32, NoMemory>
         ensures walk { self.new.walk ≡ self.old.walk }

@@ -1,5 +1,7 @@
 //! The nodes below a node, level by level.
 
+ghost use Rattle.std.specs.Prelude.{◌≡◌, []};
+
 use crate::growing::Growing;
 use crate::heads::{Head, len_of, node_of};
 use crate::siblings::Siblings;
@@ -24,7 +26,14 @@ fn count_nodes(children: &[Child<'_>]) -> usize {
     count.min(MOST_NODES) as usize
 }
 
-impl<'a> Growing<'a> {
+// No nodes.
+fn none<'a>() -> &'a [Node<'a>]
+    ensures { result.now ≡ [] }
+{
+    &[]
+}
+
+impl<'s, 'a> Growing<'s, 'a> {
     ghost use Rattle.std.specs.Prelude.{◌≡◌, ◌+◌, ◌<◌, ◌≤◌, List, ℕ, Some, IfOk, OnOk, length, flat_map, slice_get};
     ghost use Rattle.std.specs.List.{AllByRecursion};
     ghost use Rattle.rdl_values.specs.Bodies.{Body as BodyOf};
@@ -73,7 +82,7 @@ impl<'a> Growing<'a> {
         &mut self,
         alloc: Global,
         arena: &'a Bump,
-        children: &'a [Child<'a>],
+        children: &[Child<'a>],
         standing: Standing,
         levels: u8,
     ) -> Result<&'a [Node<'a>], NoMemory>
@@ -85,7 +94,7 @@ impl<'a> Growing<'a> {
             → AreTreesOf rs.now self.old.count rs.now (nodes_in n) self.new.count) }
     {
         if levels == 0 {
-            return Ok(&[]);
+            return Ok(none());
         }
         let below = self.grow_all(alloc, arena, children, standing, levels - 1)?;
         Ok(below)
@@ -97,7 +106,7 @@ impl<'a> Growing<'a> {
         &mut self,
         alloc: Global,
         arena: &'a Bump,
-        children: &'a [Child<'a>],
+        children: &[Child<'a>],
         standing: Standing,
         levels: u8,
     ) -> Result<&'a [Node<'a>], NoMemory>
@@ -121,7 +130,7 @@ impl<'a> Growing<'a> {
         &mut self,
         alloc: Global,
         arena: &'a Bump,
-        child: &'a Child<'a>,
+        child: &Child<'a>,
         standing: Standing,
         levels: u8,
         beside: &mut Siblings<'a>,
@@ -151,7 +160,7 @@ impl<'a> Growing<'a> {
         &mut self,
         alloc: Global,
         arena: &'a Bump,
-        child: &'a Child<'a>,
+        child: &Child<'a>,
         alias: Option<u32>,
         number: u64,
         standing: Standing,

@@ -26,6 +26,7 @@ pub fn measure<'a>(
     ensures { IfOk result (Measures (option_copied top.entry) source.now) }
 {
     over_the_count();
-    let surveyed = survey(alloc, arena, source, bytes_of(top))?;
+    let scratch = Bump::new(alloc);
+    let surveyed = survey(alloc, &scratch, arena, source, bytes_of(top))?;
     Ok(surveyed.walk.count)
 }

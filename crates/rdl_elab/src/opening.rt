@@ -39,7 +39,7 @@ fn env_of<'a>(bodies: &Bodies<'a>, number: usize) -> &'a Env<'a>
     own.env
 }
 
-impl<'a> Growing<'a> {
+impl<'s, 'a> Growing<'s, 'a> {
     ghost use Rattle.rdl_walk.specs.Walking.{AreWalking};
     ghost use Rattle.rdl_bodies.specs.Opened.{CanOpen};
     ghost use Rattle.rdl_elab.specs.Nodes.{IsShown};

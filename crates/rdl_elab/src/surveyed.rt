@@ -13,7 +13,7 @@ pub struct TopSite<'a> {
 /// A source that was walked over: its open bodies, of which the root's has the number 0, all its failures, the count of its nodes, and
 /// its top, if that gives a node.
 #[derive(Drop)]
-pub struct Surveyed<'a> {
-    pub walk: Walk<'a>,
+pub struct Surveyed<'s, 'a> {
+    pub walk: Walk<'s, 'a>,
     pub top: Option<TopSite<'a>>,
 }

@@ -41,7 +41,7 @@ const IN_TOP: Standing = Standing {
 fn grow_signals<'a>(
     alloc: Global,
     arena: &'a Bump,
-    growing: &mut Growing<'a>,
+    growing: &mut Growing<'_, 'a>,
 ) -> Result<&'a [Node<'a>], NoMemory>
     requires walking { AreWalking growing.old.walk }
     requires some { (s : AnySource) × IsRootAt growing.old.walk.bodies s }
@@ -57,7 +57,7 @@ fn grow_signals<'a>(
 fn grow_top<'a>(
     alloc: Global,
     arena: &'a Bump,
-    growing: &mut Growing<'a>,
+    growing: &mut Growing<'_, 'a>,
     top: TopSite<'a>,
 ) -> Result<&'a Node<'a>, NoMemory>
     requires walking { AreWalking growing.old.walk }
@@ -81,7 +81,7 @@ pub fn tree_of<'a>(
     alloc: Global,
     arena: &'a Bump,
     source: &'a Source<'a>,
-    surveyed: Surveyed<'a>,
+    surveyed: Surveyed<'_, 'a>,
 ) -> Result<Elab<'a>, NoMemory>
     requires { IsCleanSurvey source.now surveyed }
     ensures { IfOk result (λ e. (wanted : Option (List ℕ)) → IsSurvey wanted source.now surveyed.entry → Elaborates wanted source.now e) }

@@ -36,7 +36,7 @@ fn open_one<'a>(
     alloc: Global,
     arena: &'a Bump,
     start: &Start<'a>,
-    walk: &mut Walk<'a>,
+    walk: &mut Walk<'_, 'a>,
     spots: &mut Vec<Spot>,
 ) -> Result<Spot, NoMemory>
     requires walking { AreWalking walk.old }
@@ -75,7 +75,7 @@ fn starts_in<'a>(
     spot: &Spot,
     start: &Start<'a>,
     most: usize,
-    walk: &mut Walk<'a>,
+    walk: &mut Walk<'_, 'a>,
 ) -> Result<Vec<Start<'a>>, NoMemory>
     requires walking { AreWalking walk.old }
     requires some { CanAsk walk.old.bodies spot.now.body start.now.standing }
@@ -111,7 +111,7 @@ pub(crate) fn open_node<'a>(
     number: u32,
     start: &Start<'a>,
     levels: u8,
-    walk: &mut Walk<'a>,
+    walk: &mut Walk<'_, 'a>,
     spots: &mut Vec<Spot>,
 ) -> Result<(), NoMemory>
     requires rows { AreRows elab.now rows.now }
@@ -131,17 +131,8 @@ pub(crate) fn open_node<'a>(
         return Ok(());
     }
     let starts = starts_in(alloc, arena, number, &spot, start, nodes.len(), walk)?;
-    open_nodes(
-        alloc,
-        arena,
-        elab,
-        rows,
-        nodes,
-        &starts,
-        levels - 1,
-        walk,
-        spots,
-    )?;
+    let below = levels - 1;
+    open_nodes(alloc, arena, elab, rows, nodes, &starts, below, walk, spots)?;
     Ok(())
 }
 
@@ -155,7 +146,7 @@ pub(crate) fn open_nodes<'a>(
     nodes: &[Node<'a>],
     starts: &[Start<'a>],
     levels: u8,
-    walk: &mut Walk<'a>,
+    walk: &mut Walk<'_, 'a>,
     spots: &mut Vec<Spot>,
 ) -> Result<(), NoMemory>
     requires rows { AreRows elab.now rows.now }

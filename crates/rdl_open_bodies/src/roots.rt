@@ -44,7 +44,7 @@ fn signal_starts<'a>(
     alloc: Global,
     arena: &'a Bump,
     elab: &Elab<'a>,
-    walk: &mut Walk<'a>,
+    walk: &mut Walk<'_, 'a>,
 ) -> Result<Vec<Start<'a>>, NoMemory>
     requires clean { IsClean elab.now }
     requires walking { AreWalking walk.old }
@@ -68,7 +68,7 @@ fn open_signals<'a>(
     arena: &'a Bump,
     elab: &Elab<'a>,
     rows: &[Row<'a>],
-    walk: &mut Walk<'a>,
+    walk: &mut Walk<'_, 'a>,
     spots: &mut Vec<Spot>,
 ) -> Result<(), NoMemory>
     requires clean { IsClean elab.now }
@@ -109,7 +109,7 @@ fn top_start<'a>(
     alloc: Global,
     arena: &'a Bump,
     elab: &Elab<'a>,
-    walk: &mut Walk<'a>,
+    walk: &mut Walk<'_, 'a>,
 ) -> Result<Option<Start<'a>>, NoMemory>
     requires clean { IsClean elab.now }
     requires walking { AreWalking walk.old }
@@ -142,7 +142,7 @@ fn open_top<'a>(
     arena: &'a Bump,
     elab: &Elab<'a>,
     rows: &[Row<'a>],
-    walk: &mut Walk<'a>,
+    walk: &mut Walk<'_, 'a>,
     spots: &mut Vec<Spot>,
 ) -> Result<(), NoMemory>
     requires clean { IsClean elab.now }
@@ -181,7 +181,8 @@ pub fn open_tree<'a>(
 {
     let mut failures = Failures::new(alloc);
     let bodies = open_root(alloc, arena, elab.source.items, &mut failures)?;
-    let mut walk = Walk::new(alloc, bodies, failures);
+    let scratch = Bump::new(alloc);
+    let mut walk = Walk::new(alloc, &scratch, bodies, failures);
     let mut spots = Vec::new(alloc);
     open_signals(alloc, arena, elab, rows, &mut walk, &mut spots)?;
     open_top(alloc, arena, elab, rows, &mut walk, &mut spots)?;

@@ -1,6 +1,6 @@
 //! Bodies that are judged once.
 
-ghost use Rattle.std.specs.Prelude.{◌≡◌};
+ghost use Rattle.std.specs.Prelude.{◌≡◌, []};
 ghost use Rattle.rdl_walk.specs.Walking.{holder_for};
 
 use crate::walk::{Judgement, JudgementKey, Walk};
@@ -21,7 +21,14 @@ fn holder_of(kind: Option<Kind>) -> Holder
     }
 }
 
-impl<'a> Walk<'a> {
+// No uses.
+fn none<'s, 'a>() -> &'s [Child<'a>]
+    ensures { result.now ≡ [] }
+{
+    &[]
+}
+
+impl<'s, 'a> Walk<'s, 'a> {
     ghost use Rattle.std.specs.Prelude.{◌≡◌, ◌++◌, ◌∷◌, [], ℕ, List, Some, IfOk, IfSome, OnOk, slice_get};
     ghost use Rattle.rdl_values.specs.Bodies.{Body as BodyOf};
     ghost use Rattle.rdl_values.specs.Uses.{parent_of, seen};
@@ -32,7 +39,7 @@ impl<'a> Walk<'a> {
     ghost use Rattle.rdl_walk.specs.declared.walk.Judgement.{Judgement as AnyJudgement};
 
     // The judgement of a body that stands there, if there is one.
-    fn find_judged(&self, number: usize, standing: Standing) -> Option<Judgement<'a>>
+    fn find_judged(&self, number: usize, standing: Standing) -> Option<Judgement<'s, 'a>>
         ensures { IfSome result (λ j. (k : ℕ) × (slice_get self.now.judgements.items k ≡ Some j) × (j.body ≡ number) × (j.standing ≡ standing)) }
     {
         let spot = JudgementKey {
@@ -51,7 +58,7 @@ impl<'a> Walk<'a> {
     }
 
     // Puts a judgement behind the others.
-    fn push(&mut self, judgement: Judgement<'a>) -> Result<(), NoMemory>
+    fn push(&mut self, judgement: Judgement<'s, 'a>) -> Result<(), NoMemory>
         ensures bodies { self.new.bodies ≡ self.old.bodies }
         ensures failures { self.new.failures ≡ self.old.failures }
         ensures count { self.new.count ≡ self.old.count }
@@ -75,13 +82,13 @@ impl<'a> Walk<'a> {
         arena: &'a Bump,
         number: usize,
         standing: Standing,
-    ) -> Result<&'a [Child<'a>], NoMemory>
+    ) -> Result<&'s [Child<'a>], NoMemory>
         requires walking { AreWalking self.old }
         requires some { CanAsk self.old.bodies number standing }
         ensures { IfOk result (λ r. (above : List BodyOf) (x : OpenBody) (b : BodyOf) → slice_get self.old.bodies.list.items number ≡ Some x → IsOpenAs self.old.bodies x b → IsParent (parent_at x.kind standing) (parent_of b) → IsAsked self.old self.new r.now (seen above b)) }
     {
         let Some(body) = self.bodies.body(number) else {
-            return Ok(&[]);
+            return Ok(none());
         };
         let parent = Parent {
             holder: holder_of(body.kind),
@@ -89,6 +96,7 @@ impl<'a> Walk<'a> {
         };
         let children = judge_children(
             alloc,
+            self.scratch,
             arena,
             &mut self.bodies,
             number,
@@ -110,7 +118,7 @@ impl<'a> Walk<'a> {
         arena: &'a Bump,
         number: usize,
         standing: Standing,
-    ) -> Result<&'a [Child<'a>], NoMemory>
+    ) -> Result<&'s [Child<'a>], NoMemory>
         requires walking { AreWalking self.old }
         requires some { CanAsk self.old.bodies number standing }
         ensures { IfOk result (λ r. (above : List BodyOf) (x : OpenBody) (b : BodyOf) → slice_get self.old.bodies.list.items number ≡ Some x → IsOpenAs self.old.bodies x b → IsParent (parent_at x.kind standing) (parent_of b) → IsAsked self.old self.new r.now (seen above b)) }

@@ -13,7 +13,7 @@ use std::alloc::Global;
 // How many nodes are visited at the most: those that are judged, and one more.
 const MOST_VISITED: u64 = 65_537;
 
-impl<'a> Walk<'a> {
+impl<'s, 'a> Walk<'s, 'a> {
     ghost use Rattle.std.specs.Prelude.{◌≡◌, ◌+◌, ◌<◌, ◌≤◌, ◌∷◌, [], ℕ, List, Some, IfOk, OnOk, flat_map, slice_get};
     ghost use Rattle.rdl_base.specs.declared.fault.Fault.{Fault as AnyFault};
     ghost use Rattle.rdl_values.specs.Instances.{Instance, given_by, kind_of, most_nodes, with_below};
@@ -86,7 +86,7 @@ impl<'a> Walk<'a> {
         &mut self,
         alloc: Global,
         arena: &'a Bump,
-        children: &'a [Child<'a>],
+        children: &[Child<'a>],
         standing: Standing,
         levels: u8,
     ) -> Result<(), NoMemory>
@@ -108,7 +108,7 @@ impl<'a> Walk<'a> {
         &mut self,
         alloc: Global,
         arena: &'a Bump,
-        child: &'a Child<'a>,
+        child: &Child<'a>,
         standing: Standing,
         levels: u8,
     ) -> Result<(), NoMemory>
@@ -135,7 +135,7 @@ impl<'a> Walk<'a> {
         &mut self,
         alloc: Global,
         arena: &'a Bump,
-        child: &'a Child<'a>,
+        child: &Child<'a>,
         number: u64,
         standing: Standing,
         levels: u8,

@@ -1,5 +1,6 @@
 //! What a walk keeps.
 
+use bumpalo::Bump;
 use indexmap::IndexMap;
 use rdl_bodies::Bodies;
 use rdl_children::Child;
@@ -12,10 +13,10 @@ pub const MOST_NODES: u32 = 65_536;
 
 /// The uses of an open body that give nodes where it stands.
 #[derive(Clone, Copy)]
-pub struct Judgement<'a> {
+pub struct Judgement<'s, 'a> {
     pub body: usize,
     pub standing: Standing,
-    pub children: &'a [Child<'a>],
+    pub children: &'s [Child<'a>],
 }
 
 /// By what a judgement is looked up: the body, how many names a path has in it, and how many bytes its text has before them.
@@ -29,23 +30,25 @@ pub(crate) struct JudgementKey {
 /// The open bodies, the failures so far, how many nodes were counted, and what was judged. A body is judged once where it stands as
 /// deep, behind as long a text: all elements of an array have one body.
 #[derive(Drop)]
-pub struct Walk<'a> {
+pub struct Walk<'s, 'a> {
     pub bodies: Bodies<'a>,
     pub failures: Failures,
     /// How many nodes were counted, at most one above those that are judged.
     pub count: u32,
-    pub(crate) judgements: Vec<Judgement<'a>>,
+    // The arena of the lists of uses.
+    pub(crate) scratch: &'s Bump,
+    pub(crate) judgements: Vec<Judgement<'s, 'a>>,
     // Which judgement to try.
     pub(crate) known: IndexMap<JudgementKey, usize>,
 }
 
-impl<'a> Walk<'a> {
+impl<'s, 'a> Walk<'s, 'a> {
     ghost use Rattle.std.specs.Prelude.{◌≡◌, []};
     ghost use Rattle.rdl_bodies.specs.Kept.{AreKept};
     ghost use Rattle.rdl_walk.specs.Walking.{AreWalking};
 
-    /// A walk that has visited nothing yet.
-    pub fn new(alloc: Global, bodies: Bodies<'a>, failures: Failures) -> Self
+    /// A walk that has visited nothing yet, whose lists of uses stand in the arena `scratch`.
+    pub fn new(alloc: Global, scratch: &'s Bump, bodies: Bodies<'a>, failures: Failures) -> Self
         requires { AreKept bodies failures }
         ensures walking { AreWalking result }
         ensures bodies { result.bodies ≡ bodies.entry }
@@ -56,6 +59,7 @@ impl<'a> Walk<'a> {
             bodies,
             failures,
             count: 0,
+            scratch,
             judgements: Vec::new(alloc),
             known: IndexMap::new(alloc),
         }

@@ -1,4 +1,4 @@
-use Rattle.std.proofs.Common.{◌≡◌, ◌∙◌, ◌+◌, ◌-◌, ◌*◌, ◌<◌, [], ap, arith, refl, subst, sym}
+use Rattle.std.proofs.Common.{◌≡◌, ◌∙◌, ◌+◌, ◌-◌, ◌*◌, ◌<◌, ap, arith, refl, subst, sym}
 use Rattle.std.proofs.Math.Nat.{min-le_left, min-le_right}
 use Rattle.rdl_values.specs.Elaborated.{AreTreesOf}
 use Rattle.rdl_values.specs.Instances.{children as nodes_in}
@@ -74,7 +74,7 @@ pub grow_all-returns-clause-nodes : goal.grow_all-returns-clause-nodes
 grow_all-returns-clause-nodes t c = children_end c.args.self.now c.loop-child.self c.args.standing c.args.levels c.args.children.now c.loop-child.child-index c.loop-child.beside.nodes.items c.into_slice.result.now c.loop-child-test.false c.into_slice.ensures c.loop-child.invariant.0
 
 pub grow_below-returns-then-levels-eq0-clause-nodes : goal.grow_below-returns-then-levels-eq0-clause-nodes
-grow_below-returns-then-levels-eq0-clause-nodes t c = λ n h stands fits whole. none_below c.args.levels n c.args.self.now.count [] c.if-levels-eq0.true refl whole
+grow_below-returns-then-levels-eq0-clause-nodes t c = λ n h stands fits whole. none_below c.args.levels n c.args.self.now.count c.none.result.now c.if-levels-eq0.true c.none.ensures whole
 
 pub grow_below-grow_all-requires : goal.grow_below-grow_all-requires
 grow_below-grow_all-requires t c =
