@@ -7,3 +7,4 @@ pub mod Reading
 mod Related
 pub mod Steps
 mod Turns
+mod Unassigned

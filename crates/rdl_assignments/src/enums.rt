@@ -1,6 +1,6 @@
 //! Enumerations in turn: the entries of each see the parameters and the enumerations before it.
 
-ghost use Rattle.std.specs.Prelude.{◌≡◌, ◌∷◌, [], OnOk, flat_map};
+ghost use Rattle.std.specs.Prelude.{◌≡◌, ◌∷◌, [], OnOk, false, flat_map};
 ghost use Rattle.rdl_tree.specs.InOrder.{IsInOrder};
 ghost use Rattle.rdl_values.specs.Bodies.{Body, Scope, around};
 ghost use Rattle.rdl_values.specs.Views.{item_is};
@@ -67,8 +67,49 @@ fn judge_item<'a>(
     judge_all(alloc, entries, &visible, failures)
 }
 
+// Whether an entry has assignments.
+fn is_assigned_to(entry: &Entry<'_>) -> bool
+    ensures { result ≡ false → (scope : Scope) → of_entry scope entry.now ≡ [] }
+{
+    !entry.sets.is_empty()
+}
+
+// Whether any of some entries has.
+fn some_are(entries: &[Entry<'_>]) -> bool
+    ensures { result ≡ false → (scope : Scope) → flat_map (of_entry scope) entries.now ≡ [] }
+{
+    for entry in entries {
+        if is_assigned_to(entry) {
+            return true;
+        }
+    }
+    false
+}
+
+// Whether an item is an enumeration of which any entry has.
+fn has_some(item: &Item<'_>) -> bool
+    ensures { result ≡ false → (scope : Scope) → fails_in scope (item_is item.now) ≡ [] }
+{
+    match item {
+        Item::EnumDef { entries, .. } => some_are(entries),
+        _ => false,
+    }
+}
+
+// Whether any item is.
+fn some_have(items: &[Item<'_>]) -> bool
+    ensures { result ≡ false → (b : Body) → b.items ≡ items.now → of_enums b ≡ [] }
+{
+    for item in items {
+        if has_some(item) {
+            return true;
+        }
+    }
+    false
+}
+
 /// Puts in all failures of the assignments to the entries of a body's enumerations, from a table of the body's parameters: V rules in
-/// values, P1 to P6 and P8. What an enumeration is opened with stays in the arena.
+/// values, P1 to P6 and P8. What an enumeration is opened with stays in the arena. Where no entry has assignments nothing is opened.
 pub fn judge_enums<'a>(
     alloc: Global,
     arena: &'a Bump,
@@ -81,6 +122,9 @@ pub fn judge_enums<'a>(
     requires in_order { IsInOrder items.now }
     ensures { OnOk result ((b : Body) → b.items ≡ items.now → b.names.bound ≡ table.entry.bound → IsAlike (bodies outer.now) (around b.outer) → failures.new ≡ with_all (of_enums b) failures.old) }
 {
+    if !some_have(items) {
+        return Ok(());
+    }
     let mut opening = Opening::new(arena, table);
     let mut known = Failures::new(alloc);
     for item in items {

@@ -13,7 +13,7 @@ use Rattle.rdl_values.specs.Bodies.{around, scope_at}
 use Rattle.rdl_values.specs.Chained.{chained}
 use Rattle.rdl_values.specs.Enums.{names_of, with_item, with_items}
 use Rattle.rdl_values.specs.Instances.{Instance, body}
-use Rattle.rdl_values.specs.Seen.{around_of, bound_of, enum_in, names_in}
+use Rattle.rdl_values.specs.Seen.{around_of, bound_of, listed_enum, names_in}
 use Rattle.rdl_values.specs.Tabled.{listed_in}
 use Rattle.rdl_values.specs.Values.{Around, EnumOf, Names, Val}
 use Rattle.rdl_values.specs.Views as view
@@ -25,15 +25,18 @@ use Rattle.rdl_failures.proofs.Sets.{again, held, kept}
 use Rattle.rdl_scopes.specs.Named.{AreComponents}
 use Rattle.rdl_scopes.specs.declared.components.Components.{Components}
 use Rattle.rdl_scopes.specs.declared.enums.Opened.{Opened}
+use Rattle.rdl_scopes.proofs.Closing.{closed_stays}
 use Rattle.rdl_scopes.specs.Scopes.{AreOpen, Shows, items_at, items_in}
-use Rattle.rdl_bodies.specs.Kept.{AreBelow, AreKept, Grows, IsBody, IsOpenFor, IsSite, of_names}
+use Rattle.rdl_bodies.specs.Kept.{AreBelow, AreKept, Begins, Grows, HasItems, IsBody, IsOpenFor, IsPlacedIn, IsSite, IsTextIn, of_names}
 use Rattle.rdl_bodies.specs.Opened.{IsOpened, IsText, IsTextFor}
 use Rattle.rdl_bodies.specs.Sited.{HaveEnvs, IsAt, IsOpenAs}
 use Rattle.rdl_bodies.specs.declared.bodies.Bodies.{Bodies}
 use Rattle.rdl_bodies.specs.declared.bodies.Body.{Body}
 use Rattle.rdl_bodies.specs.declared.bodies.Site.{Site}
+use Rattle.rdl_bodies.specs.declared.bodies.Text.{Text}
+use Rattle.rdl_bodies.specs.declared.bodies.TextPlace.{TextPlace}
 use Rattle.rdl_bodies.specs.declared.opening.BodyText.{BodyText}
-use Rattle.rdl_bodies.proofs.Growing.{AllSame, at_same, begins_get, begins_length, begins_same, chained_same, below_more, def_same, get_either, get_front, grows_on, grows_same, open_same, same_below, envs_same, shows_same, turned}
+use Rattle.rdl_bodies.proofs.Growing.{AllSame, at_same, begins_get, begins_length, begins_same, chained_same, below_more, def_same, get_either, get_front, grows_on, grows_same, open_same, round_same, same_below, envs_same, shows_same, turned}
 
 -- The names of a body.
 
@@ -77,8 +80,20 @@ pub env_none : (bodies : List Body) (ws : Around) → HaveEnvs bodies [] ws → 
 env_none bodies [] h = refl
 env_none bodies (a ∷ ws) h = absurd h
 
+-- Texts that were there stay what they are.
+
+pub has_items : (these those : List Text) → Begins these those → (k : ℕ) (items : List Item) → HasItems these k items → HasItems those k items
+has_items these those more k items h = (h.0, begins_get these those k h.0 more h.1, h.2)
+
+placed-stays : (these those : List Text) → Begins these those → (o : Option TextPlace) (items : List Item) → IsPlacedIn these o items → IsPlacedIn those o items
+placed-stays these those more None items h = tt
+placed-stays these those more (Some p) items h = (h.0, begins_get these those p.outer h.0 more h.1, h.2)
+
+pub text_stays : (these those : List Text) → Begins these those → (held gs : List Fault) (x : Text) → IsTextIn these held x → IsTextIn those (with_all gs held) x
+text_stays these those more held gs x h = record { closed = closed_stays x.closed x.items.now gs held h.closed; placed = placed-stays these those more x.place x.items.now h.placed }
+
 -- Bodies and sites that were there stay what they are.
-module _ (t u : Bodies) (grown : Grows t u) (before gs : List Fault) (inv : AreKept t before) where
+module _ (t u : Bodies) (grown : Grows t u) (texts : Begins t.texts.items u.texts.items) (before gs : List Fault) (inv : AreKept t before) where
   abbrev after : List Fault
   after = with_all gs before
 
@@ -116,16 +131,20 @@ module _ (t u : Bodies) (grown : Grows t u) (before gs : List Fault) (inv : AreK
         items_are = ap (λ cs. items_at cs k) grown.components.1 ∙ ap items_in (get_front t.components.items grown.components.0 k low) ∙ old.items_are;
         in_order = old.in_order;
         of_site = open-for x x.site old.below old.of_site;
+        text_is = has_items t.texts.items u.texts.items texts x.text x.items.now old.text_is;
       }
+
+  pub texts_stay : (k : ℕ) (x : Text) → slice_get t.texts.items k ≡ Some x → IsTextIn u.texts.items after x
+  texts_stay k x e = text_stays t.texts.items u.texts.items texts before gs x (inv.texts k x e)
 
 -- One body more.
 
 -- the environment of a body whose names were opened
-pub env_opened : (e : Env) (ws : Around) (x : BodyText) (o : Opened) (outer : Option (Bor Env)) → around_of e ≡ names_in x.bound.now o.enums.now o.entries.now ∷ listed_in outer → listed_in outer ≡ ws → map (enum_in o.entries.now) o.enums.now ≡ (names_of ws (map bound_of x.bound.now) x.items.now).enums
+pub env_opened : (e : Env) (ws : Around) (x : BodyText) (o : Opened) (outer : Option (Bor Env)) → around_of e ≡ names_in x.bound.now o.enums.now ∷ listed_in outer → listed_in outer ≡ ws → map listed_enum o.enums.now ≡ (names_of ws (map bound_of x.bound.now) x.items.now).enums
     → around_of e ≡ names_of ws (map bound_of x.bound.now) x.items.now ∷ ws
 env_opened e ws x o outer is round enums =
-    is ∙ ap (λ bs. names_in x.bound.now o.enums.now o.entries.now ∷ bs) round
-    ∙ ap (λ n. n ∷ ws) (same-names (names_of ws (map bound_of x.bound.now) x.items.now) (map bound_of x.bound.now) (map (enum_in o.entries.now) o.enums.now) (sym (names_bound ws (map bound_of x.bound.now) x.items.now)) enums)
+    is ∙ ap (λ bs. names_in x.bound.now o.enums.now ∷ bs) round
+    ∙ ap (λ n. n ∷ ws) (same-names (names_of ws (map bound_of x.bound.now) x.items.now) (map bound_of x.bound.now) (map listed_enum o.enums.now) (sym (names_bound ws (map bound_of x.bound.now) x.items.now)) enums)
 
 -- What is known of a body that is put behind the others.
 pub record IsNext (t u : Bodies) (number : ℕ) (x : BodyText) (r : Body) : Type 0 where
@@ -136,6 +155,8 @@ pub record IsNext (t u : Bodies) (number : ℕ) (x : BodyText) (r : Body) : Type
   pub components : u.components.items ≡ t.components.items ++ (component ∷ [])
   pub list : u.list.items ≡ t.list.items ++ (r ∷ [])
   pub sites : u.sites.items ≡ t.sites.items
+  pub texts : u.texts.items ≡ t.texts.items
+  pub text_is : HasItems t.texts.items r.text x.items.now
   pub is_of : AreComponents component x.items.now
   pub site_is : r.site ≡ x.site
   pub items_are : r.items.now ≡ x.items.now
@@ -225,13 +246,17 @@ module _ (t u : Bodies) (number : ℕ) (x : BodyText) (r : Body) (new : IsNext t
       items_are = own-items inv.components inv.list below ∙ sym new.items_are;
       in_order = subst IsInOrder (sym new.items_are) in_order;
       of_site = subst (IsOpenFor u after r) (sym new.site_is) (new-for x.site of_site);
+      text_is = subst (HasItems u.texts.items r.text) (sym new.items_are) (subst (λ xs. HasItems xs r.text x.items.now) (sym new.texts) new.text_is);
     }
+
+    texts-begin : Begins t.texts.items u.texts.items
+    texts-begin = begins_same t.texts.items u.texts.items new.texts
 
     bodies-kept : (k : ℕ) (y : Body) → slice_get u.list.items k ≡ Some y → IsBody u after k y
     bodies-kept k y e = go (get_either t.list.items r y k (sym (ap (λ xs. slice_get xs k) new.list) ∙ e))
       where
         go : (slice_get t.list.items k ≡ Some y) ⊎ ((k ≡ length t.list.items) × (r ≡ y)) → IsBody u after k y
-        go (inl h) = subst (λ fs. IsBody u fs k y) (sym is-after) (body_stays t u grown_by before fails inv k y h)
+        go (inl h) = subst (λ fs. IsBody u fs k y) (sym is-after) (body_stays t u grown_by texts-begin before fails inv k y h)
         go (inr h) =
             let at : number ≡ k = let n = new.numbered in let l = inv.list in let i = h.0 in omega (arith, n, l, i) in
             subst (λ z. IsBody u after k z) h.1 (subst (λ m. IsBody u after m r) at new-body)
@@ -251,8 +276,9 @@ module _ (t u : Bodies) (number : ℕ) (x : BodyText) (r : Body) (new : IsNext t
       components = let c = ap length new.components ∙ length-append t.components.items (new.component ∷ []) in let i = inv.components in omega (arith, c, i, one-more);
       list = let l = ap length new.list ∙ length-append t.list.items (r ∷ []) in let i = inv.list in omega (arith, l, i, one-more);
       open_ = components-open;
-      sites = λ k s e. site_stays t u grown_by before fails inv s (inv.sites k s (sym (ap (λ ss. slice_get ss k) new.sites) ∙ e));
+      sites = λ k s e. site_stays t u grown_by texts-begin before fails inv s (inv.sites k s (sym (ap (λ ss. slice_get ss k) new.sites) ∙ e));
       bodies = bodies-kept;
+      texts = λ k y e. subst (λ fs. IsTextIn u.texts.items fs y) (sym is-after) (texts_stay t u grown_by texts-begin before fails inv k y (sym (ap (λ ys. slice_get ys k) new.texts) ∙ e));
     }
 
     pub is_opened : (v : values.Body) → IsText t x v → IsOpened t u before after number v
@@ -272,13 +298,17 @@ kept_more t before gs inv = record {
   list = inv.list;
   open_ = inv.open_;
   sites = inv.sites;
-  bodies = λ k x e. body_stays t t (grows_same t t refl refl refl ([], sym (append-nil t.sites.items))) before gs inv k x e;
+  bodies = λ k x e. body_stays t t (grows_same t t refl refl refl ([], sym (append-nil t.sites.items))) (begins_same t.texts.items t.texts.items refl) before gs inv k x e;
+  texts = λ k x e. text_stays t.texts.items t.texts.items (begins_same t.texts.items t.texts.items refl) before gs x (inv.texts k x e);
 }
 
 -- All is kept where a site was put behind the others.
-module _ (t u : Bodies) (s : Site) (tables : u.tables ≡ t.tables) (components : u.components ≡ t.components) (list : u.list ≡ t.list) (sites : u.sites.items ≡ t.sites.items ++ (s ∷ [])) where
+module _ (t u : Bodies) (s : Site) (tables : u.tables ≡ t.tables) (components : u.components ≡ t.components) (list : u.list ≡ t.list) (sites : u.sites.items ≡ t.sites.items ++ (s ∷ [])) (texts : u.texts ≡ t.texts) where
   pub grown_listed : Grows t u
   grown_listed = grows_same t u (ap (λ v. v.items) tables) (ap (λ v. v.items) components) (ap (λ v. v.items) list) (s ∷ [], sites)
+
+  texts-same : Begins t.texts.items u.texts.items
+  texts-same = begins_same t.texts.items u.texts.items (ap (λ v. v.items) texts)
 
   pub kept_listed : (before : List Fault) → AreKept t before → IsSite t s → AreKept u before
   kept_listed before inv new = record {
@@ -286,12 +316,13 @@ module _ (t u : Bodies) (s : Site) (tables : u.tables ≡ t.tables) (components 
     list = ap (λ v. length v.items) list ∙ inv.list ∙ sym (ap (λ v. length v.items) tables);
     open_ = subst (λ v. AreOpen v.items) (sym components) inv.open_;
     sites = λ k x e. go x (get_either t.sites.items s x k (sym (ap (λ ss. slice_get ss k) sites) ∙ e)) k;
-    bodies = λ k x e. body_stays t u grown_listed before [] inv k x (sym (ap (λ v. slice_get v.items k) list) ∙ e);
+    bodies = λ k x e. body_stays t u grown_listed texts-same before [] inv k x (sym (ap (λ v. slice_get v.items k) list) ∙ e);
+    texts = λ k x e. texts_stay t u grown_listed texts-same before [] inv k x (sym (ap (λ v. slice_get v.items k) texts) ∙ e);
   }
     where
       go : (x : Site) {k : ℕ} → (slice_get t.sites.items k ≡ Some x) ⊎ ((k ≡ length t.sites.items) × (s ≡ x)) → (j : ℕ) → IsSite u x
-      go x (inl h) j = site_stays t u grown_listed before [] inv x (inv.sites _ x h)
-      go x (inr h) j = subst (IsSite u) h.1 (site_stays t u grown_listed before [] inv s new)
+      go x (inl h) j = site_stays t u grown_listed texts-same before [] inv x (inv.sites _ x h)
+      go x (inr h) j = subst (IsSite u) h.1 (site_stays t u grown_listed texts-same before [] inv s new)
 
 -- The environment round a text, by the first of the numbers of the bodies round it.
 
@@ -326,29 +357,39 @@ open_again t before k number x s n inv e of here at =
     }
 
 -- Where the lists are the same, all is.
-module _ (t u v : Bodies) (tables : v.tables ≡ u.tables) (components : v.components ≡ u.components) (list : v.list ≡ u.list) (sites : v.sites ≡ u.sites) where
+module _ (u v : Bodies) (tables : v.tables ≡ u.tables) (components : v.components ≡ u.components) (list : v.list ≡ u.list) (sites : v.sites ≡ u.sites) where
   pub grown_same : Grows u v
   grown_same = grows_same u v (ap (λ x. x.items) tables) (ap (λ x. x.items) components) (ap (λ x. x.items) list) (begins_same u.sites.items v.sites.items (ap (λ x. x.items) sites))
 
-  every : (ks : List ℕ) → AllSame u v ks
+  pub every : (ks : List ℕ) → AllSame u v ks
   every [] = tt
   every (k ∷ ks) = (record { table = ap (λ x. slice_get x.items k) (sym tables); component = ap (λ x. slice_get x.items k) (sym components); body = ap (λ x. slice_get x.items k) (sym list) }, every ks)
 
-  pub kept_same : (before : List Fault) → AreKept u before → AreKept v before
-  kept_same before inv = record {
+  -- all is kept where texts more are kept
+  pub kept_same : (before gs : List Fault) → Begins u.texts.items v.texts.items → ((k : ℕ) (x : Text) → slice_get v.texts.items k ≡ Some x → IsTextIn v.texts.items (with_all gs before) x) → AreKept u before → AreKept v (with_all gs before)
+  kept_same before gs more texts inv = record {
     components = ap (λ x. length x.items) components ∙ inv.components ∙ sym (ap (λ x. length x.items) tables);
     list = ap (λ x. length x.items) list ∙ inv.list ∙ sym (ap (λ x. length x.items) tables);
     open_ = subst (λ x. AreOpen x.items) (sym components) inv.open_;
-    sites = λ k x e. site_stays u v grown_same before [] inv x (inv.sites k x (sym (ap (λ ss. slice_get ss.items k) sites) ∙ e));
-    bodies = λ k x e. body_stays u v grown_same before [] inv k x (sym (ap (λ bs. slice_get bs.items k) list) ∙ e);
+    sites = λ k x e. site_stays u v grown_same more before gs inv x (inv.sites k x (sym (ap (λ ss. slice_get ss.items k) sites) ∙ e));
+    bodies = λ k x e. body_stays u v grown_same more before gs inv k x (sym (ap (λ bs. slice_get bs.items k) list) ∙ e);
+    texts = texts;
   }
 
-  pub opened_same : (before after : List Fault) (k : ℕ) (b : values.Body) → IsOpened t u before after k b → IsOpened t v before after k b
-  opened_same before after k b h = record {
-    kept = kept_same after h.kept;
+  pub opened_same : v.texts ≡ u.texts → (t : Bodies) (before after : List Fault) (k : ℕ) (b : values.Body) → IsOpened t u before after k b → IsOpened t v before after k b
+  opened_same texts t before after k b h = record {
+    kept = kept_same after [] (begins_same u.texts.items v.texts.items (ap (λ x. x.items) texts)) (λ j x e. subst (λ xs. IsTextIn xs after x) (sym (ap (λ ts. ts.items) texts)) (h.kept.texts j x (sym (ap (λ ts. slice_get ts.items j) texts) ∙ e))) h.kept;
     grown = grows_on t u v h.grown grown_same;
     noted = h.noted;
     body = h.body;
     here = ap (λ bs. slice_get bs.items k) list ∙ h.here;
     open_ = open_same u v h.body b (every h.body.numbers.now) h.open_;
   }
+
+  -- what a text is, it stays
+  pub text_same : (x : BodyText) (b : values.Body) → IsText u x b → IsText v x b
+  text_same x b h = record { items_are = h.items_are; kind_is = h.kind_is; round = round_same u v x.outer.now x.uptos.now b.outer (every x.outer.now) h.round; names_are = h.names_are }
+
+  pub for_same : (x : BodyText) (o : Option ℕ) → IsTextFor u x o → IsTextFor v x o
+  for_same x None h = tt
+  for_same x (Some k) h = (h.0, ap (λ ss. slice_get ss.items k) sites ∙ h.1, λ n at. text_same x (body n) (h.2 n (at_same v u h.0 n.closure n.bound (turned u v h.0.outer.now (every h.0.outer.now)) at)))

@@ -1,4 +1,5 @@
 pub mod Adding
 mod Distinct
+mod Finding
 pub mod Growing
 mod Places

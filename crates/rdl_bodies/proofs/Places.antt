@@ -27,13 +27,14 @@ use Rattle.rdl_bodies.proofs.Adding.{grown_listed, kept_listed}
 use Rattle.rdl_bodies.proofs.Growing.{grows_same, round_same, same_below}
 
 -- no body is open yet
-pub none_kept : (t : Bodies) (held : List Fault) → t.tables.items ≡ [] → t.components.items ≡ [] → t.list.items ≡ [] → t.sites.items ≡ [] → AreKept t held
-none_kept t held a b c d = record {
+pub none_kept : (t : Bodies) (held : List Fault) → t.tables.items ≡ [] → t.components.items ≡ [] → t.list.items ≡ [] → t.sites.items ≡ [] → t.texts.items ≡ [] → AreKept t held
+none_kept t held a b c d f = record {
   components = ap length b ∙ sym (ap length a);
   list = ap length c ∙ sym (ap length a);
   open_ = subst AreOpen (sym b) tt;
   sites = λ k s e. cc;
   bodies = λ k x e. cc;
+  texts = λ k x e. cc;
 }
 
 -- A definition in order.
@@ -118,18 +119,18 @@ listed_at t held number s outer uptos d bs b c inv here same defined def round b
     }
 
 -- a new site is that of the definition
-pub listed_new : (t u : Bodies) (held : List Fault) (number : ℕ) (s : Site) (outer uptos : List ℕ) (d : Def) (bs b : Bound) (c : Closure) → AreKept t held → u.tables ≡ t.tables → u.components ≡ t.components → u.list ≡ t.list → u.sites.items ≡ t.sites.items ++ (s ∷ [])
+pub listed_new : (t u : Bodies) (held : List Fault) (number : ℕ) (s : Site) (outer uptos : List ℕ) (d : Def) (bs b : Bound) (c : Closure) → AreKept t held → u.tables ≡ t.tables → u.components ≡ t.components → u.list ≡ t.list → u.sites.items ≡ t.sites.items ++ (s ∷ []) → u.texts ≡ t.texts
     → number ≡ length t.sites.items → s.def.now ≡ d → IsSame s outer uptos bs → AreBelow (length t.tables.items) outer → def_at t.components.items outer uptos ≡ Some d → AreDistinct [] bs → c.def ≡ d → AreRound t outer uptos c.scope → b ≡ bs → IsListed t u held number c b
-listed_new t u held number s outer uptos d bs b c inv tables components list sites at of same below defined distinct def round bound =
+listed_new t u held number s outer uptos d bs b c inv tables components list sites texts at of same below defined distinct def round bound =
     let site : IsSite t s = record {
       below = subst (AreBelow (length t.tables.items)) (sym same.outer_is) below;
       defined = ap (λ ks. def_at t.components.items ks s.uptos.now) same.outer_is ∙ ap (λ ps. def_at t.components.items outer ps) same.uptos_are ∙ defined ∙ ap Some (sym of);
       distinct = subst (AreDistinct []) (sym same.bound_is) distinct;
     } in
-    let grown = grown_listed t u s tables components list sites in
+    let grown = grown_listed t u s tables components list sites texts in
     let all = same_below t u outer inv.components inv.list grown below in
     record {
-      kept = kept_listed t u s tables components list sites held inv site;
+      kept = kept_listed t u s tables components list sites texts held inv site;
       grown = grown;
       site = s;
       here = ap (λ k. slice_get u.sites.items k) at ∙ ap (λ ss. slice_get ss (length t.sites.items)) sites ∙ get_next t.sites.items s;

@@ -31,14 +31,15 @@ abbrev pub IsTextFor : Bodies → BodyText → Option ℕ → Type 0
 IsTextFor t x None = Unit {0}
 IsTextFor t x (Some number) = (s : Site) × (slice_get t.sites.items number ≡ Some s) × ((n : Instance) → IsAt t s n.closure n.bound → IsText t x (body n))
 
--- The open body has the text, the number, and the names that were opened, in the bodies of an environment.
-pub record IsBodyOf (number : ℕ) (x : BodyText) (o : Opened) (outer : Option (Bor Env)) (r : Body) : Type 0 where
+-- The open body has the text, which has this number, its own number, and the names that were opened, in the bodies of an environment.
+pub record IsBodyOf (number of : ℕ) (x : BodyText) (o : Opened) (outer : Option (Bor Env)) (r : Body) : Type 0 where
   pub site_is : r.site ≡ x.site
+  pub text_is : r.text ≡ of
   pub items_are : r.items.now ≡ x.items.now
   pub kind_is : r.kind ≡ x.kind
   pub numbers_are : r.numbers.now ≡ number ∷ x.outer.now
   pub uptos_are : r.uptos.now ≡ x.uptos.now
-  pub env_is : around_of r.env.now ≡ names_in x.bound.now o.enums.now o.entries.now ∷ listed_in outer
+  pub env_is : around_of r.env.now ≡ names_in x.bound.now o.enums.now ∷ listed_in outer
 
 -- There is a site of this number, and a node of it.
 pub record CanOpen (t : Bodies) (number : ℕ) : Type 0 where

@@ -3,7 +3,7 @@
 ghost use Rattle.std.specs.Prelude.{◌≡◌};
 
 use indexmap::IndexMap;
-use rdl_scopes::Components;
+use rdl_scopes::{ClosedEnums, Components};
 use rdl_tree::{Bound, Def, Env, Item, Kind};
 use rdl_values::Table;
 use std::alloc::Global;
@@ -25,6 +25,8 @@ pub struct Site<'a> {
 pub struct Body<'a> {
     /// The number of its site; the root has none.
     pub site: Option<usize>,
+    /// The number of its text.
+    pub text: usize,
     pub items: &'a [Item<'a>],
     /// The kind of its nodes; the root has none.
     pub kind: Option<Kind>,
@@ -52,6 +54,22 @@ pub(crate) struct SiteKey<'a> {
     pub values: Vec<ParameterKey<'a>>,
 }
 
+/// Where a definition stands in the text round it: the number of that text, and how many of its items stand before the definition.
+#[derive(Clone, Copy)]
+pub(crate) struct TextPlace {
+    pub outer: usize,
+    pub upto: usize,
+}
+
+/// What is the same in all bodies of a definition that stands at one place, or in the root's.
+#[derive(Drop)]
+pub(crate) struct Text<'a> {
+    /// The root's stands at none.
+    pub place: Option<TextPlace>,
+    pub items: &'a [Item<'a>],
+    pub closed: ClosedEnums<'a>,
+}
+
 /// The bodies of a source that are open, and the sites of those that may be.
 #[derive(Drop)]
 pub struct Bodies<'a> {
@@ -59,9 +77,11 @@ pub struct Bodies<'a> {
     pub(crate) components: Vec<Components<'a>>,
     pub(crate) list: Vec<Body<'a>>,
     pub(crate) sites: Vec<Site<'a>>,
-    // Which site to try for a key, and which body for a site.
+    pub(crate) texts: Vec<Text<'a>>,
+    // Which site to try for a key, which body for a site, and which text for the number of the text round it and an item of that.
     pub(crate) known: BTreeMap<SiteKey<'a>, usize>,
     pub(crate) opened: IndexMap<usize, usize>,
+    pub(crate) text_numbers: BTreeMap<(usize, usize), usize>,
 }
 
 impl<'a> Bodies<'a> {
@@ -95,7 +115,7 @@ impl<'a> Bodies<'a> {
         self.sites.get(number).copied()
     }
 
-    /// The same bodies and sites, without the keys by which they are found again: for readers, after the last body was opened.
+    /// The same bodies and sites, without the keys by which they are found again, and without what is kept of their texts: for readers, after the last body was opened.
     pub fn without_keys(self, alloc: Global) -> Self
         ensures tables { result.tables ≡ self.entry.tables }
         ensures components { result.components ≡ self.entry.components }
@@ -103,8 +123,10 @@ impl<'a> Bodies<'a> {
         ensures sites { result.sites ≡ self.entry.sites }
     {
         Bodies {
+            texts: Vec::new(alloc),
             known: BTreeMap::new(alloc),
             opened: IndexMap::new(alloc),
+            text_numbers: BTreeMap::new(alloc),
             ..self
         }
     }

@@ -7,6 +7,7 @@ mod opening;
 mod root;
 mod same;
 mod sites;
+mod texts;
 
 pub use bodies::{Bodies, Body, Site};
 pub use opening::table_of;

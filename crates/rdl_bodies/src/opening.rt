@@ -9,17 +9,18 @@ ghost use Rattle.rdl_values.specs.Tabled.{listed_in};
 ghost use Rattle.rdl_values.specs.Values.{Around, entry_named};
 ghost use Rattle.rdl_failures.specs.Noted.{with_all};
 ghost use Rattle.rdl_failures.specs.Shown.{IsAlike};
+ghost use Rattle.rdl_scopes.specs.Closed.{AreClosedOf};
 ghost use Rattle.rdl_scopes.specs.Opened as names;
 ghost use Rattle.rdl_bodies.specs.Kept.{AreDistinct, of_names};
 ghost use Rattle.rdl_bodies.specs.Opened.{IsBodyOf};
 ghost use Rattle.rdl_bodies.specs.Sited.{HaveEnvs};
 
-use crate::bodies::{Bodies, Body};
+use crate::bodies::{Bodies, Body, TextPlace};
 use bumpalo::Bump;
 use bumpalo::collections::into_bump_slice;
 use rb_base::NoMemory;
 use rdl_failures::Failures;
-use rdl_scopes::{Components, Opened, Outer, judge_names, open_names};
+use rdl_scopes::{ClosedEnums, Components, Opened, Outer, judge_names, open_names};
 use rdl_tree::{Bound, Env, Item, Kind};
 use rdl_values::Table;
 use std::alloc::Global;
@@ -62,10 +63,12 @@ fn names_of<'a>(
     arena: &'a Bump,
     tables: &[Table<'a>],
     text: &BodyText<'a>,
+    closed: &ClosedEnums<'a>,
     failures: &mut Failures,
 ) -> Result<Opened<'a>, NoMemory>
     requires distinct { AreDistinct [] (map bound_of text.now.bound.now) }
     requires in_order { IsInOrder text.now.items.now }
+    requires closed { AreClosedOf closed.now text.now.items.now failures.old }
     ensures opened { IfOk result (names.IsOpened (map bound_of text.now.bound.now) text.now.items.now (record { tables = tables.entry; numbers = text.now.outer })) }
     ensures noted { OnOk result ((b : BodyOf) → b.items ≡ text.now.items.now → b.names.bound ≡ map bound_of text.now.bound.now → IsAlike (chained tables.now text.now.outer.now) (around b.outer)
         → failures.new ≡ with_all (of_names b) failures.old) }
@@ -76,12 +79,12 @@ fn names_of<'a>(
         tables,
         numbers: text.outer,
     };
-    let opened = open_names(alloc, arena, table, text.items, &outer, failures)?;
+    let opened = open_names(alloc, arena, table, text.items, closed, &outer, failures)?;
     Ok(opened)
 }
 
-// The first of some numbers.
-fn first_of(numbers: &[usize]) -> Option<usize>
+/// The first of some numbers.
+pub(crate) fn first_of(numbers: &[usize]) -> Option<usize>
     ensures { result ≡ slice_get numbers.now 0 }
 {
     numbers.first().copied()
@@ -111,12 +114,11 @@ fn env_in<'a>(
     opened: &Opened<'a>,
     outer: Option<&'a Env<'a>>,
 ) -> Result<&'a Env<'a>, NoMemory>
-    ensures { IfOk result (λ e. around_of e.now ≡ names_in bound.now opened.now.enums.now opened.now.entries.now ∷ listed_in outer.entry) }
+    ensures { IfOk result (λ e. around_of e.now ≡ names_in bound.now opened.now.enums.now ∷ listed_in outer.entry) }
 {
     let env = arena.try_alloc(Env {
         bound,
         enums: opened.enums,
-        entries: opened.entries,
         outer,
     })?;
     Ok(env)
@@ -134,20 +136,22 @@ fn numbers_in<'a>(arena: &'a Bump, number: usize, outer: &[usize]) -> Result<&'a
     Ok(into_bump_slice(numbers))
 }
 
-// The body of a text.
+// The body of a text of this number.
 fn body_of<'a>(
     arena: &'a Bump,
     number: usize,
+    of: usize,
     text: &BodyText<'a>,
     opened: &Opened<'a>,
     outer: Option<&'a Env<'a>>,
 ) -> Result<Body<'a>, NoMemory>
-    ensures { IfOk result (IsBodyOf number text.now opened.now outer.entry) }
+    ensures { IfOk result (IsBodyOf number of text.now opened.now outer.entry) }
 {
     let env = env_in(arena, text.bound, opened, outer)?;
     let numbers = numbers_in(arena, number, text.outer)?;
     Ok(Body {
         site: text.site,
+        text: of,
         items: text.items,
         kind: text.kind,
         numbers,
@@ -163,9 +167,10 @@ impl<'a> Bodies<'a> {
     ghost use Rattle.rdl_values.specs.Bodies.{Body as BodyOf};
     ghost use Rattle.rdl_values.specs.Instances.{Instance, body};
     ghost use Rattle.rdl_values.specs.Seen.{bound_of};
-    ghost use Rattle.rdl_bodies.specs.Kept.{AreBelow, AreDistinct, AreKept};
+    ghost use Rattle.rdl_bodies.specs.Kept.{AreBelow, AreDistinct, AreKept, HasItems};
     ghost use Rattle.rdl_bodies.specs.Opened.{CanOpen, IsOpened, IsText, IsTextFor};
     ghost use Rattle.rdl_bodies.specs.Sited.{IsAt};
+    ghost use Rattle.rdl_bodies.specs.Texts.{IsPlaced};
     ghost use Rattle.rdl_bodies.specs.declared.bodies.Body.{Body as OpenBody};
     ghost use Rattle.rdl_bodies.specs.declared.bodies.Site.{Site as SiteOf};
 
@@ -180,6 +185,7 @@ impl<'a> Bodies<'a> {
         ensures components { OnOk result (self.new.components.items ≡ self.old.components.items ++ (components.entry ∷ [])) }
         ensures list { OnOk result (self.new.list.items ≡ self.old.list.items ++ (body.entry ∷ [])) }
         ensures sites { self.new.sites.items ≡ self.old.sites.items }
+        ensures texts { self.new.texts.items ≡ self.old.texts.items }
     {
         self.tables.push(table)?;
         self.components.push(components)?;
@@ -187,15 +193,17 @@ impl<'a> Bodies<'a> {
         Ok(())
     }
 
-    // Opens the body of a text.
-    pub(crate) fn add(
+    // Opens the body of a text of this number.
+    fn add_body(
         &mut self,
         alloc: Global,
         arena: &'a Bump,
+        of: usize,
         text: &BodyText<'a>,
         failures: &mut Failures,
     ) -> Result<usize, NoMemory>
         requires kept { AreKept self.old failures.old }
+        requires known { HasItems self.old.texts.items of text.now.items.now }
         requires distinct { AreDistinct [] (map bound_of text.now.bound.now) }
         requires in_order { IsInOrder text.now.items.now }
         requires below { AreBelow (length self.old.tables.items) text.now.outer.now }
@@ -204,13 +212,37 @@ impl<'a> Bodies<'a> {
         ensures number { IfOk result (λ k. k ≡ length self.old.tables.items) }
         ensures opened { IfOk result (λ k. (b : BodyOf) → IsText self.old text.now b → IsOpened self.old self.new failures.old failures.new k b) }
     {
-        let opened = names_of(alloc, arena, &self.tables, text, failures)?;
+        let closed = &self.texts[of].closed;
+        let opened = names_of(alloc, arena, &self.tables, text, closed, failures)?;
         let outer = env_round(&self.list, text.outer);
         let number = self.tables.len();
-        let body = body_of(arena, number, text, &opened, outer)?;
+        let body = body_of(arena, number, of, text, &opened, outer)?;
         let components = Components::of(alloc, text.items)?;
         self.push(opened.table, components, body)?;
         Ok(number)
+    }
+
+    // Opens the body of the text at a place.
+    pub(crate) fn add(
+        &mut self,
+        alloc: Global,
+        arena: &'a Bump,
+        place: Option<TextPlace>,
+        text: &BodyText<'a>,
+        failures: &mut Failures,
+    ) -> Result<usize, NoMemory>
+        requires kept { AreKept self.old failures.old }
+        requires placed { IsPlaced self.old place text.now.items.now }
+        requires distinct { AreDistinct [] (map bound_of text.now.bound.now) }
+        requires in_order { IsInOrder text.now.items.now }
+        requires below { AreBelow (length self.old.tables.items) text.now.outer.now }
+        requires of_site { IsTextFor self.old text.now text.now.site }
+        requires some { (b : BodyOf) × IsText self.old text.now b }
+        ensures number { IfOk result (λ k. k ≡ length self.old.tables.items) }
+        ensures opened { IfOk result (λ k. (b : BodyOf) → IsText self.old text.now b → IsOpened self.old self.new failures.old failures.new k b) }
+    {
+        let of = self.text_at(alloc, arena, place, text.items, failures)?;
+        self.add_body(alloc, arena, of, text, failures)
     }
 
     // The body that is open for a site, if there is one.
@@ -230,13 +262,14 @@ impl<'a> Bodies<'a> {
         ensures components { self.new.components ≡ self.old.components }
         ensures list { self.new.list ≡ self.old.list }
         ensures sites { self.new.sites ≡ self.old.sites }
+        ensures texts { self.new.texts ≡ self.old.texts }
     {
         self.opened.insert(site, number)?;
         Ok(())
     }
 
     /// The body of a site, which is opened where it isn't yet. The failures of its names are put in: E2, and those of its
-    /// enumerations.
+    /// enumerations. Enumerations that are the same in all bodies of a text are judged with the first.
     pub fn open(
         &mut self,
         alloc: Global,
@@ -262,7 +295,8 @@ impl<'a> Bodies<'a> {
             uptos: of.uptos,
             bound: of.bound,
         };
-        let number = self.add(alloc, arena, &text, failures)?;
+        let place = self.text_place(of.outer, of.uptos);
+        let number = self.add(alloc, arena, place, &text, failures)?;
         self.note_open(site, number)?;
         Ok(number)
     }

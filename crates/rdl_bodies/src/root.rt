@@ -31,8 +31,10 @@ pub fn open_root<'a>(
         components: Vec::new(alloc),
         list: Vec::new(alloc),
         sites: Vec::new(alloc),
+        texts: Vec::new(alloc),
         known: BTreeMap::new(alloc),
         opened: IndexMap::new(alloc),
+        text_numbers: BTreeMap::new(alloc),
     };
     let text = BodyText {
         site: None,
@@ -42,6 +44,6 @@ pub fn open_root<'a>(
         uptos: &[],
         bound: &[],
     };
-    bodies.add(alloc, arena, &text, failures)?;
+    bodies.add(alloc, arena, None, &text, failures)?;
     Ok(bodies)
 }

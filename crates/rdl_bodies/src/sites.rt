@@ -91,6 +91,7 @@ impl<'a> Bodies<'a> {
         ensures components { self.new.components ≡ self.old.components }
         ensures list { self.new.list ≡ self.old.list }
         ensures sites { OnOk result (self.new.sites.items ≡ self.old.sites.items ++ (site.entry ∷ [])) }
+        ensures texts { self.new.texts ≡ self.old.texts }
     {
         let number = self.sites.len();
         self.sites.push(site)?;

@@ -11,8 +11,8 @@ use Rattle.rdl_values.specs.Visible.{enum_before}
 use Rattle.rdl_bodies.specs.Sited.{HaveEnvs}
 use Rattle.rdl_bodies.specs.declared.bodies.Bodies.{Bodies}
 use Rattle.rdl_bodies.specs.declared.bodies.Body.{Body}
-use Rattle.rdl_encodings.specs.Body.{AreEnumsOf, enum_in_body, place_in}
-use Rattle.rdl_encodings.specs.Enums.{AreEnumsOfBodies, entries_at_place, enum_found}
+use Rattle.rdl_encodings.specs.Body.{AreEnumsOf, number_in, under}
+use Rattle.rdl_encodings.specs.Enums.{AreEnumsOfBodies, enum_at, enum_found}
 use Rattle.rdl_encodings.specs.declared.body.BodyEnums.{BodyEnums}
 use Rattle.rdl_encodings.specs.declared.enums.Enums.{Enums}
 
@@ -65,23 +65,23 @@ no_body t numbers n i d l left none bodies around are envs =
     cc
 
 -- The body has no enumeration that is meant.
-pub left_more : (t : Enums) (numbers : List ℕ) (n : Name) (i d : ℕ) (b : BodyEnums) → i < length numbers → slice_get t.bodies.items (get_or numbers i d) ≡ Some b → place_in b n ≡ None → IsLeft t numbers n i → IsLeft t numbers n (i + 1)
+pub left_more : (t : Enums) (numbers : List ℕ) (n : Name) (i d : ℕ) (b : BodyEnums) → i < length numbers → slice_get t.bodies.items (get_or numbers i d) ≡ Some b → number_in b n ≡ None → IsLeft t numbers n i → IsLeft t numbers n (i + 1)
 left_more t numbers n i d b l here none left bodies around are envs =
     let near = next-in t numbers n i d l left bodies around are envs in
     let both : Some near.body ≡ Some b = sym near.here ∙ here in
     let same : near.body ≡ b = cc in
-    let found : enum_before n near.names ≡ None = near.are.found n ∙ ap (option_map (enum_in_body near.body n)) (ap (λ y. place_in y n) same ∙ none) in
+    let found : enum_before n near.names ≡ None = near.are.found n ∙ ap (option_map (λ k. under n.text.now (slice_get near.body.list.now k))) (ap (λ y. number_in y n) same ∙ none) in
     (near.rest, near.envs, near.seen ∙ ap (λ o. option_or o (visible_enum near.rest n)) found)
 
 -- It has one.
-pub meant_here : (t : Enums) (numbers : List ℕ) (n : Name) (i d : ℕ) (b : BodyEnums) (p : ℕ) → i < length numbers → slice_get t.bodies.items (get_or numbers i d) ≡ Some b → place_in b n ≡ Some p → IsLeft t numbers n i
+pub meant_here : (t : Enums) (numbers : List ℕ) (n : Name) (i d : ℕ) (b : BodyEnums) (p : ℕ) → i < length numbers → slice_get t.bodies.items (get_or numbers i d) ≡ Some b → number_in b n ≡ Some p → IsLeft t numbers n i
     → (bodies : Bodies) (around : Around) → AreEnumsOfBodies t bodies → HaveEnvs bodies.list.items numbers around → visible_enum around n ≡ Some (enum_found t n.text.now (get_or numbers i d, p))
 meant_here t numbers n i d b p l here place left bodies around are envs =
     let near = next-in t numbers n i d l left bodies around are envs in
     let both : Some near.body ≡ Some b = sym near.here ∙ here in
     let same : near.body ≡ b = cc in
-    let found : enum_before n near.names ≡ Some (enum_in_body b n p) = near.are.found n ∙ ((λ j. option_map (enum_in_body (same j) n) (place_in (same j) n)) ∙ ap (option_map (enum_in_body b n)) place) in
-    near.seen ∙ (ap (λ o. option_or o (visible_enum near.rest n)) found ∙ ap (λ o. Some (record { name = n.text.now; place = p; entries = entries_at_place o p })) (sym here))
+    let found : enum_before n near.names ≡ Some (under n.text.now (slice_get b.list.now p)) = near.are.found n ∙ ((λ j. option_map (λ k. under n.text.now (slice_get (same j).list.now k)) (number_in (same j) n)) ∙ ap (option_map (λ k. under n.text.now (slice_get b.list.now k))) place) in
+    near.seen ∙ (ap (λ o. option_or o (visible_enum near.rest n)) found ∙ ap (λ o. Some (under n.text.now (enum_at o p))) (sym here))
 
 -- No body is left.
 pub none_left : (t : Enums) (numbers : List ℕ) (n : Name) (i : ℕ) → length numbers ≤ i → IsLeft t numbers n i → (bodies : Bodies) (around : Around) → AreEnumsOfBodies t bodies → HaveEnvs bodies.list.items numbers around → visible_enum around n ≡ None

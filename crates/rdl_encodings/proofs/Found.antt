@@ -1,55 +1,63 @@
 -- What a name means among the enumerations of a body.
-use Rattle.std.proofs.Common.{◌≡◌, ◌∙◌, ℕ, Bool, true, false, ◌&&◌, cond, List, [], ◌∷◌, filter, find, map, nat_lt, bytes_eq, Option, Some, option_map, refl, ap, sym}
+use Rattle.std.proofs.Common.{◌≡◌, ◌∙◌, ℕ, Bool, true, false, ◌&&◌, cond, List, [], ◌∷◌, ◌++◌, append_assoc, filter, find, length, map, nat_lt, bytes_eq, Option, Some, option_map, slice_get, refl, ap, sym}
 use Rattle.std.specs.Cmp.Lexicographic.{bytes_decides}
 use Rattle.rdl_tree.specs.declared.expr.Name.{Name}
-use Rattle.rdl_tree.specs.declared.value.EntryValue.{EntryValue}
+use Rattle.rdl_tree.specs.declared.value.EnumValues.{EnumValues}
 use Rattle.rdl_tree.specs.declared.value.Env.{Env, Env', out-Env}
-use Rattle.rdl_values.specs.Seen.{around_of, enum_in}
+use Rattle.rdl_values.specs.Bodies.{standing_from}
+use Rattle.rdl_values.specs.Seen.{around_of, entry_of, listed_enum}
 use Rattle.rdl_values.specs.Values.{Around, EnumOf, Names}
-use Rattle.rdl_facts.specs.Places.{ArePlaces}
-use Rattle.rdl_encodings.specs.Body.{AreEnumsOf, enum_in_body}
-use Rattle.rdl_encodings.specs.Lists.{AreEntriesOf}
+use Rattle.rdl_facts.specs.Places.{ArePlaces, stands}
+use Rattle.rdl_encodings.specs.Body.{AreEnumsOf, under}
 use Rattle.rdl_encodings.specs.declared.body.BodyEnums.{BodyEnums}
 
 abbrev first-enums : Around → List EnumOf
 first-enums [] = []
 first-enums (names ∷ rest) = names.enums
 
-enums-in : (env : Env) (names : Names) (rest : Around) → around_of env ≡ names ∷ rest → map (enum_in (out-Env env).entries.now) (out-Env env).enums.now ≡ names.enums
+enums-in : (env : Env) (names : Names) (rest : Around) → around_of env ≡ names ∷ rest → map listed_enum (out-Env env).enums.now ≡ names.enums
 unfolding out-Env denote.Hole.Carrier.out
-enums-in (Env' bs ns es outer) names rest e = ap (λ ws. first-enums ws) e
+enums-in (Env' bs es outer) names rest e = ap (λ ws. first-enums ws) e
 
-module _ (b : BodyEnums) (es : List EntryValue) (lists : AreEntriesOf b.lists es) (n : Name) where
-  abbrev named : List Name → List ℕ
-  named ns = map (λ m. m.place.0) (filter (λ m. bytes_eq m.text.now n.text.now) ns)
+-- what stands behind some others
+behind : (before : List EnumValues) (m : EnumValues) (ms : List EnumValues) → slice_get (before ++ (m ∷ ms)) (length before) ≡ Some m
+behind [] m ms = refl
+behind (e ∷ before) m ms = behind before m ms
 
-  abbrev meant : List EnumOf → Option EnumOf
-  meant xs = find (λ e. bytes_eq e.name n.text.now && nat_lt e.place n.place.0) xs
+module _ (n : Name) where
+  abbrev first : List (List EnumValues × EnumValues) → Option ℕ
+  first es = option_map (λ s. s.number) (find (λ s. nat_lt s.place n.place.0) (map stands (filter (λ e. bytes_eq e.1.name.text.now n.text.now) es)))
 
-  abbrev before : List ℕ → Option EnumOf
-  before ps = option_map (enum_in_body b n) (find (λ p. nat_lt p n.place.0) ps)
+  abbrev meant : List EnumValues → Option EnumOf
+  meant es = find (λ e. bytes_eq e.name n.text.now && nat_lt e.place n.place.0) (map listed_enum es)
 
-  found : (ns : List Name) → meant (map (enum_in es) ns) ≡ before (named ns)
-  found [] = refl
-  found (m ∷ ns) = go (bytes_eq m.text.now n.text.now) refl (found ns)
+  abbrev at : List EnumValues → Option ℕ → Option EnumOf
+  at all o = option_map (λ k. under n.text.now (slice_get all k)) o
+
+  found : (all before es : List EnumValues) → all ≡ before ++ es → meant es ≡ at all (first (standing_from before es))
+  found all before [] e = refl
+  found all before (m ∷ es) e = go (bytes_eq m.name.text.now n.text.now) refl (found all (before ++ (m ∷ [])) es (e ∙ sym (append_assoc before (m ∷ []) es)))
     where
-      same : bytes_eq m.text.now n.text.now ≡ true → enum_in es m ≡ enum_in_body b n m.place.0
-      same t = λ i. record { name = (bytes_decides m.text.now n.text.now).0 t i; place = m.place.0; entries = sym (lists.each m.place.0) i }
+      rest : List (List EnumValues × EnumValues)
+      rest = filter (λ e. bytes_eq e.1.name.text.now n.text.now) (standing_from (before ++ (m ∷ [])) es)
 
-      here : bytes_eq m.text.now n.text.now ≡ true → (y : Bool) → meant (map (enum_in es) ns) ≡ before (named ns)
-          → cond y (Some (enum_in es m)) (meant (map (enum_in es) ns)) ≡ option_map (enum_in_body b n) (cond y (Some m.place.0) (find (λ p. nat_lt p n.place.0) (named ns)))
+      same : bytes_eq m.name.text.now n.text.now ≡ true → listed_enum m ≡ under n.text.now (slice_get all (length before))
+      same t = (λ i. record { name = (bytes_decides m.name.text.now n.text.now).0 t i; place = m.name.place.0; entries = map entry_of m.entries.now }) ∙ ap (under n.text.now) (sym (ap (λ xs. slice_get xs (length before)) e ∙ behind before m es))
+
+      here : bytes_eq m.name.text.now n.text.now ≡ true → (y : Bool) → meant es ≡ at all (first (standing_from (before ++ (m ∷ [])) es))
+          → cond y (Some (listed_enum m)) (meant es) ≡ at all (option_map (λ s. s.number) (cond y (Some (stands (before, m))) (find (λ s. nat_lt s.place n.place.0) (map stands rest))))
       here t true k = ap Some (same t)
       here t false k = k
 
-      go : (x : Bool) → bytes_eq m.text.now n.text.now ≡ x → meant (map (enum_in es) ns) ≡ before (named ns)
-          → cond (x && nat_lt m.place.0 n.place.0) (Some (enum_in es m)) (meant (map (enum_in es) ns)) ≡ before (map (λ m. m.place.0) (cond x (m ∷ filter (λ m. bytes_eq m.text.now n.text.now) ns) (filter (λ m. bytes_eq m.text.now n.text.now) ns)))
-      go true t k = here t (nat_lt m.place.0 n.place.0) k
+      go : (x : Bool) → bytes_eq m.name.text.now n.text.now ≡ x → meant es ≡ at all (first (standing_from (before ++ (m ∷ [])) es))
+          → cond (x && nat_lt m.name.place.0 n.place.0) (Some (listed_enum m)) (meant es) ≡ at all (option_map (λ s. s.number) (find (λ s. nat_lt s.place n.place.0) (map stands (cond x ((before, m) ∷ rest) rest))))
+      go true t k = here t (nat_lt m.name.place.0 n.place.0) k
       go false t k = k
 
-pub of_names : (b : BodyEnums) (env : Env) → ArePlaces b.places (out-Env env).enums.now → AreEntriesOf b.lists (out-Env env).entries.now → (names : Names) (rest : Around) → around_of env ≡ names ∷ rest → AreEnumsOf b names
-of_names b env places lists names rest e = record {
+pub of_names : (b : BodyEnums) (env : Env) → ArePlaces b.places (out-Env env).enums.now → b.list.now ≡ (out-Env env).enums.now → (names : Names) (rest : Around) → around_of env ≡ names ∷ rest → AreEnumsOf b names
+of_names b env places list names rest e = record {
   found = λ n.
-      let es = (out-Env env).entries.now in
-      let ns = (out-Env env).enums.now in
-      ap (meant b es lists n) (sym (enums-in env names rest e)) ∙ (found b es lists n ns ∙ ap (before b es lists n) (sym (places.each n.text.now)));
+      let es = (out-Env env).enums.now in
+      ap (λ xs. find (λ e. bytes_eq e.name n.text.now && nat_lt e.place n.place.0) xs) (sym (enums-in env names rest e)) ∙ found n b.list.now [] es list
+      ∙ ap (λ ss. at n b.list.now (option_map (λ s. s.number) (find (λ s. nat_lt s.place n.place.0) ss))) (sym (places.each n.text.now));
 }

@@ -1,12 +1,13 @@
 -- Numbers of fields, one by one.
-use Rattle.std.proofs.Common.{◌≡◌, ◌∙◌, ℕ, Bool, true, false, ◌&&◌, cond, nat_eq, List, [], ◌∷◌, ◌++◌, length, map, suc, Option, None, Some, is_some, option_and_then, refl, sym, ap, subst}
+use Rattle.std.proofs.Common.{◌≡◌, ◌∙◌, ℕ, Bool, true, false, ◌&&◌, cond, nat_eq, List, [], ◌∷◌, ◌++◌, length, map, suc, Option, None, Some, is_some, option_and_then, slice_get, refl, sym, ap, subst}
 use Rattle.std.proofs.lemmas.Bool.Decides.{Decides-eqb}
 use Rattle.encodings.specs.Encodings.{Enumerations}
+use Rattle.rdl_tree.specs.declared.value.EnumValues.{EnumValues}
 use Rattle.rdl_values.specs.Instances.{Instance}
-use Rattle.rdl_values.specs.Table.{entries_by}
 use Rattle.rdl_values.specs.Values.{EnumOf}
 use Rattle.rdl_encodings.specs.Encoded.{encoded_by, encodings_of, firsts}
-use Rattle.rdl_encodings.specs.Enums.{entries_of, enum_found}
+use Rattle.rdl_encodings.specs.Body.{under}
+use Rattle.rdl_encodings.specs.Enums.{enum_at, enum_found}
 use Rattle.rdl_encodings.specs.Keyed.{AreDistinct, enum_of_key}
 use Rattle.rdl_encodings.specs.Known.{known_at}
 use Rattle.rdl_encodings.specs.Meant.{enum_meant}
@@ -23,31 +24,35 @@ use Rattle.rdl_encodings.proofs.Same.{both-true, stays, there}
 
 -- One that is known, and one that isn't.
 
-pub known_one : (n : Numbers) (t : Enums) (ls : List (ℕ × EnumOf)) (i : ℕ) (m : Meant) (k : ℕ) → known_at n.known m.body m.place ≡ Some k → AreNumbers n t ls
+-- the number doesn't depend on the name
+any-name : (ls : List (ℕ × EnumOf)) (a b : List ℕ) (o : Option EnumValues) → number_in ls (under a o) ≡ number_in ls (under b o)
+any-name ls a b None = refl
+any-name ls a b (Some e) = refl
+
+pub known_one : (n : Numbers) (t : Enums) (ls : List (ℕ × EnumOf)) (i : ℕ) (m : Meant) (k : ℕ) → known_at n.known m.body m.number ≡ Some k → AreNumbers n t ls
     → AreNumbers n t (with_one ls i (enum_meant t m)) × (number_in (with_one ls i (enum_meant t m)) (enum_meant t m) ≡ Some k)
 known_one n t ls i m k at h =
-    let number = h.known_.each m.name.now m.body m.place k at in
+    let number = h.known_.each m.name.now m.body m.number k at in
     let same = there ls i (enum_meant t m) k number in
     (subst (AreNumbers n t) (sym same) h, ap (λ xs. number_in xs (enum_meant t m)) same ∙ number)
 
-known-more : (old new : Known) (t : Enums) (ls : List (ℕ × EnumOf)) (i : ℕ) (m : Meant) (k : ℕ) → ((b p : ℕ) → known_at new b p ≡ cond (nat_eq m.body b && nat_eq m.place p) (Some k) (known_at old b p)) → number_in (with_one ls i (enum_meant t m)) (enum_meant t m) ≡ Some k
+known-more : (old new : Known) (t : Enums) (ls : List (ℕ × EnumOf)) (i : ℕ) (m : Meant) (k : ℕ) → ((b p : ℕ) → known_at new b p ≡ cond (nat_eq m.body b && nat_eq m.number p) (Some k) (known_at old b p)) → number_in (with_one ls i (enum_meant t m)) (enum_meant t m) ≡ Some k
     → AreKnown old t ls → AreKnown new t (with_one ls i (enum_meant t m))
-known-more old new t ls i m k put number h = record { each = λ name b p n at. go name b p n (nat_eq m.body b && nat_eq m.place p) refl (sym (put b p) ∙ at) }
+known-more old new t ls i m k put number h = record { each = λ name b p n at. go name b p n (nat_eq m.body b && nat_eq m.number p) refl (sym (put b p) ∙ at) }
   where
-    go : (name : List ℕ) (b p n : ℕ) (x : Bool) → (nat_eq m.body b && nat_eq m.place p) ≡ x → cond x (Some k) (known_at old b p) ≡ Some n → number_in (with_one ls i (enum_meant t m)) (enum_found t name (b, p)) ≡ Some n
+    go : (name : List ℕ) (b p n : ℕ) (x : Bool) → (nat_eq m.body b && nat_eq m.number p) ≡ x → cond x (Some k) (known_at old b p) ≡ Some n → number_in (with_one ls i (enum_meant t m)) (enum_found t name (b, p)) ≡ Some n
     go name b p n false q at = stays ls i (enum_meant t m) (enum_found t name (b, p)) n (h.each name b p n at)
     go name b p n true q at =
-        let both = both-true (nat_eq m.body b) (nat_eq m.place p) q in
+        let both = both-true (nat_eq m.body b) (nat_eq m.number p) q in
         let body = (Decides-eqb m.body b).0 both.0 in
-        let place = (Decides-eqb m.place p).0 both.1 in
-        (λ j. number_in (with_one ls i (enum_meant t m)) (enum_found t name (sym body j, sym place j))) ∙ (number ∙ at)
+        let number-is = (Decides-eqb m.number p).0 both.1 in
+        (λ j. number_in (with_one ls i (enum_meant t m)) (enum_found t name (sym body j, sym number-is j))) ∙ (any-name (with_one ls i (enum_meant t m)) name m.name.now (enum_at (slice_get t.bodies.items m.body) m.number) ∙ (number ∙ at))
 
-pub new_one : (old new : Numbers) (t : Enums) (ls : List (ℕ × EnumOf)) (i : ℕ) (m : Meant) (key : EnumKey) (k : ℕ) → key.place ≡ m.place → entries_by key.entries.items ≡ entries_of t m.body m.place
+pub new_one : (old new : Numbers) (t : Enums) (ls : List (ℕ × EnumOf)) (i : ℕ) (m : Meant) (key : EnumKey) (k : ℕ) → enum_of_key m.name.now key ≡ enum_meant t m
     → ((xs : List (ℕ × EnumOf)) → AreDistinct old.distinct xs → AreDistinct new.distinct (with_one xs i (enum_of_key m.name.now key)) × (number_in (with_one xs i (enum_of_key m.name.now key)) (enum_of_key m.name.now key) ≡ Some k))
-    → ((b p : ℕ) → known_at new.known b p ≡ cond (nat_eq m.body b && nat_eq m.place p) (Some k) (known_at old.known b p)) → AreNumbers old t ls
+    → ((b p : ℕ) → known_at new.known b p ≡ cond (nat_eq m.body b && nat_eq m.number p) (Some k) (known_at old.known b p)) → AreNumbers old t ls
     → AreNumbers new t (with_one ls i (enum_meant t m)) × (number_in (with_one ls i (enum_meant t m)) (enum_meant t m) ≡ Some k)
-new_one old new t ls i m key k place entries distinct put h =
-    let same : enum_of_key m.name.now key ≡ enum_meant t m = λ j. record { name = m.name.now; place = place j; entries = entries j } in
+new_one old new t ls i m key k same distinct put h =
     let d = subst (λ e. AreDistinct new.distinct (with_one ls i e) × (number_in (with_one ls i e) e ≡ Some k)) same (distinct ls h.distinct_) in
     (record { known_ = known-more old.known new.known t ls i m k put d.1 h.known_; distinct_ = d.0 }, d.1)
 

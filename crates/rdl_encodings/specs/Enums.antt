@@ -1,25 +1,22 @@
 -- The enumerations of all open bodies.
-use Rattle.std.specs.Prelude.{◌≡◌, ℕ, List, [], ◌∷◌, Option, None, Some, slice_get}
+use Rattle.std.specs.Prelude.{◌≡◌, ℕ, List, ◌∷◌, Option, None, Some, slice_get}
+use Rattle.rdl_tree.specs.declared.value.EnumValues.{EnumValues}
 use Rattle.rdl_values.specs.Seen.{around_of}
 use Rattle.rdl_values.specs.Values.{Around, EnumOf, Names}
 use Rattle.rdl_bodies.specs.declared.bodies.Bodies.{Bodies}
 use Rattle.rdl_bodies.specs.declared.bodies.Body.{Body}
-use Rattle.rdl_encodings.specs.Body.{AreEnumsOf}
-use Rattle.rdl_encodings.specs.Lists.{entries_in}
+use Rattle.rdl_encodings.specs.Body.{AreEnumsOf, under}
 use Rattle.rdl_encodings.specs.declared.body.BodyEnums.{BodyEnums}
 use Rattle.rdl_encodings.specs.declared.enums.Enums.{Enums}
 
--- the entries of the enumeration at a place of a body
-abbrev pub entries_at_place : Option BodyEnums → ℕ → List (List ℕ × ℕ)
-entries_at_place None p = []
-entries_at_place (Some b) p = entries_in b.lists p
+-- the enumeration of a number among those of a body
+abbrev pub enum_at : Option BodyEnums → ℕ → Option EnumValues
+enum_at None k = None
+enum_at (Some b) k = slice_get b.list.now k
 
-abbrev pub entries_of : Enums → ℕ → ℕ → List (List ℕ × ℕ)
-entries_of t k p = entries_at_place (slice_get t.bodies.items k) p
-
--- the enumeration at a place of a body, under a name
+-- the same of the body of a number, under a name
 abbrev pub enum_found : Enums → List ℕ → ℕ × ℕ → EnumOf
-enum_found t name at = record { name = name; place = at.1; entries = entries_of t at.0 at.1 }
+enum_found t name at = under name (enum_at (slice_get t.bodies.items at.0) at.1)
 
 -- the body of this number has the enumerations of these names
 abbrev pub HasEnums : Enums → ℕ → Names → Type 0

@@ -3,7 +3,6 @@ pub mod Encoded
 pub mod Enums
 pub mod Keyed
 pub mod Known
-pub mod Lists
 pub mod Meant
 pub mod Numbered
 pub mod Same

@@ -13,7 +13,7 @@ use Rattle.rdl_encodings.specs.declared.enums.Enums.{Enums}
 use Rattle.rdl_encodings.specs.declared.meant.Meant.{Meant}
 
 abbrev pub enum_meant : Enums → Meant → EnumOf
-enum_meant t m = enum_found t m.name.now (m.body, m.place)
+enum_meant t m = enum_found t m.name.now (m.body, m.number)
 
 abbrev pub names_enum : Setting → Bool
 names_enum (set.EnumOf n k) = true

@@ -14,7 +14,7 @@ use Rattle.rdl_encodings.specs.declared.numbers.Numbers.{Numbers}
 
 -- Numbers that are known are those of enumerations among these.
 pub record AreKnown (k : Known) (t : Enums) (ls : List (ℕ × EnumOf)) : Type 0 where
-  pub each : (name : List ℕ) (body place n : ℕ) → known_at k body place ≡ Some n → number_in ls (enum_found t name (body, place)) ≡ Some n
+  pub each : (name : List ℕ) (body number n : ℕ) → known_at k body number ≡ Some n → number_in ls (enum_found t name (body, number)) ≡ Some n
 
 -- They are those of these enumerations, which stand beside the numbers of fields.
 pub record AreNumbers (n : Numbers) (t : Enums) (ls : List (ℕ × EnumOf)) : Type 0 where

@@ -1,9 +1,14 @@
 //! Enumerations, each once.
 
-ghost use Rattle.std.specs.Prelude.{◌≡◌, IfOk};
+ghost use Rattle.std.specs.Prelude.{◌≡◌, ℕ, List, IfOk, Some, map};
+ghost use Rattle.rdl_values.specs.Seen.{entry_of};
+ghost use Rattle.rdl_values.specs.Table.{entries_by};
+ghost use Rattle.rdl_encodings.specs.Body.{under};
+ghost use Rattle.rdl_encodings.specs.Keyed.{enum_of_key};
 
 use encodings::Encoding;
 use rb_base::NoMemory;
+use rdl_tree::{EntryValue, EnumValues};
 use std::alloc::Global;
 use std::collections::BTreeMap;
 
@@ -21,11 +26,33 @@ pub(crate) struct Distinct<'a> {
     list: Vec<Encoding<'a>>,
 }
 
-/// The same entries again.
-pub(crate) fn copied<'a>(
+// The entries of an enumeration under their texts.
+fn entries_of<'a>(
     alloc: Global,
-    entries: &[(&'a [u8], u64)],
+    entries: &[EntryValue<'a>],
 ) -> Result<Vec<(&'a [u8], u64)>, NoMemory>
+    ensures { IfOk result (λ list. entries_by list.items ≡ map entry_of entries.now) }
+{
+    let mut list = Vec::with_capacity(alloc, entries.len())?;
+    for entry in entries {
+        list.push((entry.name.text, entry.value))?;
+    }
+    Ok(list)
+}
+
+/// What decides which enumeration this is.
+pub(crate) fn key_of<'a>(alloc: Global, of: &EnumValues<'a>) -> Result<EnumKey<'a>, NoMemory>
+    ensures { IfOk result (λ key. (name : List ℕ) → enum_of_key name key ≡ under name (Some of.now)) }
+{
+    let entries = entries_of(alloc, of.entries)?;
+    Ok(EnumKey {
+        place: of.name.place.0,
+        entries,
+    })
+}
+
+// The same entries again.
+fn copied<'a>(alloc: Global, entries: &[(&'a [u8], u64)]) -> Result<Vec<(&'a [u8], u64)>, NoMemory>
     ensures { IfOk result (λ list. list.items ≡ entries.now) }
 {
     let mut list = Vec::new(alloc);

@@ -1,10 +1,10 @@
 //! The enumerations of all open bodies.
 
 use crate::body::BodyEnums;
-use crate::distinct::EnumKey;
+use crate::distinct::{EnumKey, key_of};
 use rb_base::NoMemory;
 use rdl_bodies::Bodies;
-use rdl_tree::Name;
+use rdl_tree::{EnumValues, Name};
 use std::alloc::Global;
 
 /// The enumerations of open bodies, by the numbers of the bodies.
@@ -14,12 +14,12 @@ pub(crate) struct Enums<'a> {
 }
 
 impl<'a> Enums<'a> {
-    ghost use Rattle.std.specs.Prelude.{◌≡◌, IfOk, option_copied, option_map, slice_get};
-    ghost use Rattle.rdl_values.specs.Table.{entries_by};
+    ghost use Rattle.std.specs.Prelude.{◌≡◌, ℕ, List, IfOk, option_copied, option_map, slice_get};
     ghost use Rattle.rdl_values.specs.Values.{Around, visible_enum};
     ghost use Rattle.rdl_bodies.specs.Sited.{HaveEnvs};
     ghost use Rattle.rdl_bodies.specs.declared.bodies.Bodies.{Bodies as AnyBodies};
-    ghost use Rattle.rdl_encodings.specs.Enums.{AreEnumsOfBodies, entries_of, enum_found};
+    ghost use Rattle.rdl_encodings.specs.Enums.{AreEnumsOfBodies, enum_at, enum_found};
+    ghost use Rattle.rdl_encodings.specs.Keyed.{enum_of_key};
 
     /// Those of no body.
     pub fn none(alloc: Global) -> Self {
@@ -28,7 +28,7 @@ impl<'a> Enums<'a> {
         }
     }
 
-    /// Those of all these bodies, in time for their enumerations and the entries of these.
+    /// Those of all these bodies, in time for their enumerations.
     pub fn of(alloc: Global, bodies: &Bodies<'a>) -> Result<Self, NoMemory>
         ensures { IfOk result (λ t. AreEnumsOfBodies t bodies.now) }
     {
@@ -48,30 +48,41 @@ impl<'a> Enums<'a> {
     }
 
     /// The enumeration that a name means in the bodies of these numbers, the nearest first (SystemRDL 2.0, 5.1.4): the number of the
-    /// body that has it, and where it stands.
-    pub fn place(&self, numbers: &[usize], name: &Name<'a>) -> Option<(usize, u32)>
+    /// body that has it, and its number there.
+    pub fn find(&self, numbers: &[usize], name: &Name<'a>) -> Option<(usize, usize)>
         ensures { (bodies : AnyBodies) (around : Around) → AreEnumsOfBodies self.now bodies → HaveEnvs bodies.list.items numbers.now around → visible_enum around name.now ≡ option_map (enum_found self.now name.now.text.now) result }
     {
         for number in numbers {
             let Some(body) = self.body(*number) else {
                 return None;
             };
-            if let Some(place) = body.place(name) {
-                return Some((*number, place));
+            if let Some(within) = body.number(name) {
+                return Some((*number, within));
             }
         }
         None
     }
 
-    /// What decides which enumeration the one at a place of a body is.
-    pub fn key(&self, alloc: Global, body: usize, place: u32) -> Result<EnumKey<'a>, NoMemory>
-        ensures place { IfOk result (λ key. key.place ≡ place) }
-        ensures entries { IfOk result (λ key. entries_by key.entries.items ≡ entries_of self.now body place) }
+    // The enumeration of a number of a body.
+    fn at(&self, body: usize, number: usize) -> Option<EnumValues<'a>>
+        ensures { result ≡ enum_at (slice_get self.now.bodies.items body) number }
     {
-        let entries = match self.body(body) {
-            Some(enums) => enums.entries(alloc, place)?,
-            None => Vec::new(alloc),
-        };
-        Ok(EnumKey { place, entries })
+        match self.body(body) {
+            Some(enums) => enums.at(number),
+            None => None,
+        }
+    }
+
+    /// What decides which enumeration the one of a number of a body is.
+    pub fn key(&self, alloc: Global, body: usize, number: usize) -> Result<EnumKey<'a>, NoMemory>
+        ensures { IfOk result (λ key. (name : List ℕ) → enum_of_key name key ≡ enum_found self.now name (body, number)) }
+    {
+        match self.at(body, number) {
+            Some(of) => key_of(alloc, &of),
+            None => Ok(EnumKey {
+                place: 0,
+                entries: Vec::new(alloc),
+            }),
+        }
     }
 }

@@ -1,13 +1,13 @@
-//! The numbers of enumerations whose bodies and places are known.
+//! The numbers of enumerations that were met in open bodies.
 
 use rb_base::NoMemory;
 use std::alloc::Global;
 use std::collections::BTreeMap;
 
-/// The numbers of enumerations, by the number of the body that has one and the place of its name.
+/// The numbers of enumerations, by the number of the body that has one and its number there.
 #[derive(Drop)]
 pub(crate) struct Known {
-    numbers: BTreeMap<(usize, u32), u32>,
+    numbers: BTreeMap<(usize, usize), u32>,
 }
 
 impl Known {
@@ -16,25 +16,25 @@ impl Known {
 
     /// None yet.
     pub fn new(alloc: Global) -> Self
-        ensures { (body place : ℕ) → known_at result body place ≡ None }
+        ensures { (body within : ℕ) → known_at result body within ≡ None }
     {
         Known {
             numbers: BTreeMap::new(alloc),
         }
     }
 
-    /// The number of the enumeration at a place of a body, if it is known.
-    pub fn find(&self, body: usize, place: u32) -> Option<u32>
-        ensures { result ≡ known_at self.now body place }
+    /// The number of an enumeration of a body, if it is known.
+    pub fn find(&self, body: usize, within: usize) -> Option<u32>
+        ensures { result ≡ known_at self.now body within }
     {
-        self.numbers.get(&(body, place)).copied()
+        self.numbers.get(&(body, within)).copied()
     }
 
     /// Makes a number known.
-    pub fn put(&mut self, body: usize, place: u32, number: u32) -> Result<(), NoMemory>
-        ensures { OnOk result ((b p : ℕ) → known_at self.new b p ≡ cond (nat_eq body b && nat_eq place p) (Some number) (known_at self.old b p)) }
+    pub fn put(&mut self, body: usize, within: usize, number: u32) -> Result<(), NoMemory>
+        ensures { OnOk result ((b k : ℕ) → known_at self.new b k ≡ cond (nat_eq body b && nat_eq within k) (Some number) (known_at self.old b k)) }
     {
-        self.numbers.insert((body, place), number)?;
+        self.numbers.insert((body, within), number)?;
         Ok(())
     }
 }

@@ -6,7 +6,6 @@ mod distinct;
 mod enums;
 mod fields;
 mod known;
-mod lists;
 mod meant;
 mod numbering;
 mod numbers;

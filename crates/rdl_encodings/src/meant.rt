@@ -27,12 +27,12 @@ use rdl_props::Prop;
 use rdl_tree::Name;
 use std::alloc::Global;
 
-/// An enumeration under the name by which it is meant: the number of the body that has it, and where it stands.
+/// An enumeration under the name by which it is meant: the number of the body that has it, and its number there.
 #[derive(Clone, Copy)]
 pub(crate) struct Meant<'a> {
     pub name: &'a [u8],
     pub body: usize,
-    pub place: u32,
+    pub number: usize,
 }
 
 // Whether entries set `encode` to the name of an enumeration.
@@ -84,13 +84,13 @@ fn meant_from<'a>(
     let Some(body) = body_round(tree, scope) else {
         return None;
     };
-    let Some(at) = enums.place(body.numbers, name) else {
+    let Some(at) = enums.find(body.numbers, name) else {
         return None;
     };
     Some(Meant {
         name: name.text,
         body: at.0,
-        place: at.1,
+        number: at.1,
     })
 }
 

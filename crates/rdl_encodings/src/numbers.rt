@@ -8,8 +8,8 @@ use encodings::Encoding;
 use rb_base::NoMemory;
 use std::alloc::Global;
 
-/// Enumerations in the order in which they were put in, each once, and their numbers. Entries are compared once for each body and
-/// place, however many fields are encoded by them.
+/// Enumerations in the order in which they were put in, each once, and their numbers. Entries are compared once for each
+/// enumeration of a body, however many fields are encoded by them.
 #[derive(Drop)]
 pub(crate) struct Numbers<'a> {
     known: Known,
@@ -19,7 +19,6 @@ pub(crate) struct Numbers<'a> {
 impl<'a> Numbers<'a> {
     ghost use Rattle.std.specs.Prelude.{◌≡◌, [], ℕ, List, IfOk, Some, map};
     ghost use Rattle.rdl_values.specs.Values.{EnumOf};
-    ghost use Rattle.rdl_encodings.specs.Enums.{entries_of};
     ghost use Rattle.rdl_encodings.specs.Meant.{enum_meant};
     ghost use Rattle.rdl_encodings.specs.Numbered.{AreNumbers};
     ghost use Rattle.rdl_encodings.specs.Same.{number_in, shown, with_one};
@@ -45,12 +44,12 @@ impl<'a> Numbers<'a> {
     ) -> Result<u32, NoMemory>
         ensures { IfOk result (λ number. (ls : List (ℕ × EnumOf)) → AreNumbers self.old enums.now ls → AreNumbers self.new enums.now (with_one ls field (enum_meant enums.now at.now)) × (number_in (with_one ls field (enum_meant enums.now at.now)) (enum_meant enums.now at.now) ≡ Some number)) }
     {
-        if let Some(number) = self.known.find(at.body, at.place) {
+        if let Some(number) = self.known.find(at.body, at.number) {
             return Ok(number);
         }
-        let key = enums.key(alloc, at.body, at.place)?;
+        let key = enums.key(alloc, at.body, at.number)?;
         let number = self.distinct.number(alloc, field, at.name, key)?;
-        self.known.put(at.body, at.place, number)?;
+        self.known.put(at.body, at.number, number)?;
         Ok(number)
     }
 

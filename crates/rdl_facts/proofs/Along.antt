@@ -11,7 +11,7 @@ use Rattle.rdl_values.specs.Visible.{enum_before}
 use Rattle.rdl_bodies.specs.Sited.{HaveEnvs}
 use Rattle.rdl_bodies.specs.declared.bodies.Bodies.{Bodies}
 use Rattle.rdl_bodies.specs.declared.bodies.Body.{Body}
-use Rattle.rdl_facts.specs.Body.{AreEnumsOf, AreKept, IsFound, kept_of, place_in}
+use Rattle.rdl_facts.specs.Body.{AreEnumsOf, AreKept, IsFound, kept_of, number_in}
 use Rattle.rdl_facts.specs.Greatest.{IsGreatest, greatest_at}
 use Rattle.rdl_facts.specs.Table.{AreNumbersOf, entries_meant, enums_at}
 use Rattle.rdl_facts.specs.declared.body.BodyEnums.{BodyEnums}
@@ -66,16 +66,16 @@ next-in t numbers n i d l left bodies around are envs =
     let h = left bodies around are envs in
     nearest-in t bodies (get_or numbers i d) (drop (i + 1) numbers) around h.0 n are (subst (λ ks. HaveEnvs bodies.list.items ks h.0) (drop_more numbers i d l) h.1) h.2
 
--- where the enumeration stands that a name means in a body, if it has any
-abbrev pub place_of : Option BodyEnums → Name → Option ℕ
-place_of None n = None
-place_of (Some b) n = place_in b n
+-- the number of the enumeration that a name means in a body, if it has any
+abbrev pub number_of : Option BodyEnums → Name → Option ℕ
+number_of None n = None
+number_of (Some b) n = number_in b n
 
 unfound : (b : BodyEnums) (o : Option EnumOf) → IsFound b None o → o ≡ None
 unfound b None h = refl
 unfound b (Some e) h = absurd h
 
-none-before : (o : Option BodyEnums) (names : Names) (n : Name) → AreKept o names → place_of o n ≡ None → enum_before n names ≡ None
+none-before : (o : Option BodyEnums) (names : Names) (n : Name) → AreKept o names → number_of o n ≡ None → enum_before n names ≡ None
 none-before None names n are none = ap (find (λ (e : EnumOf). bytes_eq e.name n.text.now && nat_lt e.place n.place.0)) are
 none-before (Some b) names n are none = unfound b (enum_before n names) (subst (λ p. IsFound b p (enum_before n names)) none (are.found n))
 
@@ -84,14 +84,14 @@ one-seen b p around rest n None seen h = absurd h
 one-seen b p around rest n (Some e) seen h = subst (IsGreatest (greatest_at b.greatest p)) (sym (ap (λ o. flat_map (λ (e : EnumOf). e.entries) (option_to_list o)) seen ∙ append-nil e.entries)) h
 
 -- The body has no enumeration that is meant.
-pub left_more : (t : EnumNumbers) (numbers : List ℕ) (n : Name) (i d : ℕ) (o : Option BodyEnums) → i < length numbers → enums_at t (get_or numbers i d) ≡ o → place_of o n ≡ None → IsLeft t numbers n i → IsLeft t numbers n (i + 1)
+pub left_more : (t : EnumNumbers) (numbers : List ℕ) (n : Name) (i d : ℕ) (o : Option BodyEnums) → i < length numbers → enums_at t (get_or numbers i d) ≡ o → number_of o n ≡ None → IsLeft t numbers n i → IsLeft t numbers n (i + 1)
 left_more t numbers n i d o l here none left bodies around are envs =
     let near = next-in t numbers n i d l left bodies around are envs in
     let unseen = none-before o near.names n (subst (λ y. AreKept y near.names) here near.are) none in
     (near.rest, near.envs, near.seen ∙ ap (λ y. option_or y (visible_enum near.rest n)) unseen)
 
 -- It has one.
-pub meant_here : (t : EnumNumbers) (numbers : List ℕ) (n : Name) (i d : ℕ) (b : BodyEnums) (p : ℕ) → i < length numbers → enums_at t (get_or numbers i d) ≡ Some b → place_in b n ≡ Some p → IsLeft t numbers n i
+pub meant_here : (t : EnumNumbers) (numbers : List ℕ) (n : Name) (i d : ℕ) (b : BodyEnums) (p : ℕ) → i < length numbers → enums_at t (get_or numbers i d) ≡ Some b → number_in b n ≡ Some p → IsLeft t numbers n i
     → (bodies : Bodies) (around : Around) → AreNumbersOf t bodies → HaveEnvs bodies.list.items numbers around → IsGreatest (greatest_at b.greatest p) (entries_meant around n)
 meant_here t numbers n i d b p l here place left bodies around are envs =
     let near = next-in t numbers n i d l left bodies around are envs in

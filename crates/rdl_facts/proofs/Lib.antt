@@ -1,5 +1,6 @@
 mod Above
 mod Along
+mod Greater
 mod Listed
 mod Meant
 mod Narrow

@@ -6,7 +6,7 @@ use rb_base::NoMemory;
 use rdl_tree::{Env, Name};
 use std::alloc::Global;
 
-/// The enumerations of a body: where they stand, and the greatest number of each.
+/// The enumerations of a body by their names, and the greatest number of each.
 #[derive(Drop)]
 pub(crate) struct BodyEnums<'a> {
     places: Places<'a>,
@@ -17,7 +17,7 @@ impl<'a> BodyEnums<'a> {
     ghost use Rattle.std.specs.Prelude.{◌≡◌, ◌∷◌, Some, IfOk};
     ghost use Rattle.rdl_values.specs.Seen.{around_of};
     ghost use Rattle.rdl_values.specs.Values.{Around, Names};
-    ghost use Rattle.rdl_facts.specs.Body.{AreEnumsOf, AreKept, kept_of, place_in};
+    ghost use Rattle.rdl_facts.specs.Body.{AreEnumsOf, AreKept, kept_of, number_in};
     ghost use Rattle.rdl_facts.specs.Greatest.{greatest_at};
 
     /// The enumerations that an environment lists first.
@@ -25,7 +25,7 @@ impl<'a> BodyEnums<'a> {
         ensures { IfOk result (λ b. (names : Names) (rest : Around) → around_of env.now ≡ names ∷ rest → AreEnumsOf b names) }
     {
         let places = Places::of(alloc, env.enums)?;
-        let greatest = Greatest::of(alloc, env.entries)?;
+        let greatest = Greatest::of(alloc, env.enums)?;
         Ok(BodyEnums { places, greatest })
     }
 
@@ -40,17 +40,17 @@ impl<'a> BodyEnums<'a> {
         Ok(Some(Box::new(alloc, enums)?))
     }
 
-    /// Where the enumeration stands that a name means, if it means one of the body.
-    pub fn place(&self, name: &Name<'a>) -> Option<u32>
-        ensures { result ≡ place_in self.now name.now }
+    /// The number of the enumeration that a name means, if it means one of the body.
+    pub fn number(&self, name: &Name<'a>) -> Option<usize>
+        ensures { result ≡ number_in self.now name.now }
     {
         self.places.before(name)
     }
 
-    /// The greatest number of the enumeration that stands at this place.
-    pub fn greatest(&self, place: u32) -> Option<u64>
-        ensures { result ≡ greatest_at self.now.greatest place }
+    /// The greatest number of the enumeration of a number.
+    pub fn greatest(&self, number: usize) -> Option<u64>
+        ensures { result ≡ greatest_at self.now.greatest number }
     {
-        self.greatest.at(place)
+        self.greatest.at(number)
     }
 }

@@ -1,17 +1,17 @@
 //! The greatest number of each enumeration of a body.
 
-ghost use Rattle.std.specs.Prelude.{◌≡◌, ◌||◌, ℕ, nat_le};
-ghost use Rattle.rdl_facts.specs.Greatest.{reaches};
+ghost use Rattle.std.specs.Prelude.{◌≡◌, ◌||◌, ℕ, map, nat_le};
+ghost use Rattle.rdl_values.specs.Seen.{entry_of};
+ghost use Rattle.rdl_facts.specs.Greatest.{IsGreatest, reaches};
 
-use indexmap::IndexMap;
 use rb_base::NoMemory;
-use rdl_tree::EntryValue;
+use rdl_tree::{EntryValue, EnumValues};
 use std::alloc::Global;
 
-/// The greatest numbers of enumerations, by where their names stand. One without entries has none.
+/// The greatest numbers of the enumerations of a body, in order. One without entries has none.
 #[derive(Drop)]
 pub(crate) struct Greatest {
-    numbers: IndexMap<u32, u64>,
+    numbers: Vec<Option<u64>>,
 }
 
 // The greater of a number and of one before, if there is one.
@@ -24,45 +24,39 @@ fn greater(before: Option<u64>, number: u64) -> u64
     }
 }
 
+// The greatest number of some entries, if there are any.
+fn greatest_of(entries: &[EntryValue<'_>]) -> Option<u64>
+    ensures { IsGreatest result (map entry_of entries.now) }
+{
+    let mut greatest = None;
+    for entry in entries {
+        greatest = Some(greater(greatest, entry.value));
+    }
+    greatest
+}
+
 impl Greatest {
-    ghost use Rattle.std.specs.Prelude.{◌≡◌, ◌∷◌, ◌++◌, [], List, IfOk, OnOk};
-    ghost use Rattle.rdl_tree.specs.declared.value.EntryValue.{EntryValue as AnyEntry};
+    ghost use Rattle.std.specs.Prelude.{◌≡◌, IfOk};
     ghost use Rattle.rdl_facts.specs.Greatest.{AreGreatest, greatest_at};
 
-    // No entries yet.
-    fn new(alloc: Global) -> Self
-        ensures { AreGreatest result [] }
+    /// The greatest number of the enumeration of a number.
+    pub fn at(&self, number: usize) -> Option<u64>
+        ensures { result ≡ greatest_at self.now number }
     {
-        Greatest {
-            numbers: IndexMap::new(alloc),
+        match self.numbers.get(number) {
+            Some(greatest) => *greatest,
+            None => None,
         }
     }
 
-    /// The greatest number of the enumeration whose name stands at this place.
-    pub fn at(&self, place: u32) -> Option<u64>
-        ensures { result ≡ greatest_at self.now place }
+    /// Those of these enumerations.
+    pub fn of(alloc: Global, enums: &[EnumValues<'_>]) -> Result<Self, NoMemory>
+        ensures { IfOk result (λ g. AreGreatest g enums.now) }
     {
-        self.numbers.get(&place).copied()
-    }
-
-    // Puts in the number of one more entry.
-    fn put(&mut self, entry: &EntryValue<'_>) -> Result<(), NoMemory>
-        ensures { OnOk result ((es : List AnyEntry) → AreGreatest self.old es → AreGreatest self.new (es ++ (entry.now ∷ []))) }
-    {
-        let place = entry.of.place.0;
-        let greatest = greater(self.at(place), entry.value);
-        self.numbers.insert(place, greatest)?;
-        Ok(())
-    }
-
-    /// The greatest numbers of the enumerations that these entries are of.
-    pub fn of(alloc: Global, entries: &[EntryValue<'_>]) -> Result<Self, NoMemory>
-        ensures { IfOk result (λ g. AreGreatest g entries.now) }
-    {
-        let mut greatest = Greatest::new(alloc);
-        for entry in entries {
-            greatest.put(entry)?;
+        let mut numbers = Vec::new(alloc);
+        for of in enums {
+            numbers.push(greatest_of(of.entries))?;
         }
-        Ok(greatest)
+        Ok(Greatest { numbers })
     }
 }

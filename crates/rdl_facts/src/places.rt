@@ -1,32 +1,43 @@
-//! Where the enumerations of a name stand.
+//! The enumerations of a body by their names.
 
-ghost use Rattle.std.specs.Prelude.{◌≡◌, find, nat_lt};
+ghost use Rattle.std.specs.Prelude.{◌≡◌, find, nat_lt, option_map};
 
 use rb_base::{NoMemory, Place};
-use rdl_tree::Name;
+use rdl_tree::{EnumValues, Name};
 use std::alloc::Global;
 use std::collections::BTreeMap;
 
-/// Where the names of a body's enumerations stand, those of one name in text order.
-#[derive(Drop)]
-pub struct Places<'a> {
-    by_name: BTreeMap<&'a [u8], Vec<u32>>,
+/// An enumeration of a body: where its name stands, and its number among those of the body.
+#[derive(Clone, Copy)]
+pub struct Standing {
+    pub place: u32,
+    pub number: usize,
 }
 
-// The first of some places before another one.
-fn first_before(places: &[u32], end: Place) -> Option<u32>
-    ensures { result ≡ find (λ p. nat_lt p end.0) places.now }
+/// The enumerations of a body by their names, those of one name in text order.
+#[derive(Drop)]
+pub struct Places<'a> {
+    by_name: BTreeMap<&'a [u8], Vec<Standing>>,
+}
+
+// The number of the first of some enumerations that stands before a place.
+fn first_before(list: &[Standing], end: Place) -> Option<usize>
+    ensures { result ≡ option_map (λ s. s.number) (find (λ s. nat_lt s.place end.0) list.now) }
 {
-    places.iter().copied().find(|place| *place < end.0)
+    let first = list.iter().copied().find(|of| of.place < end.0);
+    match first {
+        Some(of) => Some(of.number),
+        None => None,
+    }
 }
 
 impl<'a> Places<'a> {
     ghost use Rattle.std.specs.Prelude.{◌≡◌, ◌∷◌, ◌++◌, [], ℕ, List, IfOk, OnOk, bytes_eq, cond};
-    ghost use Rattle.rdl_facts.specs.Places.{ArePlaces, place_before, places_of};
+    ghost use Rattle.rdl_facts.specs.Places.{ArePlaces, number_before, standing_of};
 
     // Those of a name.
-    fn all<'s>(&'s self, name: &'s [u8]) -> &'s [u32]
-        ensures { result.now ≡ places_of self.now name.now }
+    fn all<'s>(&'s self, name: &'s [u8]) -> &'s [Standing]
+        ensures { result.now ≡ standing_of self.now name.now }
     {
         match self.by_name.get(name) {
             Some(list) => list,
@@ -34,17 +45,17 @@ impl<'a> Places<'a> {
         }
     }
 
-    /// The first place before a name of those of its text.
-    pub fn before(&self, name: &Name<'_>) -> Option<u32>
-        ensures { result ≡ place_before self.now name.now }
+    /// The number of the enumeration that a name means: the first of those of its text that stand before it.
+    pub fn before(&self, name: &Name<'_>) -> Option<usize>
+        ensures { result ≡ number_before self.now name.now }
     {
         first_before(self.all(name.text), name.place)
     }
 
     // Takes those of a name out.
-    fn take(&mut self, alloc: Global, name: &'a [u8]) -> Result<Vec<u32>, NoMemory>
-        ensures rest { OnOk result ((n : List ℕ) → places_of self.new n ≡ cond (bytes_eq name.now n) [] (places_of self.old n)) }
-        ensures taken { IfOk result (λ r. r.items ≡ places_of self.old name.now) }
+    fn take(&mut self, alloc: Global, name: &'a [u8]) -> Result<Vec<Standing>, NoMemory>
+        ensures rest { OnOk result ((n : List ℕ) → standing_of self.new n ≡ cond (bytes_eq name.now n) [] (standing_of self.old n)) }
+        ensures taken { IfOk result (λ r. r.items ≡ standing_of self.old name.now) }
     {
         match self.by_name.insert(name, Vec::new(alloc))? {
             Some(list) => Ok(list),
@@ -53,24 +64,25 @@ impl<'a> Places<'a> {
     }
 
     // Puts one behind the others of its name.
-    fn put(&mut self, alloc: Global, name: &Name<'a>) -> Result<(), NoMemory>
-        ensures { OnOk result ((n : List ℕ) → places_of self.new n ≡ places_of self.old n ++ cond (bytes_eq name.now.text.now n) (name.now.place.0 ∷ []) []) }
+    fn put(&mut self, alloc: Global, name: &'a [u8], of: Standing) -> Result<(), NoMemory>
+        ensures { OnOk result ((n : List ℕ) → standing_of self.new n ≡ standing_of self.old n ++ cond (bytes_eq name.now n) (of ∷ []) []) }
     {
-        let mut list = self.take(alloc, name.text)?;
-        list.push(name.place.0)?;
-        self.by_name.insert(name.text, list)?;
+        let mut list = self.take(alloc, name)?;
+        list.push(of)?;
+        self.by_name.insert(name, list)?;
         Ok(())
     }
 
-    /// Where these names stand.
-    pub fn of(alloc: Global, names: &[Name<'a>]) -> Result<Self, NoMemory>
-        ensures { IfOk result (λ t. ArePlaces t names.now) }
+    /// These enumerations.
+    pub fn of(alloc: Global, enums: &[EnumValues<'a>]) -> Result<Self, NoMemory>
+        ensures { IfOk result (λ t. ArePlaces t enums.now) }
     {
         let mut places = Places {
             by_name: BTreeMap::new(alloc),
         };
-        for name in names {
-            places.put(alloc, name)?;
+        for (number, of) in enums.iter().enumerate() {
+            let place = of.name.place.0;
+            places.put(alloc, of.name.text, Standing { place, number })?;
         }
         Ok(places)
     }

@@ -52,8 +52,8 @@ impl<'a> EnumNumbers<'a> {
             let Some(body) = self.body(*number) else {
                 continue;
             };
-            if let Some(place) = body.place(name) {
-                return body.greatest(place);
+            if let Some(of) = body.number(name) {
+                return body.greatest(of);
             }
         }
         None

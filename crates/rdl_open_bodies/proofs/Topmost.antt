@@ -185,7 +185,7 @@ signals_inside e clean w u xs round starts most inv open_ h within standing chai
 
 bound-in : (env : Env) (names : Names) (ws : Around) → around_of env ≡ names ∷ ws → map bound_of (out-Env env).bound.now ≡ names.bound
 unfolding out-Env denote.Hole.Carrier.out
-bound-in (Env' bs ns es outer) names ws q = ap (λ xs. first-bound xs) q
+bound-in (Env' bs es outer) names ws q = ap (λ xs. first-bound xs) q
   where
     first-bound : Around → List (List ℕ × Val)
     first-bound [] = []

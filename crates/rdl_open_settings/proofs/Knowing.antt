@@ -247,7 +247,7 @@ bound-first (n ∷ ws) = n.bound
 
 env-bound : (env : Env) → map pair_bound (out-Env env).bound.now ≡ bound-first (around_of env)
 unfolding bound-first out-Env denote.Hole.Carrier.out
-env-bound (Env' bs ns es outer) = refl
+env-bound (Env' bs es outer) = refl
 
 module _ (t : Bodies) (x : Body) (b : values.Body) (first : ℕ) (rest : List ℕ) (split : x.numbers.now ≡ first ∷ rest) (h : IsOpenAs t x b) where
   shown-split : Shows t.tables.items t.components.items (first ∷ rest) (0 ∷ x.uptos.now) (scope_at b (take 0 x.items.now))

@@ -1,5 +1,5 @@
 -- The names of a body, item by item.
-use Rattle.std.proofs.Common.{◌≡◌, ◌∙◌, ℕ, suc, zero, ◌+◌, ◌<◌, ◌≤◌, ◌==◌, Bool, true, false, cond, List, [], ◌∷◌, ◌++◌, length, get_or, take, map, filter, flat_map, slice_get, Some, refl, sym, ap, subst, append-nil, arith}
+use Rattle.std.proofs.Common.{◌≡◌, ◌∙◌, ℕ, suc, zero, ◌+◌, ◌<◌, ◌≤◌, cond, List, [], ◌∷◌, ◌++◌, length, get_or, take, map, flat_map, slice_get, Some, refl, sym, ap, subst, append-nil, arith}
 use Rattle.std.specs.List.{AllByRecursion}
 use Rattle.std.proofs.lemmas.Grind.{flat_map-append}
 use Rattle.std.proofs.lemmas.List.{map-append, take_more}
@@ -9,12 +9,13 @@ use Rattle.rdl_tree.specs.InOrder.{IsInOrder, RiseFrom, place_of, more}
 use Rattle.rdl_tree.specs.declared.expr.Name.{Name}
 use Rattle.rdl_tree.specs.declared.item.Entry.{Entry}
 use Rattle.rdl_tree.specs.declared.item.Item.{Item, Def', EnumDef, Made, Default, Local, Dynamic}
-use Rattle.rdl_tree.specs.declared.value.EntryValue.{EntryValue}
+use Rattle.rdl_tree.specs.declared.value.EnumValues.{EnumValues}
 use Rattle.rdl_values.specs.Bodies.{Body, around, standing}
 use Rattle.rdl_values.specs.Enums.{around_enum, enum_of, judged, names_of, with_item, with_items}
 use Rattle.rdl_values.specs.Phase3.{of_enum}
-use Rattle.rdl_values.specs.Seen.{entries_at, enum_in}
-use Rattle.rdl_values.specs.Values.{Around, EnumOf, Names, Val}
+use Rattle.rdl_values.specs.Seen.{listed_enum}
+use Rattle.rdl_values.specs.Table.{is_enum_named}
+use Rattle.rdl_values.specs.Values.{Around, Names, Val}
 use Rattle.rdl_values.specs.Views as view
 use Rattle.rdl_values.specs.Views.{ItemIs, item_is}
 use Rattle.rdl_failures.specs.Noted.{with_all}
@@ -22,8 +23,9 @@ use Rattle.rdl_failures.specs.Shown.{IsAlike}
 use Rattle.rdl_failures.proofs.Around.{alike_same}
 use Rattle.rdl_failures.proofs.Noting.{standing-push}
 use Rattle.rdl_failures.proofs.Sets.{with_all-append}
-use Rattle.rdl_scopes.specs.Entries.{by_text}
-use Rattle.rdl_scopes.specs.Opened.{Adds, AddsAs, AddsItem, IsOpened, State, bodies, valued}
+use Rattle.rdl_scopes.specs.Entries.{IsValued, listed_as}
+use Rattle.rdl_scopes.specs.Opened.{Adds, AddsAs, AddsItem, IsOpened, State, bodies}
+use Rattle.rdl_scopes.specs.declared.entries.ValuedEnum.{ValuedEnum}
 use Rattle.rdl_scopes.specs.declared.enums.Opened.{Opened}
 use Rattle.rdl_scopes.specs.declared.enums.Outer.{Outer}
 use Rattle.rdl_scopes.proofs.Meant.{AreMeant, alike_bodies, meant_more, meant_none}
@@ -69,72 +71,19 @@ with_items-push : (outer : Around) (names : Names) (xs : List Item) (x : Item) �
 with_items-push outer names [] x = refl
 with_items-push outer names (y ∷ xs) x = with_items-push outer (with_item outer names (item_is y)) xs x
 
--- the numbers of a judgement
-same-at : (n : Name) (k : ℕ) → n.place.0 < k → (n.place.0 == k) ≡ false
-same-at n k l = grind (arith, l)
-
-other-at : (n : Name) (k : ℕ) → n.place.0 < k → (k == n.place.0) ≡ false
-other-at n k l = grind (arith, l)
-
-own-at : (n : Name) → (n.place.0 == n.place.0) ≡ true
-own-at n = grind arith
-
-filter-none : (of m : Name) (xs : List (Name × ℕ)) → (of.place.0 == m.place.0) ≡ false → filter (λ e. e.of.place.0 == m.place.0) (map (valued of) xs) ≡ []
-filter-none of m [] q = refl
-filter-none of m (x ∷ xs) q = ap (λ b. cond b (valued of x ∷ filter (λ e. e.of.place.0 == m.place.0) (map (valued of) xs)) (filter (λ e. e.of.place.0 == m.place.0) (map (valued of) xs))) q ∙ filter-none of m xs q
-
-filter-all : (of : Name) (xs : List (Name × ℕ)) → filter (λ e. e.of.place.0 == of.place.0) (map (valued of) xs) ≡ map (valued of) xs
-filter-all of [] = refl
-filter-all of (x ∷ xs) = ap (λ b. cond b (valued of x ∷ filter (λ e. e.of.place.0 == of.place.0) (map (valued of) xs)) (filter (λ e. e.of.place.0 == of.place.0) (map (valued of) xs))) (own-at of) ∙ ap (λ ys. valued of x ∷ ys) (filter-all of xs)
-
-filter-past : (m : Name) (es : List EntryValue) → AllByRecursion (λ e. e.of.place.0 < m.place.0) es → filter (λ e. e.of.place.0 == m.place.0) es ≡ []
-filter-past m [] all = refl
-filter-past m (e ∷ es) all = ap (λ b. cond b (e ∷ filter (λ e. e.of.place.0 == m.place.0) es) (filter (λ e. e.of.place.0 == m.place.0) es)) (same-at e.of m.place.0 all.0) ∙ filter-past m es all.1
-
-filter-append : (m : Name) (es fs : List EntryValue) → filter (λ e. e.of.place.0 == m.place.0) (es ++ fs) ≡ filter (λ e. e.of.place.0 == m.place.0) es ++ filter (λ e. e.of.place.0 == m.place.0) fs
-filter-append m [] fs = refl
-filter-append m (e ∷ es) fs = go (e.of.place.0 == m.place.0) (filter-append m es fs)
-  where
-    go : (b : Bool) → filter (λ e. e.of.place.0 == m.place.0) (es ++ fs) ≡ filter (λ e. e.of.place.0 == m.place.0) es ++ filter (λ e. e.of.place.0 == m.place.0) fs
-        → cond b (e ∷ filter (λ e. e.of.place.0 == m.place.0) (es ++ fs)) (filter (λ e. e.of.place.0 == m.place.0) (es ++ fs))
-        ≡ cond b (e ∷ filter (λ e. e.of.place.0 == m.place.0) es) (filter (λ e. e.of.place.0 == m.place.0) es) ++ filter (λ e. e.of.place.0 == m.place.0) fs
-    go true h = ap (λ xs. e ∷ xs) h
-    go false h = h
-
-abbrev text_value : EntryValue → List ℕ × ℕ
-text_value e = (e.name.text.now, e.value)
-
-texts : (of : Name) (xs : List (Name × ℕ)) → map text_value (map (valued of) xs) ≡ by_text xs
-texts of [] = refl
-texts of (x ∷ xs) = ap (λ ys. (x.0.text.now, x.1) ∷ ys) (texts of xs)
-
--- enumerations before keep their entries, where another one stands behind them
-kept-enums : (of : Name) (es : List EntryValue) (xs : List (Name × ℕ)) (ns : List Name) → AllByRecursion (λ n. n.place.0 < of.place.0) ns → map (enum_in (es ++ map (valued of) xs)) ns ≡ map (enum_in es) ns
-kept-enums of es xs [] all = refl
-kept-enums of es xs (n ∷ ns) all =
-    let same : entries_at (es ++ map (valued of) xs) n ≡ entries_at es n =
-    ap (map text_value) (filter-append n es (map (valued of) xs) ∙ ap (λ ys. filter (λ e. e.of.place.0 == n.place.0) es ++ ys) (filter-none of n xs (other-at n of.place.0 all.0)) ∙ append-nil (filter (λ e. e.of.place.0 == n.place.0) es)) in
-    (λ i. record { name = n.text.now; place = n.place.0; entries = same i } ∷ kept-enums of es xs ns all.1 i)
-
-new-enum : (of : Name) (es : List EntryValue) (xs : List (Name × ℕ)) → AllByRecursion (λ e. e.of.place.0 < of.place.0) es → entries_at (es ++ map (valued of) xs) of ≡ by_text xs
-new-enum of es xs all =
-    ap (map text_value) (filter-append of es (map (valued of) xs) ∙ ap (λ ys. ys ++ filter (λ e. e.of.place.0 == of.place.0) (map (valued of) xs)) (filter-past of es all) ∙ filter-all of xs) ∙ texts of xs
-
 -- What is known of the names behind some items.
 pub record IsOpenedTo (bound : List (List ℕ × Val)) (items : List Item) (o : Outer) (s : State) : Type 0 where
   pub same : s.table.bound ≡ bound
   pub meant : (outer : Around) → IsAlike (bodies o) outer → AreMeant s.table.enums (names_of outer bound items).enums
-  pub listed : (outer : Around) → IsAlike (bodies o) outer → map (enum_in s.entries) s.enums ≡ (names_of outer bound items).enums
-  pub enums_below : (k : ℕ) → Below k items → AllByRecursion (λ n. n.place.0 < k) s.enums
-  pub entries_below : (k : ℕ) → Below k items → AllByRecursion (λ e. e.of.place.0 < k) s.entries
+  pub listed : (outer : Around) → IsAlike (bodies o) outer → s.enums ≡ (names_of outer bound items).enums
+  pub below : (k : ℕ) → Below k items → AllByRecursion (λ e. e.place < k) s.enums
 
-pub opened_none : (t : Names) (o : Outer) → t.enums ≡ [] → IsOpenedTo t.bound [] o (record { table = t; enums = []; entries = [] })
+pub opened_none : (t : Names) (o : Outer) → t.enums ≡ [] → IsOpenedTo t.bound [] o (record { table = t; enums = [] })
 opened_none t o e = record {
   same = refl;
   meant = λ outer h. subst (λ xs. AreMeant xs []) (sym e) meant_none;
   listed = λ outer h. refl;
-  enums_below = λ k b. tt;
-  entries_below = λ k b. tt;
+  below = λ k b. tt;
 }
 
 names-bound : (outer : Around) (names : Names) (items : List Item) → (with_items outer names items).bound ≡ names.bound
@@ -161,8 +110,7 @@ module _ (bound : List (List ℕ × Val)) (front : List Item) (x : Item) (o : Ou
     same = h.same;
     meant = λ outer a. subst (λ ns. AreMeant old.table.enums ns.enums) (sym (same outer)) (h.meant outer a);
     listed = λ outer a. h.listed outer a ∙ ap (λ ns. ns.enums) (sym (same outer));
-    enums_below = λ k b. h.enums_below k (all-front (λ i. (place_of i).0 < k) front x b);
-    entries_below = λ k b. h.entries_below k (all-front (λ i. (place_of i).0 < k) front x b);
+    below = λ k b. h.below k (all-front (λ i. (place_of i).0 < k) front x b);
   })
 
   module _ (n : Name) (es : List Entry) (is : item_is x ≡ view.enumeration n es) (adds : (outer : Around) → IsAlike (bodies o) outer → Adds n (judged (names_of outer bound front ∷ outer) es).entries old new)
@@ -179,23 +127,8 @@ module _ (bound : List (List ℕ × Val)) (front : List Item) (x : Item) (o : Ou
     place : (place_of x).0 ≡ n.place.0
     place = enum-place x n es is
 
-    enums-past : AllByRecursion (λ m. m.place.0 < n.place.0) old.enums
-    enums-past = subst (λ k. AllByRecursion (λ m. m.place.0 < k) old.enums) place (h.enums_below (place_of x).0 below)
-
-    entries-past : AllByRecursion (λ e. e.of.place.0 < n.place.0) old.entries
-    entries-past = subst (λ k. AllByRecursion (λ e. e.of.place.0 < k) old.entries) place (h.entries_below (place_of x).0 below)
-
-    listed-past : (ns : List Name) (ys : List EnumOf) → map (enum_in old.entries) ns ≡ ys → AllByRecursion (λ m. m.place.0 < n.place.0) ns → AllByRecursion (λ y. y.place < n.place.0) ys
-    listed-past [] ys e all = subst (AllByRecursion (λ y. y.place < n.place.0)) e tt
-    listed-past (m ∷ ns) ys e all = subst (AllByRecursion (λ y. y.place < n.place.0)) e (all.0, listed-past ns (map (enum_in old.entries) ns) refl all.1)
-
-    added-below : (k : ℕ) (xs : List (Name × ℕ)) → n.place.0 < k → AllByRecursion (λ e. e.of.place.0 < k) (map (valued n) xs)
-    added-below k [] l = tt
-    added-below k (y ∷ ys) l = (l, added-below k ys l)
-
-    all-append : (k : ℕ) (xs ys : List EntryValue) → AllByRecursion (λ e. e.of.place.0 < k) xs → AllByRecursion (λ e. e.of.place.0 < k) ys → AllByRecursion (λ e. e.of.place.0 < k) (xs ++ ys)
-    all-append k [] ys a b = b
-    all-append k (x ∷ xs) ys a b = (a.0, all-append k xs ys a.1 b)
+    past : AllByRecursion (λ e. e.place < n.place.0) old.enums
+    past = subst (λ k. AllByRecursion (λ e. e.place < k) old.enums) place (h.below (place_of x).0 below)
 
     own-below : (k : ℕ) → Below k (front ++ (x ∷ [])) → n.place.0 < k
     own-below k b = subst (λ j. j < k) place (all-last (λ i. (place_of i).0 < k) front x b)
@@ -205,16 +138,10 @@ module _ (bound : List (List ℕ × Val)) (front : List Item) (x : Item) (o : Ou
       same = (adds any alike).kept ∙ h.same;
       meant = λ outer a.
           let one = adds outer a in
-          let more = meant_more old.table.enums (at outer).enums one.table (enum_of (at outer ∷ outer) n es) (h.meant outer a) one.is.named one.is.place one.is.numbers (listed-past old.enums (at outer).enums (h.listed outer a) enums-past) in
+          let more = meant_more old.table.enums (at outer).enums one.table (enum_of (at outer ∷ outer) n es) (h.meant outer a) one.is.named one.is.place one.is.numbers (subst (AllByRecursion (λ e. e.place < n.place.0)) (h.listed outer a) past) in
           subst (λ ns. AreMeant new.table.enums ns.enums) (sym (behind outer)) (subst (λ xs. AreMeant xs ((at outer).enums ++ (enum_of (at outer ∷ outer) n es ∷ []))) (sym one.added) more);
-      listed = λ outer a.
-          let one = adds outer a in
-          let both = ap (λ xs. map (enum_in new.entries) xs) one.named ∙ map-append (enum_in new.entries) old.enums (n ∷ []) in
-          let kept = ap (λ xs. map (enum_in xs) old.enums) one.valued_ ∙ kept-enums n old.entries (numbers outer) old.enums enums-past ∙ h.listed outer a in
-          let own : enum_in new.entries n ≡ enum_of (at outer ∷ outer) n es = (λ i. record { name = n.text.now; place = n.place.0; entries = (ap (λ xs. entries_at xs n) one.valued_ ∙ new-enum n old.entries (numbers outer) entries-past) i }) in
-          both ∙ ap (λ xs. xs ++ (enum_in new.entries n ∷ [])) kept ∙ ap (λ y. (at outer).enums ++ (y ∷ [])) own ∙ ap (λ ns. ns.enums) (sym (behind outer));
-      enums_below = λ k b. subst (AllByRecursion (λ m. m.place.0 < k)) (sym (adds any alike).named) (all-push (λ m. m.place.0 < k) old.enums n (h.enums_below k (all-front (λ i. (place_of i).0 < k) front x b)) (own-below k b));
-      entries_below = λ k b. subst (AllByRecursion (λ e. e.of.place.0 < k)) (sym (adds any alike).valued_) (all-append k old.entries (map (valued n) (numbers any)) (h.entries_below k (all-front (λ i. (place_of i).0 < k) front x b)) (added-below k (numbers any) (own-below k b)));
+      listed = λ outer a. (adds outer a).listed ∙ ap (λ xs. xs ++ (enum_of (at outer ∷ outer) n es ∷ [])) (h.listed outer a) ∙ ap (λ ns. ns.enums) (sym (behind outer));
+      below = λ k b. subst (AllByRecursion (λ e. e.place < k)) (sym (adds any alike).listed) (all-push (λ e. e.place < k) old.enums (enum_of (at any ∷ any) n es) (h.below k (all-front (λ i. (place_of i).0 < k) front x b)) (own-below k b));
     }
 
 -- The names behind one item more.
@@ -268,11 +195,22 @@ noted_step bound items i x o old new start before after l at h adds b same a so 
     noted-push b front x o old new before after (subst (λ bs. IsOpenedTo bs front o old) (sym same) h) a adds
     ∙ ap (with_all (enum_fails b (front, x))) so ∙ sym (with_all-append (flat_map (enum_fails b) (standing front)) (enum_fails b (front, x)) start) ∙ ap (λ fs. with_all fs start) (sym all)
 
-pub opened_all : (bound : List (List ℕ × Val)) (items front : List Item) (o : Outer) (s : State) (r : Opened) → front ≡ items → IsOpenedTo bound front o s → r.table ≡ s.table → r.enums.now ≡ s.enums → r.entries.now ≡ s.entries → IsOpened bound items o r
-opened_all bound items front o s r e h table enums entries =
+pub opened_all : (bound : List (List ℕ × Val)) (items front : List Item) (o : Outer) (s : State) (r : Opened) → front ≡ items → IsOpenedTo bound front o s → r.table ≡ s.table → map listed_enum r.enums.now ≡ s.enums → IsOpened bound items o r
+opened_all bound items front o s r e h table enums =
     let all = subst (λ is. IsOpenedTo bound is o s) e h in
     record {
       same = ap (λ t. t.bound) table ∙ all.same;
       alike = λ outer a. subst (λ t. IsAlike (t ∷ bodies o) (names_of outer bound items ∷ outer)) (sym table) (shows bound items o s all outer a);
-      listed = λ outer a. ap (λ es. map (enum_in es) r.enums.now) entries ∙ ap (map (enum_in s.entries)) enums ∙ all.listed outer a;
+      listed = λ outer a. enums ∙ all.listed outer a;
     }
+
+-- One enumeration is put behind the others.
+pub adds_one : (old new : State) (before after : List EnumValues) (v : ValuedEnum) (name : Name) (es : List (Name × ℕ)) → IsValued name es v → new.table.bound ≡ old.table.bound
+    → new.table.enums ≡ cond (is_enum_named v.table.value.name old.table.enums) old.table.enums (old.table.enums ++ (v.table.value ∷ [])) → old.enums ≡ map listed_enum before → new.enums ≡ map listed_enum after → after ≡ before ++ (v.values ∷ []) → Adds name es old new
+adds_one old new before after v name es h kept added was now pushed = record {
+  table = v.table.value;
+  is = h.table;
+  kept = kept;
+  added = added;
+  listed = now ∙ ap (map listed_enum) pushed ∙ map-append listed_enum before (v.values ∷ []) ∙ ap (λ x. map listed_enum before ++ (x ∷ [])) h.listed ∙ ap (λ xs. xs ++ (listed_as name es ∷ [])) (sym was);
+}

@@ -15,10 +15,12 @@ use Rattle.rdl_base.specs.declared.fault.Fault.{Fault}
 use Rattle.rdl_base.specs.declared.rule.Rule.TheVariants as rules
 use Rattle.rdl_tree.specs.declared.expr.Name.{Name}
 use Rattle.rdl_tree.specs.declared.item.Entry.{Entry}
+use Rattle.rdl_tree.specs.declared.value.EntryValue.{EntryValue}
 use Rattle.rdl_values.specs.Bodies.{standing}
 use Rattle.rdl_values.specs.Enums.{judged, judged_from}
 use Rattle.rdl_values.specs.Faults.{at_, when}
 use Rattle.rdl_values.specs.Phase3.{clashes}
+use Rattle.rdl_values.specs.Seen.{entry_of}
 use Rattle.rdl_values.specs.Values.{Around, EnumOf, entry_named}
 use Rattle.rdl_values.specs.Firsts.{HasNames, place_of}
 use Rattle.rdl_failures.specs.Noted.{IsNoted}
@@ -26,10 +28,9 @@ use Rattle.rdl_values.specs.declared.firsts.Firsts.{Firsts}
 use Rattle.rdl_values.proofs.Named.{IsPut, any-named, names_more}
 use Rattle.rdl_failures.proofs.Noting.{each_noted, standing-push}
 use Rattle.rdl_scopes.specs.Entries.{IsTableOf, by_text, clash_fails, pair}
-use Rattle.rdl_scopes.specs.declared.entries.Valued.{Valued}
 
 -- The entries so far, and what the others give behind them.
-pub record IsJudgedTo (around : Around) (all : List Entry) (valued : List Valued) (before : Option ℕ) (rest : List Entry) : Type 0 where
+pub record IsJudgedTo (around : Around) (all : List Entry) (valued : List EntryValue) (before : Option ℕ) (rest : List Entry) : Type 0 where
   pub entries : (judged around all).entries ≡ map pair valued ++ (judged_from around before rest).entries
   pub failure : (judged around all).failure ≡ (judged_from around before rest).failure
 
@@ -92,7 +93,7 @@ either f g (x ∷ xs) = shuffled (f x) (list_any f xs) (g x) (list_any g xs) ∙
     shuffled false true false d = refl
     shuffled false false c d = refl
 
-pair_more : (es : List Valued) (i : ℕ) (d : Valued) → i < length es → map pair (take (i + 1) es) ≡ map pair (take i es) ++ (pair (get_or es i d) ∷ [])
+pair_more : (es : List EntryValue) (i : ℕ) (d : EntryValue) → i < length es → map pair (take (i + 1) es) ≡ map pair (take i es) ++ (pair (get_or es i d) ∷ [])
 pair_more es i d l = ap (map pair) (take_more es i d l) ∙ map-append pair (take i es) (get_or es i d ∷ [])
 
 -- E14 at an entry, where one of those before it has its name or its number
@@ -103,26 +104,26 @@ clash_push : (xs : List (Name × ℕ)) (x : Name × ℕ) (a b : Bool) (s t u : L
 clash_push xs x a b s t u h k =
     subst (λ ys. IsNoted (flat_map clash ys) (a && b) s u) (sym (standing-push xs x)) (each_noted clash (standing xs) ((xs, x) ∷ []) a b s t u h (subst (λ fs. IsNoted fs b t u) (sym (append-nil (clash (xs, x)))) k))
 
-pub names_step : (es : List Valued) (i : ℕ) (d : Valued) (old new : Firsts) → i < length es → HasNames old (map (λ e. e.0.text.now) (map pair (take i es))) → IsPut (get_or es i d).name.text.now i old new
+pub names_step : (es : List EntryValue) (i : ℕ) (d : EntryValue) (old new : Firsts) → i < length es → HasNames old (map (λ e. e.0.text.now) (map pair (take i es))) → IsPut (get_or es i d).name.text.now i old new
     → HasNames new (map (λ e. e.0.text.now) (map pair (take (i + 1) es)))
 names_step es i d old new l h put =
     let x = get_or es i d in
     let last = ap (map (λ e. e.0.text.now)) (pair_more es i d l) ∙ map-append (λ e. e.0.text.now) (map pair (take i es)) (pair x ∷ []) in
     subst (HasNames new) (sym last) (names_more old new (map (λ e. e.0.text.now) (map pair (take i es))) x.name.text.now i h put)
 
-pub numbers_step : (es : List Valued) (i : ℕ) (d : Valued) (keys after : List ℕ) → i < length es → HasNumbers keys (map pair (take i es))
-    → after ≡ insert_key nat_cmp keys (get_or es i d).number → HasNumbers after (map pair (take (i + 1) es))
+pub numbers_step : (es : List EntryValue) (i : ℕ) (d : EntryValue) (keys after : List ℕ) → i < length es → HasNumbers keys (map pair (take i es))
+    → after ≡ insert_key nat_cmp keys (get_or es i d).value → HasNumbers after (map pair (take (i + 1) es))
 numbers_step es i d keys after l h e = subst (λ ks. HasNumbers ks (map pair (take (i + 1) es))) (sym e) (subst (HasNumbers _) (sym (pair_more es i d l)) (numbers_more keys (map pair (take i es)) (pair (get_or es i d)) h))
 
-pub clash_step : (es : List Valued) (i : ℕ) (d : Valued) (names : Firsts) (keys : List ℕ) (again fresh a b : Bool) (s t u : List Fault) → i < length es → HasNames names (map (λ e. e.0.text.now) (map pair (take i es)))
-    → HasNumbers keys (map pair (take i es)) → again ≡ is_some (place_of names (get_or es i d).name.text.now) → fresh ≡ not (list_any (is_at (nat_cmp (get_or es i d).number)) keys)
+pub clash_step : (es : List EntryValue) (i : ℕ) (d : EntryValue) (names : Firsts) (keys : List ℕ) (again fresh a b : Bool) (s t u : List Fault) → i < length es → HasNames names (map (λ e. e.0.text.now) (map pair (take i es)))
+    → HasNumbers keys (map pair (take i es)) → again ≡ is_some (place_of names (get_or es i d).name.text.now) → fresh ≡ not (list_any (is_at (nat_cmp (get_or es i d).value)) keys)
     → IsNoted (clash_fails (map pair (take i es))) a s t → IsNoted (when (again || not fresh) (at_ rules.E14 (get_or es i d).name.place)) b t u → IsNoted (clash_fails (map pair (take (i + 1) es))) (a && b) s u
 clash_step es i d names keys again fresh a b s t u l h k e f before here =
     let x = get_or es i d in
     let xs = map pair (take i es) in
     let named : again ≡ list_any (λ e. bytes_eq e.0.text.now x.name.text.now) xs = e ∙ h.at x.name.text.now ∙ any-named (λ e. e.0.text.now) x.name.text.now xs in
-    let numbered : not fresh ≡ list_any (λ e. e.1 == x.number) xs = ap not f ∙ twice-not (list_any (is_at (nat_cmp x.number)) keys) ∙ k.at x.number in
-    let stands : (again || not fresh) ≡ clashes xs (pair x) = ap (λ c. c || not fresh) named ∙ ap (λ c. list_any (λ e. bytes_eq e.0.text.now x.name.text.now) xs || c) numbered ∙ either (λ e. bytes_eq e.0.text.now x.name.text.now) (λ e. e.1 == x.number) xs in
+    let numbered : not fresh ≡ list_any (λ e. e.1 == x.value) xs = ap not f ∙ twice-not (list_any (is_at (nat_cmp x.value)) keys) ∙ k.at x.value in
+    let stands : (again || not fresh) ≡ clashes xs (pair x) = ap (λ c. c || not fresh) named ∙ ap (λ c. list_any (λ e. bytes_eq e.0.text.now x.name.text.now) xs || c) numbered ∙ either (λ e. bytes_eq e.0.text.now x.name.text.now) (λ e. e.1 == x.value) xs in
     subst (λ ys. IsNoted (clash_fails ys) (a && b) s u) (sym (pair_more es i d l)) (clash_push xs (pair x) a b s t u before (subst (λ c. IsNoted (when c (at_ rules.E14 x.name.place)) b t u) stands here))
   where
     twice-not : (c : Bool) → not (not c) ≡ c
@@ -163,14 +164,19 @@ entry_more m k es n = go (entry_named m es) refl
     go None e = named-append n es ((m, k) ∷ [])
     go (Some j) e = kept j (bytes_eq m n) refl e
 
-pub table_step : (name : Name) (es : List Valued) (i : ℕ) (d : Valued) (old new : EnumOf) → i < length es → IsTableOf name (map pair (take i es)) old → new.name ≡ old.name → new.place ≡ old.place
-    → new.entries ≡ cond (is_some (entry_named (get_or es i d).name.text.now old.entries)) old.entries (old.entries ++ (((get_or es i d).name.text.now, (get_or es i d).number) ∷ [])) → IsTableOf name (map pair (take (i + 1) es)) new
+pub table_step : (name : Name) (es : List EntryValue) (i : ℕ) (d : EntryValue) (old new : EnumOf) → i < length es → IsTableOf name (map pair (take i es)) old → new.name ≡ old.name → new.place ≡ old.place
+    → new.entries ≡ cond (is_some (entry_named (get_or es i d).name.text.now old.entries)) old.entries (old.entries ++ (((get_or es i d).name.text.now, (get_or es i d).value) ∷ [])) → IsTableOf name (map pair (take (i + 1) es)) new
 table_step name es i d old new l h named place added =
     let x = get_or es i d in
-    let last : by_text (map pair (take (i + 1) es)) ≡ by_text (map pair (take i es)) ++ ((x.name.text.now, x.number) ∷ []) = ap by_text (pair_more es i d l) ∙ map-append (λ e. (e.0.text.now, e.1)) (map pair (take i es)) (pair x ∷ []) in
+    let last : by_text (map pair (take (i + 1) es)) ≡ by_text (map pair (take i es)) ++ ((x.name.text.now, x.value) ∷ []) = ap by_text (pair_more es i d l) ∙ map-append (λ e. (e.0.text.now, e.1)) (map pair (take i es)) (pair x ∷ []) in
     record {
       named = named ∙ h.named;
       place = place ∙ h.place;
-      numbers = λ n. ap (entry_named n) added ∙ entry_more x.name.text.now x.number old.entries n ∙ ap (λ o. option_or o (entry_named n ((x.name.text.now, x.number) ∷ []))) (h.numbers n)
-          ∙ sym (named-append n (by_text (map pair (take i es))) ((x.name.text.now, x.number) ∷ [])) ∙ ap (entry_named n) (sym last);
+      numbers = λ n. ap (entry_named n) added ∙ entry_more x.name.text.now x.value old.entries n ∙ ap (λ o. option_or o (entry_named n ((x.name.text.now, x.value) ∷ []))) (h.numbers n)
+          ∙ sym (named-append n (by_text (map pair (take i es))) ((x.name.text.now, x.value) ∷ [])) ∙ ap (entry_named n) (sym last);
     }
+
+-- entries that are listed
+pub listed_by_text : (es : List EntryValue) → map entry_of es ≡ by_text (map pair es)
+listed_by_text [] = refl
+listed_by_text (e ∷ es) = ap (λ xs. entry_of e ∷ xs) (listed_by_text es)

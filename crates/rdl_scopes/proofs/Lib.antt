@@ -1,4 +1,5 @@
 pub mod ByItem
+pub mod Closing
 mod Entered
 mod FoundComponents
 pub mod Meant

@@ -3,38 +3,32 @@ use Rattle.std.specs.Prelude.{◌≡◌, ℕ, cond, List, [], ◌∷◌, ◌++�
 use Rattle.rdl_base.specs.declared.fault.Fault.{Fault}
 use Rattle.rdl_tree.specs.declared.expr.Name.{Name}
 use Rattle.rdl_tree.specs.declared.item.Item.{Item}
-use Rattle.rdl_tree.specs.declared.value.EntryValue.{EntryValue}
 use Rattle.rdl_values.specs.Chained.{chained}
 use Rattle.rdl_values.specs.Enums.{judged, names_of}
 use Rattle.rdl_values.specs.Phase3.{of_entries}
-use Rattle.rdl_values.specs.Seen.{enum_in}
+use Rattle.rdl_values.specs.Seen.{listed_enum}
 use Rattle.rdl_values.specs.Table.{is_enum_named}
 use Rattle.rdl_values.specs.Values.{Around, EnumOf, Names, Val}
 use Rattle.rdl_values.specs.Views as view
 use Rattle.rdl_values.specs.Views.{ItemIs, item_is}
 use Rattle.rdl_failures.specs.Noted.{with_all}
 use Rattle.rdl_failures.specs.Shown.{IsAlike}
-use Rattle.rdl_scopes.specs.Entries.{IsTableOf}
+use Rattle.rdl_scopes.specs.Entries.{IsTableOf, listed_as}
 use Rattle.rdl_scopes.specs.declared.enums.Opened.{Opened}
 use Rattle.rdl_scopes.specs.declared.enums.Opening.{Opening}
 use Rattle.rdl_scopes.specs.declared.enums.Outer.{Outer}
 
--- A table of names, and the enumerations that it has with their entries in order.
+-- A table of names, and the enumerations that are listed.
 pub record State : Type 0 where
   pub table : Names
-  pub enums : List Name
-  pub entries : List EntryValue
+  pub enums : List EnumOf
 
 abbrev pub state_of : Opening → State
-state_of o = record { table = o.table; enums = o.enums.items; entries = o.entries.items }
+state_of o = record { table = o.table; enums = map listed_enum o.enums.items }
 
 -- the bodies round a body
 abbrev pub bodies : Outer → Around
 bodies o = chained o.tables.now o.numbers.now
-
--- an entry of an enumeration with its number
-abbrev pub valued : Name → Name × ℕ → EntryValue
-valued of e = record { of = of; name = e.0; value = e.1 }
 
 -- An enumeration with these entries is put behind the others: into the table, where none there has its name.
 pub record Adds (name : Name) (entries : List (Name × ℕ)) (old new : State) : Type 0 where
@@ -42,8 +36,7 @@ pub record Adds (name : Name) (entries : List (Name × ℕ)) (old new : State) :
   pub is : IsTableOf name entries table
   pub kept : new.table.bound ≡ old.table.bound
   pub added : new.table.enums ≡ cond (is_enum_named table.name old.table.enums) old.table.enums (old.table.enums ++ (table ∷ []))
-  pub named : new.enums ≡ old.enums ++ (name ∷ [])
-  pub valued_ : new.entries ≡ old.entries ++ map (valued name) entries
+  pub listed : new.enums ≡ old.enums ++ (listed_as name entries ∷ [])
 
 -- What an item adds: an enumeration its entries with their values, where these names and the bodies round them are visible, and its
 -- failures; any other item nothing.
@@ -59,4 +52,4 @@ AddsItem o i old new before after = AddsAs o (item_is i) old new before after
 pub record IsOpened (bound : List (List ℕ × Val)) (items : List Item) (o : Outer) (r : Opened) : Type 0 where
   pub same : r.table.bound ≡ bound
   pub alike : (outer : Around) → IsAlike (bodies o) outer → IsAlike (r.table ∷ bodies o) (names_of outer bound items ∷ outer)
-  pub listed : (outer : Around) → IsAlike (bodies o) outer → map (enum_in r.entries.now) r.enums.now ≡ (names_of outer bound items).enums
+  pub listed : (outer : Around) → IsAlike (bodies o) outer → map listed_enum r.enums.now ≡ (names_of outer bound items).enums

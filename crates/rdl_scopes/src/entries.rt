@@ -7,27 +7,45 @@ ghost use Rattle.rdl_values.specs.Phase3.{of_entries};
 ghost use Rattle.rdl_values.specs.Values.{Around};
 ghost use Rattle.rdl_failures.specs.Noted.{IsNoted, with_all};
 ghost use Rattle.rdl_failures.specs.Shown.{IsShown};
-ghost use Rattle.rdl_scopes.specs.Entries.{IsTableOf, clash_fails, judged_in, pair};
+ghost use Rattle.rdl_values.specs.Seen.{listed_enum};
+ghost use Rattle.rdl_scopes.specs.Entries.{IsTableOf, IsValued, clash_fails, judged_in, listed_as, pair};
 
+use bumpalo::Bump;
 use rb_base::NoMemory;
 use rdl_base::{Fault, Rule};
 use rdl_failures::{Failures, number_seen};
-use rdl_tree::{Entry, Name};
+use rdl_tree::{Entry, EntryValue, EnumValues, Name};
 use rdl_values::{Chain, EnumTable, Firsts};
 use std::alloc::Global;
 use std::collections::BTreeSet;
+use std::rc::Rc;
 
-/// An entry and its number.
-#[derive(Clone, Copy)]
-pub(crate) struct Valued<'a> {
-    pub name: Name<'a>,
-    pub number: u64,
+/// An enumeration with the numbers of its entries: by their names, and in order. Several bodies may have it.
+#[derive(Drop)]
+pub(crate) struct ValuedEnum<'a> {
+    pub table: Rc<EnumTable<'a>>,
+    pub values: EnumValues<'a>,
+}
+
+impl ValuedEnum<'_> {
+    ghost use Rattle.std.specs.Prelude.{◌≡◌, IfOk};
+
+    /// The same once more.
+    pub fn again(&self) -> Result<Self, NoMemory>
+        ensures table { IfOk result (λ r. r.table.value ≡ self.now.table.value) }
+        ensures values { IfOk result (λ r. r.values ≡ self.now.values) }
+    {
+        Ok(ValuedEnum {
+            table: self.table.clone()?,
+            values: self.values,
+        })
+    }
 }
 
 /// The entries of an enumeration up to the first whose value fails, and its failure.
 #[derive(Drop)]
 pub(crate) struct Judgement<'a> {
-    pub entries: Vec<Valued<'a>>,
+    pub entries: Vec<EntryValue<'a>>,
     pub failure: Option<Fault>,
 }
 
@@ -74,9 +92,9 @@ pub(crate) fn judge_entries<'a>(
     for entry in entries {
         match entry_number(entry, before, visible) {
             Ok(number) => {
-                valued.push(Valued {
+                valued.push(EntryValue {
                     name: entry.name,
-                    number,
+                    value: number,
                 })?;
                 before = Some(number);
             }
@@ -97,7 +115,7 @@ pub(crate) fn judge_entries<'a>(
 // Puts in E14 at each entry of which one before has the name or the number.
 fn note_clashes(
     alloc: Global,
-    entries: &[Valued<'_>],
+    entries: &[EntryValue<'_>],
     failures: &mut Failures,
 ) -> Result<bool, NoMemory>
     ensures { IfOk result (λ clean. IsNoted (clash_fails (map pair entries.now)) clean failures.old failures.new) }
@@ -107,7 +125,7 @@ fn note_clashes(
     let mut clean = true;
     for (at, entry) in entries.iter().enumerate() {
         let again = names.put(entry.name.text, at)?;
-        let fresh = numbers.insert(entry.number)?;
+        let fresh = numbers.insert(entry.value)?;
         clean &= failures.note(again | !fresh, Rule::E14, entry.name.place)?;
     }
     Ok(clean)
@@ -117,15 +135,27 @@ fn note_clashes(
 fn enum_table<'a>(
     alloc: Global,
     name: Name<'a>,
-    entries: &[Valued<'a>],
+    entries: &[EntryValue<'a>],
 ) -> Result<EnumTable<'a>, NoMemory>
     ensures { IfOk result (IsTableOf name.entry (map pair entries.now)) }
 {
     let mut table = EnumTable::new(alloc, name);
     for entry in entries {
-        table.add(entry.name.text, entry.number)?;
+        table.add(entry.name.text, entry.value)?;
     }
     Ok(table)
+}
+
+// An enumeration of these entries in the arena.
+fn values_in<'a>(
+    arena: &'a Bump,
+    name: Name<'a>,
+    entries: &[EntryValue<'a>],
+) -> Result<EnumValues<'a>, NoMemory>
+    ensures { IfOk result (λ r. listed_enum r ≡ listed_as name.entry (map pair entries.now)) }
+{
+    let entries = arena.try_alloc_slice_copy(entries)?;
+    Ok(EnumValues { name, entries })
 }
 
 impl<'a> Judgement<'a> {
@@ -140,10 +170,18 @@ impl<'a> Judgement<'a> {
         Ok(())
     }
 
-    /// The enumeration of this name with the entries, of two of one name the first.
-    pub fn table(&self, alloc: Global, name: Name<'a>) -> Result<EnumTable<'a>, NoMemory>
-        ensures { IfOk result (IsTableOf name.entry (map pair self.now.entries.items)) }
+    /// The enumeration of this name with the entries.
+    pub fn valued(
+        &self,
+        alloc: Global,
+        arena: &'a Bump,
+        name: Name<'a>,
+    ) -> Result<ValuedEnum<'a>, NoMemory>
+        ensures { IfOk result (IsValued name.entry (judged_in self.now).entries) }
     {
-        enum_table(alloc, name, &self.entries)
+        let table = enum_table(alloc, name, &self.entries)?;
+        let table = Rc::new(alloc, table)?;
+        let values = values_in(arena, name, &self.entries)?;
+        Ok(ValuedEnum { table, values })
     }
 }

@@ -14,4 +14,4 @@ pub use item::{Arg, Assigned, Def, Entry, Inst, Insts, Item, Kind, PType, Param,
 pub use laws::{derived_in_order, derived_is_source};
 pub use node::{Elab, Node};
 pub use token::{Mark, Terminal, Token, TokenKind};
-pub use value::{Bound, EntryValue, Env, Value};
+pub use value::{Bound, EntryValue, EnumValues, Env, Value};

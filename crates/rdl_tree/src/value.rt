@@ -17,20 +17,25 @@ pub struct Bound<'a> {
     pub value: Value<'a>,
 }
 
-/// An entry of an enumeration, the enumeration's name first.
+/// An entry of an enumeration and its number.
 #[derive(Clone, Copy, Debug)]
 pub struct EntryValue<'a> {
-    pub of: Name<'a>,
     pub name: Name<'a>,
     pub value: u64,
 }
 
-/// What is visible in a body: its definition's parameters, the names of its enumerations and their entries, and what is
-/// visible round the definition's text.
+/// An enumeration and its entries in order.
+#[derive(Clone, Copy, Debug)]
+pub struct EnumValues<'a> {
+    pub name: Name<'a>,
+    pub entries: &'a [EntryValue<'a>],
+}
+
+/// What is visible in a body: its definition's parameters, its enumerations in order, and what is visible round the
+/// definition's text.
 #[derive(Clone, Copy)]
 pub struct Env<'a> {
     pub bound: &'a [Bound<'a>],
-    pub enums: &'a [Name<'a>],
-    pub entries: &'a [EntryValue<'a>],
+    pub enums: &'a [EnumValues<'a>],
     pub outer: Option<&'a Env<'a>>,
 }

@@ -1,5 +1,5 @@
 -- Look-ups in tables are those of the definitions.
-use Rattle.std.proofs.Common.{◌≡◌, ◌∙◌, ℕ, suc, ◌+◌, ◌<◌, Bool, true, false, cond, ◌&&◌, ◌||◌, nat_lt, bytes_eq, List, [], ◌∷◌, ◌++◌, map, length, get_or, find, Option, None, Some, option_map, is_some, MatchOption, refl, sym, ap, subst, arith}
+use Rattle.std.proofs.Common.{◌≡◌, ◌∙◌, ℕ, zero, suc, ◌+◌, ◌<◌, Bool, true, false, cond, ◌&&◌, ◌||◌, nat_lt, bytes_eq, List, [], ◌∷◌, ◌++◌, map, length, get_or, find, Option, None, Some, option_map, is_some, MatchOption, refl, sym, ap, subst, arith}
 use Rattle.std.specs.Cmp.Lexicographic.{bytes_decides}
 use Rattle.std.specs.List.{AllByRecursion, IsDistinct, list_any, position_from}
 use Rattle.std.proofs.lemmas.List.{length-map, map-append}
@@ -139,6 +139,12 @@ pub unique_pushed : (es fs : List EnumOf) (e : EnumOf) (t : Firsts) → AreFirst
 unique_pushed es fs e t h fresh u i =
     let absent : list_any (bytes_eq e.name) (map (λ e. e.name) es) ≡ false = any-turned e.name (map (λ e. e.name) es) ∙ sym (firsts-some t (map (λ e. e.name) es) e.name h) ∙ fresh in
     subst (IsDistinct bytes_eq) (sym (ap (map (λ e. e.name)) i ∙ map-append (λ e. e.name) es (e ∷ []))) (IsDistinct-push nat_list_eq_equiv (map (λ e. e.name) es) e.name u absent)
+
+pub read-map : {X Y : Type 0} (f : X → Y) (xs : List X) (i : ℕ) (d : X) → get_or (map f xs) i (f d) ≡ f (get_or xs i d)
+read-map f [] zero d = refl
+read-map f [] (suc i) d = refl
+read-map f (x ∷ xs) zero d = refl
+read-map f (x ∷ xs) (suc i) d = read-map f xs i d
 
 -- An enumeration that is handed out where it stands before the name.
 pub handed_out : (n : Name) (e : Bor EnumOf) (b : Bool) (o : Option (Bor EnumOf)) (w : Option EnumOf) → o ≡ then_some b e → w ≡ cond b (Some (called n e.now)) None

@@ -1,15 +1,15 @@
 //! What names stand for in the bodies round an expression (SystemRDL 2.0, 5.1.4). A look-up takes no memory and goes
-//! through the names of those bodies one by one: at most 64 parameters of a definition, and all entries of a body's
-//! enumerations.
+//! through the names of those bodies one by one: at most 64 parameters of a definition, the enumerations of a body, and the entries
+//! of the one that is meant.
 
 ghost use Rattle.std.specs.Prelude.{◌≡◌, MatchOption, map, Some, None, []};
 ghost use Rattle.rdl_values.specs.Values.{entry_named, entry_value};
 ghost use Rattle.rdl_values.specs.Values as values;
 ghost use Rattle.rdl_values.specs.Visible as visible;
-ghost use Rattle.rdl_values.specs.Seen.{around_of, bound_of, enum_in, names_in, val_of, outcome_of};
+ghost use Rattle.rdl_values.specs.Seen.{around_of, bound_of, entry_of, listed_enum, names_in, val_of, outcome_of};
 
 use rdl_base::{Fault, Rule};
-use rdl_tree::{Bound, EntryValue, Env, Name, Value};
+use rdl_tree::{Bound, EntryValue, EnumValues, Env, Name, Value};
 
 // The value of the first parameter of a body that has the name.
 fn bound_value<'a>(bound: &[Bound<'a>], name: &[u8]) -> Option<Value<'a>>
@@ -40,55 +40,39 @@ pub fn parameter<'a>(env: &Env<'a>, name: &[u8]) -> Option<Value<'a>>
     }
 }
 
-// An enumeration, and the entries of all enumerations of its body.
-#[derive(Clone, Copy)]
-struct Enumeration<'a> {
-    name: Name<'a>,
-    entries: &'a [EntryValue<'a>],
-}
-
-impl Enumeration<'_> {
-    ghost use Rattle.rdl_values.specs.Seen.{entries_at};
-
-    // The number of its first entry of the name.
-    fn number(&self, name: &[u8]) -> Option<u64>
-        ensures { result ≡ entry_named name.now (entries_at self.now.entries.now self.now.name) }
-    {
-        for entry in self.entries {
-            if entry.of.place.0 == self.name.place.0 && entry.name.text == name {
-                return Some(entry.value);
-            }
+// The number of the first entry of the name.
+fn number_of(entries: &[EntryValue], name: &[u8]) -> Option<u64>
+    ensures { result ≡ entry_named name.now (map entry_of entries.now) }
+{
+    for entry in entries {
+        if entry.name.text == name {
+            return Some(entry.value);
         }
-        None
     }
+    None
 }
 
 // The first enumeration of a body that a name means: of that name, and standing before it.
-fn enum_before<'a>(
-    enums: &[Name<'a>],
-    entries: &'a [EntryValue<'a>],
-    name: &Name,
-) -> Option<Enumeration<'a>>
+fn enum_before<'a>(enums: &[EnumValues<'a>], name: &Name) -> Option<EnumValues<'a>>
     ensures { MatchOption result
-        (visible.enum_before name.now (names_in [] enums.now entries.now) ≡ None)
-        (λ e. visible.enum_before name.now (names_in [] enums.now entries.now)
-        ≡ Some (enum_in e.entries.now e.name)) }
+        (visible.enum_before name.now (names_in [] enums.now) ≡ None)
+        (λ e. visible.enum_before name.now (names_in [] enums.now) ≡ Some (listed_enum e)) }
 {
     for of in enums {
-        if of.text == name.text && of.place.0 < name.place.0 {
-            return Some(Enumeration { name: *of, entries });
+        if of.name.text == name.text && of.name.place.0 < name.place.0 {
+            return Some(*of);
         }
     }
     None
 }
 
 // The enumeration that a name means.
-fn visible_enum<'a>(env: &Env<'a>, name: &Name) -> Option<Enumeration<'a>>
+fn visible_enum<'a>(env: &Env<'a>, name: &Name) -> Option<EnumValues<'a>>
     ensures { MatchOption result
         (values.visible_enum (around_of env.now) name.now ≡ None)
-        (λ e. values.visible_enum (around_of env.now) name.now ≡ Some (enum_in e.entries.now e.name)) }
+        (λ e. values.visible_enum (around_of env.now) name.now ≡ Some (listed_enum e)) }
 {
-    match enum_before(env.enums, env.entries, name) {
+    match enum_before(env.enums, name) {
         Some(found) => Some(found),
         None => match env.outer {
             Some(outer) => visible_enum(outer, name),
@@ -108,7 +92,7 @@ pub fn entry<'a>(env: &Env<'a>, of: &Name<'a>, name: &Name<'a>) -> Result<Value<
             rule: Rule::V1,
         });
     };
-    match found.number(name.text) {
+    match number_of(found.entries, name.text) {
         Some(number) => Ok(Value::Number(number)),
         None => Err(Fault {
             place: name.place,

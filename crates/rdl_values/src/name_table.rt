@@ -6,25 +6,29 @@ use rb_base::NoMemory;
 use rdl_tree::{Name, Value};
 use std::alloc::Global;
 use std::marker::Model;
+use std::rc::Rc;
 
-/// The parameters of a body and its enumerations, by their names, of two of one name the first.
+/// The parameters of a body and its enumerations, by their names, of two of one name the first. Other bodies may have the same
+/// enumerations.
 #[derive(Drop)]
 pub(crate) struct NameTable<'a> {
     bound_places: Firsts<'a>,
     bound: Vec<(&'a [u8], Value<'a>)>,
     enum_places: Firsts<'a>,
-    enums: Vec<EnumTable<'a>>,
+    enums: Vec<Rc<EnumTable<'a>>>,
 }
 
 impl<'a> Model for NameTable<'a> {
+    ghost use Rattle.std.specs.Prelude.{map};
+    ghost use Rattle.std.specs.Rc.{rc_value};
     ghost use Rattle.rdl_values.specs.Values.{Names};
     ghost use Rattle.rdl_values.specs.Table.{AreBodyNames, bound_by};
 
     ghost Value = { Names };
 
-    ghost view = { λ t. record { bound = bound_by t.bound.items; enums = t.enums.items } };
+    ghost view = { λ t. record { bound = bound_by t.bound.items; enums = map rc_value t.enums.items } };
 
-    ghost invariant = { λ t. AreBodyNames t.bound_places t.bound.items t.enum_places t.enums.items };
+    ghost invariant = { λ t. AreBodyNames t.bound_places t.bound.items t.enum_places (map rc_value t.enums.items) };
 }
 
 impl<'a> NameTable<'a> {
@@ -61,13 +65,13 @@ impl<'a> NameTable<'a> {
     }
 
     /// Puts an enumeration behind the others, where none has its name. It changes nothing where memory is wanting.
-    pub(crate) fn add_enum(&mut self, of: EnumTable<'a>) -> Result<(), NoMemory>
+    pub(crate) fn add_enum(&mut self, of: Rc<EnumTable<'a>>) -> Result<(), NoMemory>
         ensures bound { self.new.bound ≡ self.old.bound }
-        ensures added { OnOk result (self.new.enums ≡ cond (is_enum_named of.entry.name self.old.enums) self.old.enums (self.old.enums ++ (of.entry ∷ []))) }
+        ensures added { OnOk result (self.new.enums ≡ cond (is_enum_named of.entry.value.name self.old.enums) self.old.enums (self.old.enums ++ (of.entry.value ∷ []))) }
         ensures unchanged { OnErr result (self.new.enums ≡ self.old.enums) }
     {
         self.enums.reserve(1)?;
-        let again = self.enum_places.put(of.name.text, self.enums.len())?;
+        let again = self.enum_places.put(of.text(), self.enums.len())?;
         if !again {
             self.enums.push(of)?;
         }
@@ -86,7 +90,7 @@ impl<'a> NameTable<'a> {
     pub(crate) fn enum_before(&self, name: &Name<'a>) -> Option<&EnumTable<'a>>
         ensures { MatchOption result (visible.enum_before name.now self.now ≡ None) (λ e. visible.enum_before name.now self.now ≡ Some (record e.now { name = name.now.text.now })) }
     {
-        let of = &self.enums[self.enum_places.find(name.text)?];
+        let of = &*self.enums[self.enum_places.find(name.text)?];
         of.stands_before(name).then_some(of)
     }
 }

@@ -6,11 +6,12 @@ use rb_base::NoMemory;
 use rdl_tree::{Name, Value};
 use std::alloc::Global;
 use std::marker::Model;
+use std::rc::Rc;
 
 /// An enumeration: the numbers of its entries by their names, of two of one name the first.
 #[derive(Drop)]
 pub struct EnumTable<'a> {
-    pub(crate) name: Name<'a>,
+    name: Name<'a>,
     places: Firsts<'a>,
     entries: Vec<(&'a [u8], u64)>,
 }
@@ -55,6 +56,13 @@ impl<'a> EnumTable<'a> {
             self.entries.push((name, number))?;
         }
         Ok(())
+    }
+
+    // Its name.
+    pub(crate) fn text(&self) -> &'a [u8]
+        ensures { result.now ≡ self.now.name }
+    {
+        self.name.text
     }
 
     // The number of its first entry of the name.
@@ -119,10 +127,11 @@ impl<'a> Table<'a> {
         Ok(())
     }
 
-    /// Puts an enumeration behind the others, where none has its name. It changes nothing where memory is wanting.
-    pub fn add_enum(&mut self, of: EnumTable<'a>) -> Result<(), NoMemory>
+    /// Puts an enumeration behind the others, where none has its name; other bodies may have the same. It changes nothing where
+    /// memory is wanting.
+    pub fn add_enum(&mut self, of: Rc<EnumTable<'a>>) -> Result<(), NoMemory>
         ensures bound { self.new.bound ≡ self.old.bound }
-        ensures added { OnOk result (self.new.enums ≡ cond (is_enum_named of.entry.name self.old.enums) self.old.enums (self.old.enums ++ (of.entry ∷ []))) }
+        ensures added { OnOk result (self.new.enums ≡ cond (is_enum_named of.entry.value.name self.old.enums) self.old.enums (self.old.enums ++ (of.entry.value ∷ []))) }
         ensures unchanged { OnErr result (self.new.enums ≡ self.old.enums) }
     {
         if let Some(names) = &mut self.names {

@@ -52,7 +52,7 @@ def_k = component kind.Addrmap (Some (name (codes "k") 21)) [] 21 (item.Def def_
 -- What is visible in the bodies: the parameter's value in those of p, q and s.
 
 abbrev env : List Bound → Option (Bor Env) → Env
-env bound outer = roll-Env (record { bound = lend bound; enums = lend []; entries = lend []; outer = outer })
+env bound outer = roll-Env (record { bound = lend bound; enums = lend []; outer = outer })
 
 abbrev env_root : Env
 env_root = env [] None

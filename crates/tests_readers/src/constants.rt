@@ -1,14 +1,14 @@
 //! Constant expressions.
 use rb_base::Place;
 use rdl_base::{Fault, Rule};
-use rdl_tree::{Bound, EntryValue, Env, Expr, Name, Op, PType, Path, Step, Value};
+use rdl_tree::{Bound, EntryValue, EnumValues, Env, Expr, Name, Op, PType, Path, Step, Value};
 use rdl_values::{EnumTable, Table, Visible, as_type, eval, eval_in, number_of, start_of};
+use std::rc::Rc;
 use std::test::Fail;
 
 const NOTHING: Env<'static> = Env {
     bound: &[],
     enums: &[],
-    entries: &[],
     outer: None,
 };
 
@@ -137,20 +137,18 @@ const OUTER: Env<'static> = Env {
             value: Value::Number(16),
         },
     ],
-    enums: &[Name {
-        text: b"mode_t",
-        place: Place(20),
-    }],
-    entries: &[EntryValue {
-        of: Name {
+    enums: &[EnumValues {
+        name: Name {
             text: b"mode_t",
             place: Place(20),
         },
-        name: Name {
-            text: b"FAST",
-            place: Place(30),
-        },
-        value: 3,
+        entries: &[EntryValue {
+            name: Name {
+                text: b"FAST",
+                place: Place(30),
+            },
+            value: 3,
+        }],
     }],
     outer: None,
 };
@@ -164,7 +162,6 @@ const INNER: Env<'static> = Env {
         value: Value::Number(4),
     }],
     enums: &[],
-    entries: &[],
     outer: Some(&OUTER),
 };
 
@@ -245,7 +242,7 @@ fn tables(rt: HostRuntime) -> Result<(), Fail> {
     let mut body = Table::new(rt.alloc());
     body.add(b"W", Value::Number(4))?;
     body.add(b"W", Value::Number(9))?;
-    body.add_enum(modes)?;
+    body.add_enum(Rc::new(rt.alloc(), modes)?)?;
     let mut held = Vec::new(rt.alloc());
     held.push(&body)?;
     let table = [

@@ -9,6 +9,9 @@ use Rattle.rdl_scopes.proofs.ByItem.{opened_step}
 use Rattle.rdl_assignments.proofs.Turns.{fails_at, items-step, shown-before}
 use Rattle.rdl_assignments.proofs.enums.judge_enums.Goals as goal
 
+pub returns-then-not-some_have : goal.returns-then-not-some_have
+returns-then-not-some_have c = λ b same e a. ap (λ fs. with_all fs c.args.failures.now) (sym (c.some_have.ensures c.if-not-some_have.true b same))
+
 pub loop-item-preserved : goal.loop-item-preserved
 loop-item-preserved c =
     let items = c.args.items.now in

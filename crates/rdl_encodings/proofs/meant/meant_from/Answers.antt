@@ -11,14 +11,14 @@ returns-in_default c = λ e round named are.
     let both : Some shown.0 ≡ None = sym shown.1 ∙ c.in_default.is in
     cc
 
-pub returns-in_default-place : goal.returns-in_default-place
-returns-in_default-place c = λ e round named are.
+pub returns-in_default-find : goal.returns-in_default-find
+returns-in_default-find c = λ e round named are.
     let t = c.args.tree.now in
     let shown = c.body_round.ensures e c.args.name.now round named in
     let both : Some shown.0 ≡ Some c.in-Some.body = sym shown.1 ∙ c.in-Some.is in
     let same : shown.0 ≡ c.in-Some.body = cc in
     let envs = subst (λ (y : Body). HaveEnvs t.bodies.list.items y.numbers.now (around round)) same shown.2 in
-    c.place.ensures t.bodies (around round) are envs ∙ ap (option_map (enum_found c.args.enums.now c.args.name.now.text.now)) c.in_default-place.is
+    c.find.ensures t.bodies (around round) are envs ∙ ap (option_map (enum_found c.args.enums.now c.args.name.now.text.now)) c.in_default-find.is
 
 pub returns : goal.returns
 returns c = λ e round named are.
@@ -27,4 +27,4 @@ returns c = λ e round named are.
     let both : Some shown.0 ≡ Some c.in-Some.body = sym shown.1 ∙ c.in-Some.is in
     let same : shown.0 ≡ c.in-Some.body = cc in
     let envs = subst (λ (y : Body). HaveEnvs t.bodies.list.items y.numbers.now (around round)) same shown.2 in
-    c.place.ensures t.bodies (around round) are envs ∙ ap (option_map (enum_found c.args.enums.now c.args.name.now.text.now)) c.in-Some-place.is
+    c.find.ensures t.bodies (around round) are envs ∙ ap (option_map (enum_found c.args.enums.now c.args.name.now.text.now)) c.in-Some-find.is

@@ -1,36 +1,35 @@
-use Rattle.std.proofs.Common.{◌∙◌, ◌∷◌, ap, arith, map, subst, sym}
-use Rattle.rdl_values.specs.Bodies.{around}
-use Rattle.rdl_values.specs.Chained.{chained}
-use Rattle.rdl_values.specs.Enums.{names_of}
-use Rattle.rdl_values.specs.Seen.{bound_of}
-use Rattle.rdl_failures.specs.Shown.{IsAlike}
-use Rattle.rdl_bodies.specs.Sited.{HaveEnvs}
-use Rattle.rdl_bodies.proofs.Adding.{env_opened, is_opened, names_bound, round_alike}
+use Rattle.std.proofs.Common.{◌≡◌, IfOk, length, subst, sym}
+use Rattle.plain_lemmas.proofs.Results.{if_ok-map as if_ok}
+use Rattle.rdl_bodies.specs.Kept.{AreBelow}
+use Rattle.rdl_bodies.specs.Texts.{HasText}
+use Rattle.rdl_bodies.proofs.Adding.{for_same, text_same}
+use Rattle.rdl_bodies.proofs.Finding.{opened_with}
 use Rattle.rdl_bodies.proofs.bodies.Bodies.add.Goals as goal
 
+pub add_body-requires-clause-kept : goal.add_body-requires-clause-kept
+add_body-requires-clause-kept c = c.in_ok-of.ensures.kept
+
+pub add_body-requires-clause-known : goal.add_body-requires-clause-known
+add_body-requires-clause-known c = c.in_ok-of.ensures.text
+
+pub add_body-requires-clause-below : goal.add_body-requires-clause-below
+add_body-requires-clause-below c = subst (λ ts. AreBelow (length ts.items) c.args.text.now.outer.now) (sym c.in_ok-of.ensures.same.tables) c.requires.below
+
+pub add_body-requires-clause-of_site : goal.add_body-requires-clause-of_site
+add_body-requires-clause-of_site c = let s = c.in_ok-of.ensures.same in for_same c.args.self.now c.text_at.new.self s.tables s.components s.list s.sites c.args.text.now c.args.text.now.site c.requires.of_site
+
+pub add_body-requires-clause-some : goal.add_body-requires-clause-some
+add_body-requires-clause-some c = let s = c.in_ok-of.ensures.same in (c.requires.some.0, text_same c.args.self.now c.text_at.new.self s.tables s.components s.list s.sites c.args.text.now c.requires.some.0 c.requires.some.1)
+
+pub returns-clause-number : goal.returns-clause-number
+returns-clause-number c = subst (λ ts. IfOk c.add_body.result (λ k. k ≡ length ts.items)) c.in_ok-of.ensures.same.tables c.add_body.ensures.number
+
 pub returns-clause-opened : goal.returns-clause-opened
-returns-clause-opened c = λ b h.
+returns-clause-opened c =
     let t = c.args.self.now in
-    let u = c.push.new.self in
-    let x = c.args.text.now in
-    let r = c.in_ok-body.body in
-    let o = c.in_ok-opened.opened in
-    is_opened t u c.len-number.result x r (record {
-      numbered = omega (arith, c.len-number.ensures, c.args.self.now.tables.ok.0);
-      table = o.table;
-      component = c.in_ok-components.components;
-      tables = c.in_ok-push.ensures.tables;
-      components = c.in_ok-push.ensures.components;
-      list = c.in_ok-push.ensures.list;
-      sites = c.in_ok-push.ensures.sites;
-      is_of = c.in_ok-components.ensures;
-      site_is = c.in_ok-body.ensures.site_is;
-      items_are = c.in_ok-body.ensures.items_are;
-      kind_is = c.in_ok-body.ensures.kind_is;
-      numbers_are = c.in_ok-body.ensures.numbers_are;
-      uptos_are = c.in_ok-body.ensures.uptos_are;
-      env_is = λ ws e a. env_opened r.env.now ws x o c.env_round-outer.result c.in_ok-body.ensures.env_is (c.env_round-outer.ensures ws (subst (λ xs. HaveEnvs xs x.outer.now ws) (sym c.deref-2.ensures.value) e)) (c.in_ok-opened.ensures.opened.listed ws (subst (λ ts. IsAlike (chained ts x.outer.now) ws) (sym c.deref.ensures.value) a));
-      alike = λ ws a. subst (λ ts. IsAlike (o.table ∷ chained ts x.outer.now) (names_of ws (map bound_of x.bound.now) x.items.now ∷ ws)) c.deref.ensures.value (c.in_ok-opened.ensures.opened.alike ws (subst (λ ts. IsAlike (chained ts x.outer.now) ws) (sym c.deref.ensures.value) a));
-    }) c.args.failures.now c.names_of.new.failures c.requires.kept c.requires.in_order c.requires.below c.requires.some
-    (λ v g. c.in_ok-opened.ensures.noted v g.items_are (ap (λ n. n.bound) g.names_are ∙ names_bound (around v.outer) (map bound_of x.bound.now) x.items.now) (subst (λ ts. IsAlike (chained ts x.outer.now) (around v.outer)) (sym c.deref.ensures.value) (round_alike t x.outer.now x.uptos.now v.outer g.round.shown)))
-    c.requires.of_site b h
+    let u = c.text_at.new.self in
+    let s = c.in_ok-of.ensures.same in
+    if_ok c.add_body.result _ _
+    (λ k h b text. opened_with t u c.add_body.new.self c.args.failures.now c.text_at.new.failures c.add_body.new.failures c.in_ok-of.of k b
+    (subst (λ is. HasText t u c.args.failures.now c.text_at.new.failures is c.in_ok-of.of) (sym text.items_are) c.in_ok-of.ensures)
+    (h b (text_same t u s.tables s.components s.list s.sites c.args.text.now b text))) c.add_body.ensures.opened

@@ -1,5 +1,6 @@
+use Rattle.std.proofs.Common.{refl}
 use Rattle.rdl_encodings.proofs.Found.{of_names}
 use Rattle.rdl_encodings.proofs.body.BodyEnums.of.Goals as goal
 
 pub returns : goal.returns
-returns c = of_names (record { places = c.in_ok-places.places; lists = c.in_ok-lists.lists }) c.args.env.now c.in_ok-places.ensures c.in_ok-lists.ensures
+returns c = of_names (record { places = c.in_ok-places.places; list = c.args.env.now.enums }) c.args.env.now c.in_ok-places.ensures refl

@@ -8,4 +8,4 @@ returns-in-Some c = λ ls h. known_one c.args.self.now c.args.enums.now ls c.arg
 pub returns : goal.returns
 returns c = λ ls h.
     new_one c.args.self.now (record { known = c.put.new.self; distinct = c.number.new.self }) c.args.enums.now ls c.args.field c.args.at.now c.in_ok-key.key c.in_ok-number.number
-    c.in_ok-key.ensures.place c.in_ok-key.ensures.entries c.in_ok-number.ensures c.in_ok-put.ensures h
+    (c.in_ok-key.ensures c.args.at.now.name.now) c.in_ok-number.ensures c.in_ok-put.ensures h

@@ -8,11 +8,11 @@ use Rattle.rdl_facts.proofs.table.EnumNumbers.greatest.Goals as goal
 pub loop-number-preserved-in_default : goal.loop-number-preserved-in_default
 loop-number-preserved-in_default c = left_more c.args.self.now c.args.numbers.now c.args.name.now c.loop-number.number-index 0 None c.loop-number-test.true (sym c.body.ensures ∙ ap option_copied c.in_default.is) refl c.loop-number.invariant
 
-pub returns-in-Some-place : goal.returns-in-Some-place
-returns-in-Some-place c = λ bodies around are envs.
+pub returns-in-Some-number : goal.returns-in-Some-number
+returns-in-Some-number c = λ bodies around are envs.
     subst (λ g. IsGreatest g (entries_meant around c.args.name.now)) (sym c.greatest.ensures)
-    (meant_here c.args.self.now c.args.numbers.now c.args.name.now c.loop-number.number-index 0 c.in-Some.body.now c.in-Some-place.place c.loop-number-test.true (sym c.body.ensures ∙ ap option_copied c.in-Some.is) (sym c.place.ensures ∙ c.in-Some-place.is) c.loop-number.invariant bodies around are envs)
+    (meant_here c.args.self.now c.args.numbers.now c.args.name.now c.loop-number.number-index 0 c.in-Some.body.now c.in-Some-number.of c.loop-number-test.true (sym c.body.ensures ∙ ap option_copied c.in-Some.is) (sym c.number.ensures ∙ c.in-Some-number.is) c.loop-number.invariant bodies around are envs)
 
 pub loop-number-preserved : goal.loop-number-preserved
 loop-number-preserved c =
-    left_more c.args.self.now c.args.numbers.now c.args.name.now c.loop-number.number-index 0 (Some c.in-Some.body.now) c.loop-number-test.true (sym c.body.ensures ∙ ap option_copied c.in-Some.is) (sym c.place.ensures ∙ c.in_default-place.is) c.loop-number.invariant
+    left_more c.args.self.now c.args.numbers.now c.args.name.now c.loop-number.number-index 0 (Some c.in-Some.body.now) c.loop-number-test.true (sym c.body.ensures ∙ ap option_copied c.in-Some.is) (sym c.number.ensures ∙ c.in_default-number.is) c.loop-number.invariant

@@ -1,0 +1,51 @@
+use Rattle.std.proofs.Common.{◌≡◌, ◌∙◌, ◌∷◌, Some, ap, arith, length, map, refl, subst, sym}
+use Rattle.std.proofs.lemmas.Option.{slice_get_read, slice_get_within}
+use Rattle.rdl_values.specs.Bodies.{around}
+use Rattle.rdl_values.specs.Chained.{chained}
+use Rattle.rdl_values.specs.Enums.{names_of}
+use Rattle.rdl_values.specs.Seen.{bound_of}
+use Rattle.rdl_failures.specs.Shown.{IsAlike}
+use Rattle.rdl_scopes.specs.Closed.{AreClosedOf}
+use Rattle.rdl_bodies.specs.Kept.{HasItems}
+use Rattle.rdl_bodies.specs.Sited.{HaveEnvs}
+use Rattle.rdl_bodies.proofs.Adding.{env_opened, is_opened, names_bound, round_alike}
+use Rattle.rdl_bodies.proofs.bodies.Bodies.add_body.Goals as goal
+
+pub names_of-requires-clause-closed : goal.names_of-requires-clause-closed
+names_of-requires-clause-closed c =
+    let known = c.requires.known in
+    let texts = c.args.self.now.texts.items in
+    let x = c.index.result.now in
+    let here = slice_get_read texts (length texts) c.args.of x refl (slice_get_within texts c.args.of known.0 known.1) c.index.ensures in
+    let both : Some known.0 ≡ Some x = sym known.1 ∙ here in
+    let same : known.0 ≡ x = cc in
+    subst (λ is. AreClosedOf x.closed is c.args.failures.now) (ap (λ y. y.items.now) (sym same) ∙ known.2) (c.requires.kept.texts c.args.of x here).closed
+
+pub returns-clause-opened : goal.returns-clause-opened
+returns-clause-opened c = λ b h.
+    let t = c.args.self.now in
+    let u = c.push.new.self in
+    let x = c.args.text.now in
+    let r = c.in_ok-body.body in
+    let o = c.in_ok-opened.opened in
+    is_opened t u c.len-number.result x r (record {
+      numbered = omega (arith, c.len-number.ensures, c.args.self.now.tables.ok.0);
+      table = o.table;
+      component = c.in_ok-components.components;
+      tables = c.in_ok-push.ensures.tables;
+      components = c.in_ok-push.ensures.components;
+      list = c.in_ok-push.ensures.list;
+      sites = c.in_ok-push.ensures.sites;
+      texts = c.in_ok-push.ensures.texts;
+      text_is = subst (λ k. HasItems t.texts.items k x.items.now) (sym c.in_ok-body.ensures.text_is) c.requires.known;
+      is_of = c.in_ok-components.ensures;
+      site_is = c.in_ok-body.ensures.site_is;
+      items_are = c.in_ok-body.ensures.items_are;
+      kind_is = c.in_ok-body.ensures.kind_is;
+      numbers_are = c.in_ok-body.ensures.numbers_are;
+      uptos_are = c.in_ok-body.ensures.uptos_are;
+      env_is = λ ws e a. env_opened r.env.now ws x o c.env_round-outer.result c.in_ok-body.ensures.env_is (c.env_round-outer.ensures ws (subst (λ xs. HaveEnvs xs x.outer.now ws) (sym c.deref-2.ensures.value) e)) (c.in_ok-opened.ensures.opened.listed ws (subst (λ ts. IsAlike (chained ts x.outer.now) ws) (sym c.deref.ensures.value) a));
+      alike = λ ws a. subst (λ ts. IsAlike (o.table ∷ chained ts x.outer.now) (names_of ws (map bound_of x.bound.now) x.items.now ∷ ws)) c.deref.ensures.value (c.in_ok-opened.ensures.opened.alike ws (subst (λ ts. IsAlike (chained ts x.outer.now) ws) (sym c.deref.ensures.value) a));
+    }) c.args.failures.now c.names_of.new.failures c.requires.kept c.requires.in_order c.requires.below c.requires.some
+    (λ v g. c.in_ok-opened.ensures.noted v g.items_are (ap (λ n. n.bound) g.names_are ∙ names_bound (around v.outer) (map bound_of x.bound.now) x.items.now) (subst (λ ts. IsAlike (chained ts x.outer.now) (around v.outer)) (sym c.deref.ensures.value) (round_alike t x.outer.now x.uptos.now v.outer g.round.shown)))
+    c.requires.of_site b h
