@@ -2,6 +2,7 @@
 
 ghost use Rattle.std.specs.Prelude.{◌≡◌};
 
+use bumpalo::Bump;
 use indexmap::IndexMap;
 use rdl_scopes::{ClosedEnums, Components};
 use rdl_tree::{Bound, Def, Env, Item, Kind};
@@ -11,18 +12,18 @@ use std::collections::BTreeMap;
 
 /// A definition in the bodies round its text, with the values of its parameters.
 #[derive(Clone, Copy)]
-pub struct Site<'a> {
+pub struct Site<'s, 'a> {
     pub def: &'a Def<'a>,
     /// The bodies round its text, the nearest first, by their numbers.
-    pub outer: &'a [usize],
+    pub outer: &'s [usize],
     /// How many items of each stand before it.
-    pub uptos: &'a [usize],
+    pub uptos: &'s [usize],
     pub bound: &'a [Bound<'a>],
 }
 
 /// An open body.
 #[derive(Clone, Copy)]
-pub struct Body<'a> {
+pub struct Body<'s, 'a> {
     /// The number of its site; the root has none.
     pub site: Option<usize>,
     /// The number of its text.
@@ -31,9 +32,9 @@ pub struct Body<'a> {
     /// The kind of its nodes; the root has none.
     pub kind: Option<Kind>,
     /// Its own number, and those of the bodies round its definition's text, the nearest first.
-    pub numbers: &'a [usize],
+    pub numbers: &'s [usize],
     /// How many items of the bodies round it stand before its definition.
-    pub uptos: &'a [usize],
+    pub uptos: &'s [usize],
     pub env: &'a Env<'a>,
 }
 
@@ -70,13 +71,15 @@ pub(crate) struct Text<'a> {
     pub closed: ClosedEnums<'a>,
 }
 
-/// The bodies of a source that are open, and the sites of those that may be.
+/// The bodies of a source that are open, and the sites of those that may be. Their lists of numbers stand in an arena of their own.
 #[derive(Drop)]
-pub struct Bodies<'a> {
+pub struct Bodies<'s, 'a> {
+    // The arena of numbers.
+    pub(crate) scratch: &'s Bump,
     pub(crate) tables: Vec<Table<'a>>,
     pub(crate) components: Vec<Components<'a>>,
-    pub(crate) list: Vec<Body<'a>>,
-    pub(crate) sites: Vec<Site<'a>>,
+    pub(crate) list: Vec<Body<'s, 'a>>,
+    pub(crate) sites: Vec<Site<'s, 'a>>,
     pub(crate) texts: Vec<Text<'a>>,
     // Which site to try for a key, which body for a site, and which text for the number of the text round it and an item of that.
     pub(crate) known: BTreeMap<SiteKey<'a>, usize>,
@@ -84,7 +87,7 @@ pub struct Bodies<'a> {
     pub(crate) text_numbers: BTreeMap<(usize, usize), usize>,
 }
 
-impl<'a> Bodies<'a> {
+impl<'s, 'a> Bodies<'s, 'a> {
     ghost use Rattle.std.specs.Prelude.{◌≡◌, slice_get};
 
     /// The tables of the bodies by their numbers.
@@ -102,14 +105,14 @@ impl<'a> Bodies<'a> {
     }
 
     /// The body of a number.
-    pub fn body(&self, number: usize) -> Option<Body<'a>>
+    pub fn body(&self, number: usize) -> Option<Body<'s, 'a>>
         ensures { result ≡ slice_get self.now.list.items number }
     {
         self.list.get(number).copied()
     }
 
     /// The site of a number.
-    pub fn site(&self, number: usize) -> Option<Site<'a>>
+    pub fn site(&self, number: usize) -> Option<Site<'s, 'a>>
         ensures { result ≡ slice_get self.now.sites.items number }
     {
         self.sites.get(number).copied()

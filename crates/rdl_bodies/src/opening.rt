@@ -27,12 +27,12 @@ use std::alloc::Global;
 
 /// The text of a body, with the values of its parameters, in the bodies round it.
 #[derive(Clone, Copy)]
-pub(crate) struct BodyText<'a> {
+pub(crate) struct BodyText<'s, 'a> {
     pub site: Option<usize>,
     pub items: &'a [Item<'a>],
     pub kind: Option<Kind>,
-    pub outer: &'a [usize],
-    pub uptos: &'a [usize],
+    pub outer: &'s [usize],
+    pub uptos: &'s [usize],
     pub bound: &'a [Bound<'a>],
 }
 
@@ -62,7 +62,7 @@ fn names_of<'a>(
     alloc: Global,
     arena: &'a Bump,
     tables: &[Table<'a>],
-    text: &BodyText<'a>,
+    text: &BodyText<'_, 'a>,
     closed: &ClosedEnums<'a>,
     failures: &mut Failures,
 ) -> Result<Opened<'a>, NoMemory>
@@ -91,14 +91,14 @@ pub(crate) fn first_of(numbers: &[usize]) -> Option<usize>
 }
 
 // The environment of a body.
-fn env_at<'a>(list: &[Body<'a>], number: usize) -> Option<&'a Env<'a>>
+fn env_at<'a>(list: &[Body<'_, 'a>], number: usize) -> Option<&'a Env<'a>>
     ensures { result ≡ option_map (λ x. x.env) (slice_get list.now number) }
 {
     list.get(number).map(|body| body.env)
 }
 
 // The environment of the nearest of some bodies.
-fn env_round<'a>(list: &[Body<'a>], outer: &[usize]) -> Option<&'a Env<'a>>
+fn env_round<'a>(list: &[Body<'_, 'a>], outer: &[usize]) -> Option<&'a Env<'a>>
     ensures { (bodies : Around) → HaveEnvs list.now outer.now bodies → listed_in result ≡ bodies }
 {
     match first_of(outer) {
@@ -125,10 +125,14 @@ fn env_in<'a>(
 }
 
 // The number of a body, and those of the bodies round it.
-fn numbers_in<'a>(arena: &'a Bump, number: usize, outer: &[usize]) -> Result<&'a [usize], NoMemory>
+fn numbers_in<'s>(
+    scratch: &'s Bump,
+    number: usize,
+    outer: &[usize],
+) -> Result<&'s [usize], NoMemory>
     ensures { IfOk result (λ r. r.now ≡ number ∷ outer.now) }
 {
-    let mut numbers = Vec::with_capacity(arena, outer.len().saturating_add(1))?;
+    let mut numbers = Vec::with_capacity(scratch, outer.len().saturating_add(1))?;
     numbers.push(number)?;
     for round in outer {
         numbers.push(*round)?;
@@ -137,18 +141,19 @@ fn numbers_in<'a>(arena: &'a Bump, number: usize, outer: &[usize]) -> Result<&'a
 }
 
 // The body of a text of this number.
-fn body_of<'a>(
+fn body_of<'s, 'a>(
+    scratch: &'s Bump,
     arena: &'a Bump,
     number: usize,
     of: usize,
-    text: &BodyText<'a>,
+    text: &BodyText<'s, 'a>,
     opened: &Opened<'a>,
     outer: Option<&'a Env<'a>>,
-) -> Result<Body<'a>, NoMemory>
+) -> Result<Body<'s, 'a>, NoMemory>
     ensures { IfOk result (IsBodyOf number of text.now opened.now outer.entry) }
 {
     let env = env_in(arena, text.bound, opened, outer)?;
-    let numbers = numbers_in(arena, number, text.outer)?;
+    let numbers = numbers_in(scratch, number, text.outer)?;
     Ok(Body {
         site: text.site,
         text: of,
@@ -160,7 +165,7 @@ fn body_of<'a>(
     })
 }
 
-impl<'a> Bodies<'a> {
+impl<'s, 'a> Bodies<'s, 'a> {
     ghost use Rattle.std.specs.Prelude.{◌≡◌, ◌∷◌, ◌++◌, [], ℕ, length, map, IfOk, IfSome, OnOk, Some, slice_get};
     ghost use Rattle.rdl_base.specs.declared.fault.Fault.{Fault as AnyFault};
     ghost use Rattle.rdl_tree.specs.InOrder.{IsInOrder};
@@ -179,7 +184,7 @@ impl<'a> Bodies<'a> {
         &mut self,
         table: Table<'a>,
         components: Components<'a>,
-        body: Body<'a>,
+        body: Body<'s, 'a>,
     ) -> Result<(), NoMemory>
         ensures tables { OnOk result (self.new.tables.items ≡ self.old.tables.items ++ (table.entry ∷ [])) }
         ensures components { OnOk result (self.new.components.items ≡ self.old.components.items ++ (components.entry ∷ [])) }
@@ -199,7 +204,7 @@ impl<'a> Bodies<'a> {
         alloc: Global,
         arena: &'a Bump,
         of: usize,
-        text: &BodyText<'a>,
+        text: &BodyText<'s, 'a>,
         failures: &mut Failures,
     ) -> Result<usize, NoMemory>
         requires kept { AreKept self.old failures.old }
@@ -216,7 +221,7 @@ impl<'a> Bodies<'a> {
         let opened = names_of(alloc, arena, &self.tables, text, closed, failures)?;
         let outer = env_round(&self.list, text.outer);
         let number = self.tables.len();
-        let body = body_of(arena, number, of, text, &opened, outer)?;
+        let body = body_of(self.scratch, arena, number, of, text, &opened, outer)?;
         let components = Components::of(alloc, text.items)?;
         self.push(opened.table, components, body)?;
         Ok(number)
@@ -228,7 +233,7 @@ impl<'a> Bodies<'a> {
         alloc: Global,
         arena: &'a Bump,
         place: Option<TextPlace>,
-        text: &BodyText<'a>,
+        text: &BodyText<'s, 'a>,
         failures: &mut Failures,
     ) -> Result<usize, NoMemory>
         requires kept { AreKept self.old failures.old }

@@ -16,17 +16,20 @@ use rdl_tree::Item;
 use std::alloc::Global;
 use std::collections::BTreeMap;
 
-/// The root's body alone, which has the number 0. The failures of its names are put in: E2, and those of its enumerations.
-pub fn open_root<'a>(
+/// The root's body alone, which has the number 0. Lists of numbers of bodies stand in the arena `scratch`. The failures of its names are put
+/// in: E2, and those of its enumerations.
+pub fn open_root<'s, 'a>(
     alloc: Global,
+    scratch: &'s Bump,
     arena: &'a Bump,
     items: &'a [Item<'a>],
     failures: &mut Failures,
-) -> Result<Bodies<'a>, NoMemory>
+) -> Result<Bodies<'s, 'a>, NoMemory>
     requires { IsInOrder items.now }
     ensures { IfOk result (λ t. (s : AnySource) → s.items.now ≡ items.now → IsRootOpen t failures.old failures.new (root s)) }
 {
     let mut bodies = Bodies {
+        scratch,
         tables: Vec::new(alloc),
         components: Vec::new(alloc),
         list: Vec::new(alloc),

@@ -39,10 +39,10 @@ fn key_of<'a>(
 }
 
 // A copy in the arena.
-fn numbers_in<'a>(arena: &'a Bump, numbers: &[usize]) -> Result<&'a [usize], NoMemory>
+fn numbers_in<'s>(scratch: &'s Bump, numbers: &[usize]) -> Result<&'s [usize], NoMemory>
     ensures { IfOk result (λ r. r.now ≡ numbers.now) }
 {
-    let copy = arena.try_alloc_slice_copy(numbers)?;
+    let copy = scratch.try_alloc_slice_copy(numbers)?;
     Ok(copy)
 }
 
@@ -54,7 +54,7 @@ fn bound_in<'a>(arena: &'a Bump, bound: &[Bound<'a>]) -> Result<&'a [Bound<'a>],
     Ok(copy)
 }
 
-impl<'a> Bodies<'a> {
+impl<'s, 'a> Bodies<'s, 'a> {
     ghost use Rattle.std.specs.Prelude.{◌≡◌, ◌∷◌, ◌++◌, [], List, Some, map, IfOk, IfSome, OnOk, length, slice_get};
     ghost use Rattle.rdl_base.specs.declared.fault.Fault.{Fault as AnyFault};
     ghost use Rattle.rdl_values.specs.Bodies.{Closure};
@@ -86,7 +86,7 @@ impl<'a> Bodies<'a> {
     }
 
     // Puts a site behind the others.
-    fn push_site(&mut self, site: Site<'a>, key: SiteKey<'a>) -> Result<(), NoMemory>
+    fn push_site(&mut self, site: Site<'s, 'a>, key: SiteKey<'a>) -> Result<(), NoMemory>
         ensures tables { self.new.tables ≡ self.old.tables }
         ensures components { self.new.components ≡ self.old.components }
         ensures list { self.new.list ≡ self.old.list }
@@ -106,7 +106,7 @@ impl<'a> Bodies<'a> {
         alloc: Global,
         arena: &'a Bump,
         def: &'a Def<'a>,
-        outer: &'a [usize],
+        outer: &'s [usize],
         uptos: &[usize],
         bound: &[Bound<'a>],
     ) -> Result<usize, NoMemory>
@@ -123,7 +123,7 @@ impl<'a> Bodies<'a> {
         let site = Site {
             def,
             outer,
-            uptos: numbers_in(arena, uptos)?,
+            uptos: numbers_in(self.scratch, uptos)?,
             bound: bound_in(arena, bound)?,
         };
         self.push_site(site, key)?;

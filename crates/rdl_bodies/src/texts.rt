@@ -21,7 +21,7 @@ fn is_at(text: &Text<'_>, at: &TextPlace) -> bool
     }
 }
 
-impl<'a> Bodies<'a> {
+impl<'s, 'a> Bodies<'s, 'a> {
     ghost use Rattle.std.specs.Prelude.{◌≡◌, ◌∷◌, ◌++◌, [], IfOk, IfSome, OnOk, Some, length, slice_get};
     ghost use Rattle.rdl_bodies.specs.Kept.{AreKept};
     ghost use Rattle.rdl_bodies.specs.Texts.{HasText, IsPlace, IsPlaced};

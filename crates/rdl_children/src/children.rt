@@ -25,8 +25,8 @@ use std::alloc::Global;
 // Puts in all failures of the uses in a body, and gives those that give nodes, item by item.
 fn judge<'a>(
     alloc: Global,
-    bodies: &Bodies<'a>,
-    body: &Body<'a>,
+    bodies: &Bodies<'_, 'a>,
+    body: &Body<'_, 'a>,
     parent: Parent,
     failures: &mut Failures,
 ) -> Result<Vec<ItemUses<'a>>, NoMemory>
@@ -61,12 +61,12 @@ fn count_instances(items: &[ItemUses<'_>]) -> usize {
 }
 
 // The uses that give nodes, one by one.
-fn list_uses<'s, 'a>(
+fn list_uses<'s, 'n, 'a>(
     alloc: Global,
     scratch: &'s Bump,
     arena: &'a Bump,
-    bodies: &mut Bodies<'a>,
-    body: &Body<'a>,
+    bodies: &mut Bodies<'n, 'a>,
+    body: &Body<'n, 'a>,
     items: &[ItemUses<'a>],
 ) -> Result<&'s [Child<'a>], NoMemory>
     requires { CanList bodies.old body.now items.now }
@@ -85,7 +85,7 @@ pub fn judge_children<'s, 'a>(
     alloc: Global,
     scratch: &'s Bump,
     arena: &'a Bump,
-    bodies: &mut Bodies<'a>,
+    bodies: &mut Bodies<'_, 'a>,
     number: usize,
     parent: Parent,
     failures: &mut Failures,

@@ -87,11 +87,11 @@ fn uptos_of(
 }
 
 // Puts the instances of an item behind the others, with the values of their parameters.
-fn add_bound<'s, 'a>(
+fn add_bound<'s, 'n, 'a>(
     alloc: Global,
     arena: &'a Bump,
-    bodies: &mut Bodies<'a>,
-    body: &Body<'a>,
+    bodies: &mut Bodies<'n, 'a>,
+    body: &Body<'n, 'a>,
     item: &ItemUses<'a>,
     binding: &Binding<'a>,
     list: &mut Vec<Child<'a>, &'s Bump>,
@@ -109,11 +109,11 @@ fn add_bound<'s, 'a>(
 }
 
 /// Puts the instances of an item behind the others.
-pub(crate) fn add_uses<'s, 'a>(
+pub(crate) fn add_uses<'s, 'n, 'a>(
     alloc: Global,
     arena: &'a Bump,
-    bodies: &mut Bodies<'a>,
-    body: &Body<'a>,
+    bodies: &mut Bodies<'n, 'a>,
+    body: &Body<'n, 'a>,
     item: &ItemUses<'a>,
     list: &mut Vec<Child<'a>, &'s Bump>,
 ) -> Result<(), NoMemory>

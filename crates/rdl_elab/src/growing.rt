@@ -8,7 +8,7 @@ use rdl_walk::Walk;
 /// The walk whose bodies the tree is made of, and how many nodes there are so far.
 #[derive(Drop)]
 pub(crate) struct Growing<'s, 'a> {
-    pub walk: Walk<'s, 'a>,
+    pub walk: Walk<'s, 's, 'a>,
     pub count: u32,
 }
 

@@ -26,7 +26,7 @@ pub(crate) struct Opened<'a> {
 }
 
 // What is visible in a body: the nearest of those that it shows is its own.
-fn env_of<'a>(bodies: &Bodies<'a>, number: usize) -> &'a Env<'a>
+fn env_of<'a>(bodies: &Bodies<'_, 'a>, number: usize) -> &'a Env<'a>
     requires { CanShow bodies.now number }
     ensures { (x : OpenBody) (b : BodyOf) → slice_get bodies.now.list.items number ≡ Some x → IsOpenAs bodies.now x b → around_of result.now ≡ b.names ∷ around b.outer }
 {

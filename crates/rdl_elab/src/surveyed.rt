@@ -14,6 +14,6 @@ pub struct TopSite<'a> {
 /// its top, if that gives a node.
 #[derive(Drop)]
 pub struct Surveyed<'s, 'a> {
-    pub walk: Walk<'s, 'a>,
+    pub walk: Walk<'s, 's, 'a>,
     pub top: Option<TopSite<'a>>,
 }

@@ -36,7 +36,7 @@ fn no_arguments<'a>() -> &'a [Arg<'a>]
 // The values of the top's parameters, which have no arguments, if each has one. Their failures are put in, and E7.
 fn bind_top<'a>(
     alloc: Global,
-    bodies: &Bodies<'a>,
+    bodies: &Bodies<'_, 'a>,
     numbers: &[usize],
     top: &Top<'a>,
     failures: &mut Failures,
@@ -68,7 +68,7 @@ fn bind_top<'a>(
 pub(crate) fn list_top<'a>(
     alloc: Global,
     arena: &'a Bump,
-    bodies: &mut Bodies<'a>,
+    bodies: &mut Bodies<'_, 'a>,
     top: &Top<'a>,
     failures: &mut Failures,
 ) -> Result<Option<TopSite<'a>>, NoMemory>
@@ -94,7 +94,7 @@ pub(crate) fn list_top<'a>(
 pub(crate) fn list_found<'a>(
     alloc: Global,
     arena: &'a Bump,
-    bodies: &mut Bodies<'a>,
+    bodies: &mut Bodies<'_, 'a>,
     top: &Option<Top<'a>>,
     failures: &mut Failures,
 ) -> Result<Option<TopSite<'a>>, NoMemory>

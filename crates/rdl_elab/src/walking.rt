@@ -34,7 +34,7 @@ const IN_TOP: Standing = Standing {
 pub(crate) fn walk_root<'a>(
     alloc: Global,
     arena: &'a Bump,
-    walk: &mut Walk<'_, 'a>,
+    walk: &mut Walk<'_, '_, 'a>,
 ) -> Result<(), NoMemory>
     requires walking { AreWalking walk.old }
     requires some { (s : Source) × IsRootAt walk.old.bodies s }
@@ -49,7 +49,7 @@ pub(crate) fn walk_root<'a>(
 pub(crate) fn walk_top<'a>(
     alloc: Global,
     arena: &'a Bump,
-    walk: &mut Walk<'_, 'a>,
+    walk: &mut Walk<'_, '_, 'a>,
     top: &Option<TopSite<'a>>,
 ) -> Result<(), NoMemory>
     requires walking { AreWalking walk.old }

@@ -31,7 +31,7 @@ fn begin<'s, 'a>(
     let mut failures = Failures::new(alloc);
     let items = source.items;
     let found = judge_text(items, wanted, &mut failures)?;
-    let mut bodies = open_root(alloc, arena, items, &mut failures)?;
+    let mut bodies = open_root(alloc, scratch, arena, items, &mut failures)?;
     let top = list_found(alloc, arena, &mut bodies, &found, &mut failures)?;
     let walk = Walk::new(alloc, scratch, bodies, failures);
     Ok(Surveyed { walk, top })

@@ -29,7 +29,7 @@ impl<'a> Enums<'a> {
     }
 
     /// Those of all these bodies, in time for their enumerations.
-    pub fn of(alloc: Global, bodies: &Bodies<'a>) -> Result<Self, NoMemory>
+    pub fn of(alloc: Global, bodies: &Bodies<'_, 'a>) -> Result<Self, NoMemory>
         ensures { IfOk result (λ t. AreEnumsOfBodies t bodies.now) }
     {
         let mut list = Vec::new(alloc);

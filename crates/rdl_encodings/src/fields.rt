@@ -32,7 +32,7 @@ use std::alloc::Global;
 // Puts in a node, where it is a field.
 fn add_field<'a>(
     alloc: Global,
-    tree: &OpenTree<'a>,
+    tree: &OpenTree<'_, 'a>,
     enums: &Enums<'a>,
     entries: &[Vec<PropSetting<'a>>],
     node: &Node<'a>,
@@ -55,7 +55,7 @@ fn add_field<'a>(
 // Puts in the fields of a node, where it is a register that is no alias.
 fn add_fields<'a>(
     alloc: Global,
-    tree: &OpenTree<'a>,
+    tree: &OpenTree<'_, 'a>,
     enums: &Enums<'a>,
     entries: &[Vec<PropSetting<'a>>],
     row: &Row<'a>,
@@ -81,7 +81,7 @@ fn add_fields<'a>(
 pub fn encodings_of<'a>(
     alloc: Global,
     rows: &[Row<'a>],
-    tree: &OpenTree<'a>,
+    tree: &OpenTree<'_, 'a>,
     entries: &[Vec<PropSetting<'a>>],
 ) -> Result<Encodings<'a>, NoMemory>
     requires { length rows.now ≡ length entries.now }

@@ -60,7 +60,7 @@ fn some_name(entries: &[Vec<PropSetting<'_>>]) -> bool
 /// The enumerations of the open bodies, where the entries of some node need them.
 pub(crate) fn enums_for<'a>(
     alloc: Global,
-    tree: &OpenTree<'a>,
+    tree: &OpenTree<'_, 'a>,
     entries: &[Vec<PropSetting<'a>>],
 ) -> Result<Enums<'a>, NoMemory>
     ensures { IfOk result (λ t. Serves t tree.now entries.now) }
@@ -74,7 +74,7 @@ pub(crate) fn enums_for<'a>(
 
 // The enumeration that a name means in the bodies round the text of a setting.
 fn meant_from<'a>(
-    tree: &OpenTree<'a>,
+    tree: &OpenTree<'_, 'a>,
     enums: &Enums<'a>,
     name: &Name<'a>,
     scope: u32,
@@ -96,7 +96,7 @@ fn meant_from<'a>(
 
 /// The enumeration by which a field is encoded, from what decides the field's properties.
 pub(crate) fn enum_of<'a>(
-    tree: &OpenTree<'a>,
+    tree: &OpenTree<'_, 'a>,
     enums: &Enums<'a>,
     entries: &[PropSetting<'a>],
 ) -> Option<Meant<'a>>

@@ -41,7 +41,7 @@ fn open_body(spots: &[Spot], scope: u32) -> usize
 }
 
 /// The open body in which the text of a setting stands, from the number that the setting has of it.
-pub fn body_round<'a>(tree: &OpenTree<'a>, scope: u32) -> Option<Body<'a>>
+pub fn body_round<'s, 'a>(tree: &OpenTree<'s, 'a>, scope: u32) -> Option<Body<'s, 'a>>
     ensures { (e : Elab) (name : AnyName) (round : Scope) → NamesEnum e tree.now name scope round → Shows tree.now result (around round) }
 {
     settings_in_bodies();
@@ -73,7 +73,7 @@ fn is_wide(greatest: Option<u64>, width: u64) -> bool
 /// Whether an entry of the enumeration that a field of this width is encoded by has a number that it can't hold, from what decides the
 /// field's properties.
 pub(crate) fn has_wide_entry<'a>(
-    tree: &OpenTree<'a>,
+    tree: &OpenTree<'_, 'a>,
     enums: &EnumNumbers<'a>,
     entries: &[PropSetting<'a>],
     width: u64,

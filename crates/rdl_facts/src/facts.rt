@@ -50,7 +50,7 @@ fn is_unit(kind: Kind) -> bool
 // The facts of a field or signal, the text of which sees the names of the body that its use stands in.
 fn unit_fact<'a>(
     alloc: Global,
-    tree: &OpenTree<'a>,
+    tree: &OpenTree<'_, 'a>,
     enums: &EnumNumbers<'a>,
     inst: &Inst<'a>,
     kind: Kind,
@@ -76,7 +76,7 @@ fn unit_fact<'a>(
 // The facts of a node, if it is a field or a signal.
 fn node_fact<'a>(
     alloc: Global,
-    tree: &OpenTree<'a>,
+    tree: &OpenTree<'_, 'a>,
     enums: &EnumNumbers<'a>,
     node: &Node<'a>,
     spot: &Spot,
@@ -107,7 +107,7 @@ fn entries_of<'e, 'a>(entries: &'e [Vec<PropSetting<'a>>], at: usize) -> &'e [Pr
 pub fn facts_of<'a>(
     alloc: Global,
     rows: &[Row<'a>],
-    tree: &OpenTree<'a>,
+    tree: &OpenTree<'_, 'a>,
     entries: &[Vec<PropSetting<'a>>],
 ) -> Result<Vec<Fact>, NoMemory>
     requires { length rows.now ≡ length entries.now }

@@ -22,7 +22,7 @@ impl<'a> EnumNumbers<'a> {
     ghost use Rattle.rdl_facts.specs.Greatest.{IsGreatest};
 
     /// Those of all these bodies, in time for their enumerations and the entries of these.
-    pub fn of(alloc: Global, bodies: &Bodies<'a>) -> Result<Self, NoMemory>
+    pub fn of(alloc: Global, bodies: &Bodies<'_, 'a>) -> Result<Self, NoMemory>
         ensures { IfOk result (λ t. AreNumbersOf t bodies.now) }
     {
         let mut list = Vec::new(alloc);

@@ -26,14 +26,14 @@ pub(crate) fn nearest_of(chain: &[Option<u32>]) -> Option<u32>
 }
 
 /// A node before others.
-pub(crate) fn chain_behind<'a>(
-    arena: &'a Bump,
+pub(crate) fn chain_behind<'s>(
+    scratch: &'s Bump,
     node: u32,
     chain: &[Option<u32>],
-) -> Result<&'a [Option<u32>], NoMemory>
+) -> Result<&'s [Option<u32>], NoMemory>
     ensures { IfOk result (λ r. r.now ≡ Some node ∷ chain.now) }
 {
-    let mut list = Vec::with_capacity(arena, chain.len().saturating_add(1))?;
+    let mut list = Vec::with_capacity(scratch, chain.len().saturating_add(1))?;
     list.push(Some(node))?;
     for round in chain {
         list.push(*round)?;
@@ -42,10 +42,10 @@ pub(crate) fn chain_behind<'a>(
 }
 
 /// The root alone.
-pub(crate) fn root_chain<'a>(arena: &'a Bump) -> Result<&'a [Option<u32>], NoMemory>
+pub(crate) fn root_chain<'s>(scratch: &'s Bump) -> Result<&'s [Option<u32>], NoMemory>
     ensures { IfOk result (λ r. r.now ≡ None ∷ []) }
 {
-    let mut list: Vec<Option<u32>, &'a Bump> = Vec::new(arena);
+    let mut list: Vec<Option<u32>, &'s Bump> = Vec::new(scratch);
     list.push(None)?;
     Ok(into_bump_slice(list))
 }

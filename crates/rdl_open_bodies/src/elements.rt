@@ -22,12 +22,12 @@ use rdl_walk::{count_of, row_of};
 use std::alloc::Global;
 
 // Puts the start of an element behind others.
-fn add_element<'a>(
-    arena: &'a Bump,
-    child: &Child<'a>,
+fn add_element<'s>(
+    scratch: &'s Bump,
+    child: &Child<'_>,
     number: u64,
-    round: &Round<'a>,
-    starts: &mut Vec<Start<'a>>,
+    round: &Round<'s>,
+    starts: &mut Vec<Start<'s>>,
 ) -> Result<(), NoMemory>
     requires within { number < product child.now.dims.now }
     requires small { number < 2 ^ 64 - 1 }
@@ -35,7 +35,7 @@ fn add_element<'a>(
     ensures { OnOk result ((e : Elab) (t : Bodies) (p : Parent) (levels : ℕ) (scope : Scope) (s : Seen) (h : IsChild t child.now s) → IsUseIn p scope s → IsRoundOf e t round.now p levels scope
         → AddsStarts e t levels (element_of s h.closure h.bound (row child.now.dims.now number) ∷ []) starts.old.items starts.new.items) }
 {
-    let row = row_of(arena, child.dims, number)?;
+    let row = row_of(scratch, child.dims, number)?;
     let inst = child.inst;
     let name = inst.name;
     let Some(len) = text_len(round.standing.prefix, name.text, row) else {
@@ -55,12 +55,12 @@ fn add_element<'a>(
 }
 
 // Puts the starts of the elements of a use behind others, no more than so many.
-fn add_elements<'a>(
-    arena: &'a Bump,
-    child: &Child<'a>,
-    round: &Round<'a>,
+fn add_elements<'s>(
+    scratch: &'s Bump,
+    child: &Child<'_>,
+    round: &Round<'s>,
     most: usize,
-    starts: &mut Vec<Start<'a>>,
+    starts: &mut Vec<Start<'s>>,
 ) -> Result<(), NoMemory>
     requires deep { round.now.standing.depth < 200 }
     ensures { OnOk result ((e : Elab) (t : Bodies) (p : Parent) (levels : ℕ) (scope : Scope) (s : Seen) → IsChild t child.now s → IsUseIn p scope s → IsRoundOf e t round.now p levels scope → length (given_by s) ≤ most
@@ -69,26 +69,26 @@ fn add_elements<'a>(
     rows_by_number();
     let total = count_of(child.dims, most as u64);
     for number in 0..total {
-        add_element(arena, child, number, round, starts)?;
+        add_element(scratch, child, number, round, starts)?;
     }
     Ok(())
 }
 
 /// The starts of the nodes that the uses of a body give, of which there are no more than so many.
-pub(crate) fn starts_of<'a>(
+pub(crate) fn starts_of<'s>(
     alloc: Global,
-    arena: &'a Bump,
-    children: &[Child<'a>],
-    round: &Round<'a>,
+    scratch: &'s Bump,
+    children: &[Child<'_>],
+    round: &Round<'s>,
     most: usize,
-) -> Result<Vec<Start<'a>>, NoMemory>
+) -> Result<Vec<Start<'s>>, NoMemory>
     requires deep { round.now.standing.depth < 200 }
     ensures { IfOk result (λ r. (e : Elab) (t : Bodies) (p : Parent) (levels : ℕ) (scope : Scope) (ss : List Seen) → AreChildren t children.now ss → AreUsesIn p scope ss → IsRoundOf e t round.now p levels scope → length (flat_map given_by ss) ≤ most
         → AreStarts e t r.items levels (flat_map given_by ss)) }
 {
     let mut starts = Vec::new(alloc);
     for child in children {
-        add_elements(arena, child, round, most, &mut starts)?;
+        add_elements(scratch, child, round, most, &mut starts)?;
     }
     Ok(starts)
 }

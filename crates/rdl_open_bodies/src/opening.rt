@@ -32,11 +32,11 @@ fn first_of(numbers: &[usize]) -> usize
 }
 
 // Opens the body of a node, and puts the node behind others.
-fn open_one<'a>(
+fn open_one<'s, 'a>(
     alloc: Global,
     arena: &'a Bump,
-    start: &Start<'a>,
-    walk: &mut Walk<'_, 'a>,
+    start: &Start<'s>,
+    walk: &mut Walk<'s, '_, 'a>,
     spots: &mut Vec<Spot>,
 ) -> Result<Spot, NoMemory>
     requires walking { AreWalking walk.old }
@@ -68,34 +68,34 @@ fn open_one<'a>(
 }
 
 // The starts of the nodes in the body of a node, of which there are no more than so many.
-fn starts_in<'a>(
+fn starts_in<'s, 'a>(
     alloc: Global,
     arena: &'a Bump,
     node: u32,
     spot: &Spot,
-    start: &Start<'a>,
+    start: &Start<'s>,
     most: usize,
-    walk: &mut Walk<'_, 'a>,
-) -> Result<Vec<Start<'a>>, NoMemory>
+    walk: &mut Walk<'s, '_, 'a>,
+) -> Result<Vec<Start<'s>>, NoMemory>
     requires walking { AreWalking walk.old }
     requires some { CanAsk walk.old.bodies spot.now.body start.now.standing }
     requires deep { start.now.standing.depth < 200 }
     ensures { IfOk result (λ r. (e : AnyElab) (levels : ℕ) (n : Instance) → IsAt (lineages_of e) node n → IsSpot e walk.old.bodies spot.now n → IsStart e walk.old.bodies start.now (suc levels) n → length (children n) ≤ most
         → AreInside e walk.old walk.new r.items levels (children n)) }
 {
-    let chain = chain_behind(arena, node, last_of(start.chain, spot.depth))?;
+    let chain = chain_behind(walk.scratch, node, last_of(start.chain, spot.depth))?;
     let children = walk.children(alloc, arena, spot.body, start.standing)?;
     let round = Round {
         within: spot.body,
         standing: start.standing,
         chain,
     };
-    let starts = starts_of(alloc, arena, children, &round, most)?;
+    let starts = starts_of(alloc, walk.scratch, children, &round, most)?;
     Ok(starts)
 }
 
 // One of some starts.
-fn start_at<'a>(starts: &[Start<'a>], at: usize) -> Option<Start<'a>>
+fn start_at<'s>(starts: &[Start<'s>], at: usize) -> Option<Start<'s>>
     ensures { result ≡ slice_get starts.now at }
 {
     starts.get(at).copied()
@@ -103,15 +103,15 @@ fn start_at<'a>(starts: &[Start<'a>], at: usize) -> Option<Start<'a>>
 
 /// Opens the body of a node, which has the number, and those of the nodes so many levels below it.
 #[cycle(open_nodes)]
-pub(crate) fn open_node<'a>(
+pub(crate) fn open_node<'s, 'a>(
     alloc: Global,
     arena: &'a Bump,
     elab: &Elab<'a>,
     rows: &[Row<'a>],
     number: u32,
-    start: &Start<'a>,
+    start: &Start<'s>,
     levels: u8,
-    walk: &mut Walk<'_, 'a>,
+    walk: &mut Walk<'s, '_, 'a>,
     spots: &mut Vec<Spot>,
 ) -> Result<(), NoMemory>
     requires rows { AreRows elab.now rows.now }
@@ -138,15 +138,15 @@ pub(crate) fn open_node<'a>(
 
 /// The same of some nodes, one by one.
 #[cycle(open_nodes)]
-pub(crate) fn open_nodes<'a>(
+pub(crate) fn open_nodes<'s, 'a>(
     alloc: Global,
     arena: &'a Bump,
     elab: &Elab<'a>,
     rows: &[Row<'a>],
     nodes: &[Node<'a>],
-    starts: &[Start<'a>],
+    starts: &[Start<'s>],
     levels: u8,
-    walk: &mut Walk<'_, 'a>,
+    walk: &mut Walk<'s, '_, 'a>,
     spots: &mut Vec<Spot>,
 ) -> Result<(), NoMemory>
     requires rows { AreRows elab.now rows.now }

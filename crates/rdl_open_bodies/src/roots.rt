@@ -40,25 +40,25 @@ const IN_TOP: Standing = Standing {
 };
 
 // The starts of the signals at the root.
-fn signal_starts<'a>(
+fn signal_starts<'s, 'a>(
     alloc: Global,
     arena: &'a Bump,
     elab: &Elab<'a>,
-    walk: &mut Walk<'_, 'a>,
-) -> Result<Vec<Start<'a>>, NoMemory>
+    walk: &mut Walk<'s, '_, 'a>,
+) -> Result<Vec<Start<'s>>, NoMemory>
     requires clean { IsClean elab.now }
     requires walking { AreWalking walk.old }
     requires some { IsOpenAt walk.old.bodies 0 (root elab.now.source.now) }
     ensures { IfOk result (λ r. AreInside elab.now walk.old walk.new r.items 0 (signals elab.now.source.now)) }
 {
-    let chain = root_chain(arena)?;
+    let chain = root_chain(walk.scratch)?;
     let children = walk.children(alloc, arena, 0, AT_ROOT)?;
     let round = Round {
         within: 0,
         standing: AT_ROOT,
         chain,
     };
-    let starts = starts_of(alloc, arena, children, &round, elab.signals.len())?;
+    let starts = starts_of(alloc, walk.scratch, children, &round, elab.signals.len())?;
     Ok(starts)
 }
 
@@ -68,7 +68,7 @@ fn open_signals<'a>(
     arena: &'a Bump,
     elab: &Elab<'a>,
     rows: &[Row<'a>],
-    walk: &mut Walk<'_, 'a>,
+    walk: &mut Walk<'_, '_, 'a>,
     spots: &mut Vec<Spot>,
 ) -> Result<(), NoMemory>
     requires clean { IsClean elab.now }
@@ -105,12 +105,12 @@ fn uptos_of(alloc: Global, first: usize, others: &[usize]) -> Result<Vec<usize>,
 }
 
 // The start of the top.
-fn top_start<'a>(
+fn top_start<'s, 'a>(
     alloc: Global,
     arena: &'a Bump,
     elab: &Elab<'a>,
-    walk: &mut Walk<'_, 'a>,
-) -> Result<Option<Start<'a>>, NoMemory>
+    walk: &mut Walk<'s, '_, 'a>,
+) -> Result<Option<Start<'s>>, NoMemory>
     requires clean { IsClean elab.now }
     requires walking { AreWalking walk.old }
     requires some { IsOpenAt walk.old.bodies 0 (root elab.now.source.now) }
@@ -127,7 +127,7 @@ fn top_start<'a>(
     let site = walk
         .bodies
         .list(alloc, arena, top.def, root.numbers, &uptos, bound)?;
-    let chain = root_chain(arena)?;
+    let chain = root_chain(walk.scratch)?;
     Ok(Some(Start {
         site,
         within: 0,
@@ -142,7 +142,7 @@ fn open_top<'a>(
     arena: &'a Bump,
     elab: &Elab<'a>,
     rows: &[Row<'a>],
-    walk: &mut Walk<'_, 'a>,
+    walk: &mut Walk<'_, '_, 'a>,
     spots: &mut Vec<Spot>,
 ) -> Result<(), NoMemory>
     requires clean { IsClean elab.now }
@@ -168,21 +168,23 @@ fn open_top<'a>(
     Ok(())
 }
 
-/// Opens the bodies of all nodes of a tree, of which these are the rows. The failures that this finds are none of a clean tree.
-pub fn open_tree<'a>(
+/// Opens the bodies of all nodes of a tree, of which these are the rows. The numbers of the
+/// bodies round each stand in the arena `scratch`, which has to last as long as the tree does. The failures that this finds are none of a clean tree.
+pub fn open_tree<'s, 'a>(
     alloc: Global,
+    scratch: &'s Bump,
     arena: &'a Bump,
     elab: &Elab<'a>,
     rows: &[Row<'a>],
-) -> Result<OpenTree<'a>, NoMemory>
+) -> Result<OpenTree<'s, 'a>, NoMemory>
     requires clean { IsClean elab.now }
     requires rows { AreRows elab.now rows.now }
     ensures { IfOk result (IsOpenTree elab.now) }
 {
     let mut failures = Failures::new(alloc);
-    let bodies = open_root(alloc, arena, elab.source.items, &mut failures)?;
-    let scratch = Bump::new(alloc);
-    let mut walk = Walk::new(alloc, &scratch, bodies, failures);
+    let bodies = open_root(alloc, scratch, arena, elab.source.items, &mut failures)?;
+    let uses = Bump::new(alloc);
+    let mut walk = Walk::new(alloc, &uses, bodies, failures);
     let mut spots = Vec::new(alloc);
     open_signals(alloc, arena, elab, rows, &mut walk, &mut spots)?;
     open_top(alloc, arena, elab, rows, &mut walk, &mut spots)?;

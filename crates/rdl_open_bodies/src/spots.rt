@@ -20,25 +20,25 @@ pub struct Spot {
 
 /// The open bodies of a tree, and its nodes among them, each at its number. The root's body has the number 0.
 #[derive(Drop)]
-pub struct OpenTree<'a> {
-    pub bodies: Bodies<'a>,
+pub struct OpenTree<'s, 'a> {
+    pub bodies: Bodies<'s, 'a>,
     pub spots: Vec<Spot>,
 }
 
 /// A node whose body isn't open yet: the site of its definition, the body in which its use stands, where the uses in its body stand,
 /// and the nodes whose bodies are round its use, the nearest first, the root's being none.
 #[derive(Clone, Copy)]
-pub(crate) struct Start<'a> {
+pub(crate) struct Start<'s> {
     pub site: usize,
     pub within: usize,
     pub standing: Standing,
-    pub chain: &'a [Option<u32>],
+    pub chain: &'s [Option<u32>],
 }
 
 /// What the uses of a body have in common: the number of the body, where they stand, and the nodes whose bodies are round them.
 #[derive(Clone, Copy)]
-pub(crate) struct Round<'a> {
+pub(crate) struct Round<'s> {
     pub within: usize,
     pub standing: Standing,
-    pub chain: &'a [Option<u32>],
+    pub chain: &'s [Option<u32>],
 }

@@ -67,8 +67,8 @@ fn rest_of<'n>(numbers: &'n [usize]) -> &'n [usize]
 fn enums_of<'a>(
     alloc: Global,
     arena: &'a Bump,
-    bodies: &Bodies<'a>,
-    body: &Body<'a>,
+    bodies: &Bodies<'_, 'a>,
+    body: &Body<'_, 'a>,
     failures: &mut Failures,
 ) -> Result<(), NoMemory>
     requires some { CanRead bodies.now body.now }
@@ -94,8 +94,8 @@ fn enums_of<'a>(
 pub(crate) fn layers_of<'a>(
     alloc: Global,
     arena: &'a Bump,
-    bodies: &Bodies<'a>,
-    body: &Body<'a>,
+    bodies: &Bodies<'_, 'a>,
+    body: &Body<'_, 'a>,
     failures: &mut Failures,
 ) -> Result<Layers<'a>, NoMemory>
     requires some { CanRead bodies.now body.now }

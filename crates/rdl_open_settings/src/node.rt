@@ -37,7 +37,7 @@ fn fit<'a>(alloc: Global, list: &mut Vec<PropSetting<'a>>) -> Result<(), NoMemor
 
 // Puts the value that a node's instance has of its own behind others.
 fn add_own<'a>(
-    tree: &OpenTree<'a>,
+    tree: &OpenTree<'_, 'a>,
     node: &Node<'a>,
     spot: &Spot,
     list: &mut Vec<PropSetting<'a>>,
@@ -79,7 +79,7 @@ fn add_body<'a>(
 // Puts in P11 of a field or a signal, the text of which sees the names of the body that its use stands in.
 fn judge_unit_of<'a>(
     alloc: Global,
-    tree: &OpenTree<'a>,
+    tree: &OpenTree<'_, 'a>,
     node: &Node<'a>,
     spot: &Spot,
     list: &[PropSetting<'a>],
@@ -106,7 +106,7 @@ fn judge_unit_of<'a>(
 // Puts in P9 to P11 of a node.
 fn judge_widths<'a>(
     alloc: Global,
-    tree: &OpenTree<'a>,
+    tree: &OpenTree<'_, 'a>,
     node: &Node<'a>,
     spot: &Spot,
     list: &[PropSetting<'a>],
@@ -135,7 +135,7 @@ fn judge_widths<'a>(
 /// definition, and defaults. Then puts in P9 to P11 of the node. The list is kept from then on, so it has no room to spare.
 pub fn complete_node<'a>(
     alloc: Global,
-    tree: &OpenTree<'a>,
+    tree: &OpenTree<'_, 'a>,
     layers: &LayerTable<'a>,
     count: u32,
     node: &Node<'a>,

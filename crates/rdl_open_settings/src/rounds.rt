@@ -52,7 +52,7 @@ fn number_of(round: Option<u32>, count: u32) -> u32
 /// Puts the defaults of the bodies round a definition's text behind others, the nearest first, of which those have an effect that are
 /// legal on the kind. There are so many bodies.
 pub(crate) fn add_rounds<'a>(
-    tree: &OpenTree<'a>,
+    tree: &OpenTree<'_, 'a>,
     layers: &LayerTable<'a>,
     count: u32,
     kind: Kind,

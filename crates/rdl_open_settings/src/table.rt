@@ -39,7 +39,7 @@ impl<'a> LayerTable<'a> {
         &mut self,
         alloc: Global,
         arena: &'a Bump,
-        bodies: &Bodies<'a>,
+        bodies: &Bodies<'_, 'a>,
         number: usize,
         failures: &mut Failures,
     ) -> Result<(), NoMemory>
@@ -71,7 +71,7 @@ impl<'a> LayerTable<'a> {
 pub fn judge_layers<'a>(
     alloc: Global,
     arena: &'a Bump,
-    tree: &OpenTree<'a>,
+    tree: &OpenTree<'_, 'a>,
     failures: &mut Failures,
 ) -> Result<LayerTable<'a>, NoMemory>
     requires { (e : Elab) × IsOpenTree e tree.now }

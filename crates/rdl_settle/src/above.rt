@@ -47,7 +47,7 @@ fn assign<'a>(
     rows: &[Row<'a>],
     contents: &Contents<'a>,
     row: &Row<'a>,
-    tree: &OpenTree<'a>,
+    tree: &OpenTree<'_, 'a>,
     layers: &LayerTable<'a>,
     spot: &Spot,
     entries: &mut Vec<Vec<PropSetting<'a>>>,
@@ -110,7 +110,7 @@ pub(crate) fn spot_at(spots: &[Spot], at: usize) -> Option<Spot>
 pub(crate) fn assign_all<'a>(
     alloc: Global,
     rows: &[Row<'a>],
-    tree: &OpenTree<'a>,
+    tree: &OpenTree<'_, 'a>,
     layers: &LayerTable<'a>,
     failures: &mut Failures,
 ) -> Result<Vec<Vec<PropSetting<'a>>>, NoMemory>

@@ -20,7 +20,7 @@ use std::alloc::Global;
 // Completes the entries of the node of a number.
 fn complete_at<'a>(
     alloc: Global,
-    tree: &OpenTree<'a>,
+    tree: &OpenTree<'_, 'a>,
     layers: &LayerTable<'a>,
     count: u32,
     row: &Row<'a>,
@@ -49,7 +49,7 @@ fn complete_at<'a>(
 pub(crate) fn complete_all<'a>(
     alloc: Global,
     rows: &[Row<'a>],
-    tree: &OpenTree<'a>,
+    tree: &OpenTree<'_, 'a>,
     layers: &LayerTable<'a>,
     count: u32,
     entries: &mut Vec<Vec<PropSetting<'a>>>,

@@ -23,24 +23,25 @@ use std::alloc::Global;
 
 /// The nodes of a tree, the bodies that are open for them, and what decides their properties.
 #[derive(Drop)]
-struct Gathered<'a> {
+struct Gathered<'s, 'a> {
     rows: Vec<Row<'a>>,
-    tree: OpenTree<'a>,
+    tree: OpenTree<'s, 'a>,
     entries: Vec<Vec<PropSetting<'a>>>,
 }
 
 // Puts in all failures of the phase, and gives the entries of each node.
-fn gather<'a>(
+fn gather<'s, 'a>(
     alloc: Global,
+    scratch: &'s Bump,
     arena: &'a Bump,
     elab: &Elab<'a>,
     failures: &mut Failures,
-) -> Result<Gathered<'a>, NoMemory>
+) -> Result<Gathered<'s, 'a>, NoMemory>
     requires { IsClean elab.now }
     ensures { IfOk result (λ r. IsGathered elab.now r failures.old failures.new) }
 {
     let rows = rows(alloc, elab)?;
-    let tree = open_tree(alloc, arena, elab, &rows)?;
+    let tree = open_tree(alloc, scratch, arena, elab, &rows)?;
     let layers = judge_layers(alloc, arena, &tree, failures)?;
     let mut entries = assign_all(alloc, &rows, &tree, &layers, failures)?;
     complete_all(
@@ -70,8 +71,8 @@ fn refused<'a>(alloc: Global, failures: Failures) -> PhaseError
 }
 
 /// What every property of every node of a tree is set to, the facts of its fields and signals, and the enumerations by which its fields
-/// are encoded, or all failures of the phase: rules P1 to P11, and V rules in values and indices (SystemRDL 2.0, 5.1.3). What is opened
-/// stays in the arena.
+/// are encoded, or all failures of the phase: rules P1 to P11, and V rules in values and indices (SystemRDL 2.0, 5.1.3). The
+/// names and values of open bodies stay in the arena; lists of uses and of numbers of bodies go with the phase.
 pub fn settle<'a>(
     alloc: Global,
     arena: &'a Bump,
@@ -82,7 +83,8 @@ pub fn settle<'a>(
 {
     entries_say();
     let mut failures = Failures::new(alloc);
-    let Ok(gathered) = gather(alloc, arena, elab, &mut failures) else {
+    let scratch = Bump::new(alloc);
+    let Ok(gathered) = gather(alloc, &scratch, arena, elab, &mut failures) else {
         return Err(PhaseError::NoMemory);
     };
     if !failures.is_empty() {

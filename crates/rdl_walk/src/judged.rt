@@ -28,7 +28,7 @@ fn none<'s, 'a>() -> &'s [Child<'a>]
     &[]
 }
 
-impl<'s, 'a> Walk<'s, 'a> {
+impl<'s, 'n, 'a> Walk<'s, 'n, 'a> {
     ghost use Rattle.std.specs.Prelude.{◌≡◌, ◌++◌, ◌∷◌, [], ℕ, List, Some, IfOk, IfSome, OnOk, slice_get};
     ghost use Rattle.rdl_values.specs.Bodies.{Body as BodyOf};
     ghost use Rattle.rdl_values.specs.Uses.{parent_of, seen};

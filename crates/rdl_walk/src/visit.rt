@@ -13,7 +13,7 @@ use std::alloc::Global;
 // How many nodes are visited at the most: those that are judged, and one more.
 const MOST_VISITED: u64 = 65_537;
 
-impl<'s, 'a> Walk<'s, 'a> {
+impl<'s, 'n, 'a> Walk<'s, 'n, 'a> {
     ghost use Rattle.std.specs.Prelude.{◌≡◌, ◌+◌, ◌<◌, ◌≤◌, ◌∷◌, [], ℕ, List, Some, IfOk, OnOk, flat_map, slice_get};
     ghost use Rattle.rdl_base.specs.declared.fault.Fault.{Fault as AnyFault};
     ghost use Rattle.rdl_values.specs.Instances.{Instance, given_by, kind_of, most_nodes, with_below};
@@ -148,7 +148,7 @@ impl<'s, 'a> Walk<'s, 'a> {
         ensures { OnOk result ((s : Seen) (h : IsChild self.old.bodies child.now s) → StandsAt standing s.parent → Fits s.parent levels
             → IsWalked self.old self.new (with_below levels (element_of s h.closure h.bound (row child.now.dims.now number)))) }
     {
-        let row = row_of(arena, child.dims, number)?;
+        let row = row_of(self.scratch, child.dims, number)?;
         let inst = child.inst;
         let name = inst.name;
         let Some(len) = text_len(standing.prefix, name.text, row) else {

@@ -30,25 +30,25 @@ pub(crate) struct JudgementKey {
 /// The open bodies, the failures so far, how many nodes were counted, and what was judged. A body is judged once where it stands as
 /// deep, behind as long a text: all elements of an array have one body.
 #[derive(Drop)]
-pub struct Walk<'s, 'a> {
-    pub bodies: Bodies<'a>,
+pub struct Walk<'s, 'n, 'a> {
+    pub bodies: Bodies<'n, 'a>,
     pub failures: Failures,
     /// How many nodes were counted, at most one above those that are judged.
     pub count: u32,
-    // The arena of the lists of uses.
-    pub(crate) scratch: &'s Bump,
+    /// The arena of the lists of uses, which goes with the walk.
+    pub scratch: &'s Bump,
     pub(crate) judgements: Vec<Judgement<'s, 'a>>,
     // Which judgement to try.
     pub(crate) known: IndexMap<JudgementKey, usize>,
 }
 
-impl<'s, 'a> Walk<'s, 'a> {
+impl<'s, 'n, 'a> Walk<'s, 'n, 'a> {
     ghost use Rattle.std.specs.Prelude.{◌≡◌, []};
     ghost use Rattle.rdl_bodies.specs.Kept.{AreKept};
     ghost use Rattle.rdl_walk.specs.Walking.{AreWalking};
 
     /// A walk that has visited nothing yet, whose lists of uses stand in the arena `scratch`.
-    pub fn new(alloc: Global, scratch: &'s Bump, bodies: Bodies<'a>, failures: Failures) -> Self
+    pub fn new(alloc: Global, scratch: &'s Bump, bodies: Bodies<'n, 'a>, failures: Failures) -> Self
         requires { AreKept bodies failures }
         ensures walking { AreWalking result }
         ensures bodies { result.bodies ≡ bodies.entry }
