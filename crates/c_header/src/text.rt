@@ -185,6 +185,26 @@ fn push_first_lines(text: &mut Vec<u8>, top: &[u8], begin: &[u8]) -> Result<(), 
     Ok(())
 }
 
+// About how many bytes the text of an entry takes behind a prefix so long.
+fn entry_room(begin: usize, entry: &Entry) -> usize {
+    let base = begin.saturating_add(entry.path.bytes.len());
+    let mut room = base.saturating_mul(4).saturating_add(110);
+    for part in &entry.parts.items {
+        let name = base.saturating_add(part.name.bytes.len());
+        room = room.saturating_add(name.saturating_mul(5).saturating_add(125));
+    }
+    room
+}
+
+// About how many bytes the text of entries takes, so that it need not be moved while it grows.
+fn room_for(begin: usize, entries: &[Entry]) -> usize {
+    let mut room: usize = 400;
+    for entry in entries {
+        room = room.saturating_add(entry_room(begin, entry));
+    }
+    room
+}
+
 /// The header of a sound block and of the enumerations that its fields are encoded by: of each word its offset, width and reset value, of each of
 /// its fields shift, width, mask and reset value, and of each enumerator its value, as macros that C, C++ and the assembler take. The only error is
 /// want of memory.
@@ -194,7 +214,7 @@ pub fn header(alloc: Global, block: &Block, encodings: &Encodings<'_>) -> Result
 {
     let entries = entries_of(alloc, block)?;
     let begin = prefix(alloc, &block.name.bytes)?;
-    let mut text = Vec::new(alloc);
+    let mut text = Vec::with_capacity(alloc, room_for(begin.len(), &entries))?;
     push_first_lines(&mut text, &block.name.bytes, &begin)?;
     push_entries(alloc, &mut text, &begin, &entries)?;
     push_enumerations(alloc, &mut text, block, &begin, &encodings.list)?;

@@ -2,8 +2,8 @@
 
 ghost use Rattle.std.specs.Prelude.{◌≡◌};
 
+use crate::hints::Hints;
 use bumpalo::Bump;
-use indexmap::IndexMap;
 use rdl_scopes::{ClosedEnums, Components};
 use rdl_tree::{Bound, Def, Env, Item, Kind};
 use rdl_values::Table;
@@ -47,11 +47,11 @@ pub(crate) enum ParameterKey<'a> {
 }
 
 /// By what a site is looked up: the nearest body round its definition, how many items of that stand before it, and the values of its
-/// parameters.
+/// parameters, if it has any.
 #[derive(PartialEq, Eq, PartialOrd, Ord, Drop)]
 pub(crate) struct SiteKey<'a> {
-    pub outer: Option<usize>,
-    pub upto: Option<usize>,
+    pub outer: usize,
+    pub upto: usize,
     pub values: Vec<ParameterKey<'a>>,
 }
 
@@ -81,10 +81,14 @@ pub struct Bodies<'s, 'a> {
     pub(crate) list: Vec<Body<'s, 'a>>,
     pub(crate) sites: Vec<Site<'s, 'a>>,
     pub(crate) texts: Vec<Text<'a>>,
-    // Which site to try for a key, which body for a site, and which text for the number of the text round it and an item of that.
+    // Which site to try for the nearest body round its definition and how many items of that stand before it, where it has no parameters,
+    // and for a key where it has.
+    pub(crate) plain: Hints,
     pub(crate) known: BTreeMap<SiteKey<'a>, usize>,
-    pub(crate) opened: IndexMap<usize, usize>,
-    pub(crate) text_numbers: BTreeMap<(usize, usize), usize>,
+    // Which body to try for a site, by the numbers of sites; the root's stands for none.
+    pub(crate) opened: Vec<usize>,
+    // Which text to try for the number of the text round it and an item of that.
+    pub(crate) text_numbers: Hints,
 }
 
 impl<'s, 'a> Bodies<'s, 'a> {
@@ -127,9 +131,10 @@ impl<'s, 'a> Bodies<'s, 'a> {
     {
         Bodies {
             texts: Vec::new(alloc),
+            plain: Hints::new(alloc),
             known: BTreeMap::new(alloc),
-            opened: IndexMap::new(alloc),
-            text_numbers: BTreeMap::new(alloc),
+            opened: Vec::new(alloc),
+            text_numbers: Hints::new(alloc),
             ..self
         }
     }

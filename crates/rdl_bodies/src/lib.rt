@@ -3,6 +3,7 @@
 #![tactic(auto)]
 
 mod bodies;
+mod hints;
 mod opening;
 mod root;
 mod same;

@@ -254,7 +254,7 @@ impl<'s, 'a> Bodies<'s, 'a> {
     fn find_open(&self, site: usize) -> Option<usize>
         ensures { IfSome result (λ k. (x : OpenBody) × (slice_get self.now.list.items k ≡ Some x) × (x.site ≡ Some site)) }
     {
-        let number = self.opened.get(&site).copied()?;
+        let number = self.opened.get(site).copied()?;
         match self.list.get(number) {
             Some(body) if body.site == Some(site) => Some(number),
             _ => None,
@@ -269,7 +269,12 @@ impl<'s, 'a> Bodies<'s, 'a> {
         ensures sites { self.new.sites ≡ self.old.sites }
         ensures texts { self.new.texts ≡ self.old.texts }
     {
-        self.opened.insert(site, number)?;
+        if self.opened.len() <= site {
+            self.opened.resize(site.saturating_add(1), 0)?;
+        }
+        if let Some(place) = self.opened.get_mut(site) {
+            *place = number;
+        }
         Ok(())
     }
 

@@ -7,9 +7,9 @@ ghost use Rattle.rdl_values.specs.Top.{root};
 ghost use Rattle.rdl_bodies.specs.Opened.{IsRootOpen};
 
 use crate::bodies::Bodies;
+use crate::hints::Hints;
 use crate::opening::BodyText;
 use bumpalo::Bump;
-use indexmap::IndexMap;
 use rb_base::NoMemory;
 use rdl_failures::Failures;
 use rdl_tree::Item;
@@ -35,9 +35,10 @@ pub fn open_root<'s, 'a>(
         list: Vec::new(alloc),
         sites: Vec::new(alloc),
         texts: Vec::new(alloc),
+        plain: Hints::new(alloc),
         known: BTreeMap::new(alloc),
-        opened: IndexMap::new(alloc),
-        text_numbers: BTreeMap::new(alloc),
+        opened: Vec::new(alloc),
+        text_numbers: Hints::new(alloc),
     };
     let text = BodyText {
         site: None,

@@ -23,7 +23,12 @@ fn values_of<'a>(alloc: Global, bound: &[Bound<'a>]) -> Result<Vec<ParameterKey<
     Ok(values)
 }
 
-// By what a site is looked up.
+// The first of some numbers, or the last that there is.
+fn nearest(numbers: &[usize]) -> usize {
+    numbers.first().copied().unwrap_or(usize::MAX)
+}
+
+// By what a site with parameters is looked up.
 fn key_of<'a>(
     alloc: Global,
     outer: &[usize],
@@ -32,8 +37,8 @@ fn key_of<'a>(
 ) -> Result<SiteKey<'a>, NoMemory> {
     let values = values_of(alloc, bound)?;
     Ok(SiteKey {
-        outer: outer.first().copied(),
-        upto: uptos.first().copied(),
+        outer: nearest(outer),
+        upto: nearest(uptos),
         values,
     })
 }
@@ -65,6 +70,31 @@ impl<'s, 'a> Bodies<'s, 'a> {
     ghost use Rattle.rdl_bodies.specs.Sited.{AreRound, def_at};
     ghost use Rattle.rdl_bodies.specs.declared.bodies.Site.{Site as SiteOf};
 
+    // Which site to try.
+    fn site_hint(&self, key: &SiteKey<'a>) -> Option<usize> {
+        if key.values.is_empty() {
+            self.plain.get(key.outer, key.upto)
+        } else {
+            self.known.get(key).copied()
+        }
+    }
+
+    // Notes which site to try.
+    fn note_site(&mut self, key: SiteKey<'a>, number: usize) -> Result<(), NoMemory>
+        ensures tables { self.new.tables ≡ self.old.tables }
+        ensures components { self.new.components ≡ self.old.components }
+        ensures list { self.new.list ≡ self.old.list }
+        ensures sites { self.new.sites ≡ self.old.sites }
+        ensures texts { self.new.texts ≡ self.old.texts }
+    {
+        if key.values.is_empty() {
+            self.plain.note(key.outer, key.upto, number)?;
+        } else {
+            self.known.insert(key, number)?;
+        }
+        Ok(())
+    }
+
     // The site of a key, where it is this one.
     fn find_site(
         &self,
@@ -75,7 +105,7 @@ impl<'s, 'a> Bodies<'s, 'a> {
     ) -> Option<usize>
         ensures { IfSome result (λ k. (s : SiteOf) × (slice_get self.now.sites.items k ≡ Some s) × IsSame s outer.now uptos.now (map bound_of bound.now)) }
     {
-        let number = self.known.get(key).copied()?;
+        let number = self.site_hint(key)?;
         match self.sites.get(number) {
             Some(site)
                 if are_equal(site.outer, outer)
@@ -95,8 +125,7 @@ impl<'s, 'a> Bodies<'s, 'a> {
     {
         let number = self.sites.len();
         self.sites.push(site)?;
-        self.known.insert(key, number)?;
-        Ok(())
+        self.note_site(key, number)
     }
 
     /// The number of the site of a definition in these bodies, behind so many items of each, with these values of its parameters: one

@@ -51,7 +51,7 @@ impl<'s, 'a> Bodies<'s, 'a> {
     fn find_text(&self, at: &TextPlace) -> Option<usize>
         ensures { IfSome result (λ k. (x : AnyText) × (slice_get self.now.texts.items k ≡ Some x) × (x.place ≡ Some at.now)) }
     {
-        let number = self.text_numbers.get(&(at.outer, at.upto)).copied()?;
+        let number = self.text_numbers.get(at.outer, at.upto)?;
         match self.texts.get(number) {
             Some(text) if is_at(text, at) => Some(number),
             _ => None,
@@ -77,7 +77,7 @@ impl<'s, 'a> Bodies<'s, 'a> {
         ensures texts { self.new.texts ≡ self.old.texts }
     {
         if let Some(at) = at {
-            self.text_numbers.insert((at.outer, at.upto), number)?;
+            self.text_numbers.note(at.outer, at.upto, number)?;
         }
         Ok(())
     }

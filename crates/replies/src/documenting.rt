@@ -21,7 +21,7 @@ use rdl_rules::Settled;
 use rdl_verdict::{JudgeError, Judged, judge};
 use std::alloc::Global;
 
-// The manual of a source that breaks no rule.
+// The manual of a source that breaks no rule. What it needs no more goes before its page is prepared.
 fn manual_of_judged<'a>(alloc: Global, judged: Judged<'a>) -> Result<Manual<'a>, NoMemory>
     requires { (wanted : Option (List ℕ)) × ((text : List ℕ) × IsJudged wanted text judged) }
     ensures { IfOk result (λ m. (wanted : Option (List ℕ)) (text : List ℕ) → IsJudged wanted text judged.entry
@@ -34,10 +34,12 @@ fn manual_of_judged<'a>(alloc: Global, judged: Judged<'a>) -> Result<Manual<'a>,
     } = judged;
     let Settled {
         props,
-        facts: _facts,
+        facts,
         encodings,
     } = settled;
+    drop(facts);
     let notes = notes_of(alloc, &props, &elab, &encodings)?;
+    drop(props);
     let manual = prepare(alloc, block, notes, encodings)?;
     Ok(manual)
 }

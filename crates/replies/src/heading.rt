@@ -15,16 +15,25 @@ use bumpalo::Bump;
 use c_header::header;
 use rb_base::NoMemory;
 use rb_edge::Shelf;
+use rdl_rules::Settled;
 use rdl_verdict::{JudgeError, Judged, judge};
 use std::alloc::Global;
 
-// The header of a source that breaks no rule.
-fn header_of_judged(alloc: Global, judged: &Judged<'_>) -> Result<Vec<u8>, NoMemory>
-    requires { (wanted : Option (List ℕ)) × ((text : List ℕ) × IsJudged wanted text judged.now) }
-    ensures { IfOk result (λ r. (wanted : Option (List ℕ)) (text : List ℕ) → IsJudged wanted text judged.now
-        → r.items ≡ spec.header judged.now.block (source_encodings wanted judged.now.elab.source.now)) }
+// The header of a source that breaks no rule. What it needs no more goes before its text is made.
+fn header_of_judged(alloc: Global, judged: Judged<'_>) -> Result<Vec<u8>, NoMemory>
+    requires { (wanted : Option (List ℕ)) × ((text : List ℕ) × IsJudged wanted text judged) }
+    ensures { IfOk result (λ r. (wanted : Option (List ℕ)) (text : List ℕ) → IsJudged wanted text judged.entry
+        → r.items ≡ spec.header judged.entry.block (source_encodings wanted judged.entry.elab.source.now)) }
 {
-    let text = header(alloc, &judged.block, &judged.settled.encodings)?;
+    let Judged { settled, block, .. } = judged;
+    let Settled {
+        props,
+        facts,
+        encodings,
+    } = settled;
+    drop(props);
+    drop(facts);
+    let text = header(alloc, &block, &encodings)?;
     Ok(text)
 }
 
@@ -41,7 +50,7 @@ fn header_source(
     let arena = Bump::new(alloc);
     match judge(alloc, &arena, source, top) {
         Ok(judged) => {
-            let text = header_of_judged(alloc, &judged)?;
+            let text = header_of_judged(alloc, judged)?;
             Ok(done(alloc, text))
         }
         Err(JudgeError::Faults(faults)) => {
