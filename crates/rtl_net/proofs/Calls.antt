@@ -3,7 +3,7 @@ use Rattle.std.specs.List.{slice_get, list_any}
 use Rattle.std.specs.Str.{bytes_eq}
 use Rattle.std.specs.Bool.{OnTrue, OnFalse}
 use Rattle.std.proofs.Math.ListN.{set}
-use Rattle.std.proofs.Common.{ℕ, ◌+◌, ◌≡◌, ◌<◌, ◌≤◌, true, false, ◌||◌, if◌then◌else◌, List, [], ◌∷◌, ◌++◌, length, map, Some, None, ap, sym, ◌∙◌, subst, arith, append-nil, length-append}
+use Rattle.std.proofs.Common.{ℕ, ◌+◌, ◌≡◌, ◌<◌, ◌≤◌, true, false, ◌||◌, if◌then◌else◌, List, [], ◌∷◌, ◌++◌, length, map, Some, None, inl, inr, refl, ap, sym, ◌∙◌, subst, arith, append-nil, length-append}
 use Rattle.std.proofs.lemmas.Bool.{OnTrue_from, OnFalse_from, or_right}
 use Rattle.std.proofs.lemmas.List.{map-append}
 use Rattle.std.proofs.lemmas.List.Folds.{list_any-append}
@@ -14,7 +14,7 @@ use Rattle.rtl_net.specs.Net.{Net, Settles, Extends, Keeps, Grows, IsNode, IsInp
 use Rattle.rtl_net.specs.Ports.{seated, IsNew, IsFree}
 use Rattle.rtl_net.specs.Made.{IsMade}
 use Rattle.rtl_net.specs.Places.{HasNames}
-use Rattle.rtl_net.specs.Shared.{LacksWire}
+use Rattle.rtl_net.specs.Shared.{LacksWire, SharesWire}
 use Rattle.rtl_net.specs.declared.names.Names.{Names}
 use Rattle.rtl_net.specs.declared.node.Id.{Id}
 use Rattle.rtl_net.specs.declared.node.NetNode.{NetNode}
@@ -23,7 +23,7 @@ use Rattle.rtl_net.specs.declared.node.NetExpr.{NetExpr}
 use Rattle.rtl_net.specs.declared.node.NetReset.{NetReset}
 use Rattle.rtl_net.specs.declared.node.Seat.{Seat}
 use Rattle.rtl_net.specs.declared.node.Occupant.TheVariants as takes
-use Rattle.rtl_net.proofs.Places.{slice_get-end, one_item}
+use Rattle.rtl_net.proofs.Places.{slice_get-end, slice_get-within, one_item}
 use Rattle.rtl_net.proofs.NameLists.{IsPut, names_more}
 use Rattle.rtl_net.proofs.Nets.{Extends-trans, Has-stands}
 use Rattle.rtl_net.proofs.Added.{pushed, pushed_extends, pushed_keeps, pushed_stands, pushed_wire, pushed_grows, registers_of-push, undriven-push, width-end}
@@ -251,6 +251,27 @@ standing_node net x id made is below can = record {
   stands = record { below = below; some = (wire_width net x (width_most net made) can).0; width = width_at net made id.0 (Wire x) is.is below };
   value = λ v s. s.edge.nodes id.0 (Wire x) is.is;
 }
+
+-- the wire that stands, or a new one
+pub wire_shared : (net : Net) (x : NetExpr) (id : Id) (ns : List NetNode) → IsMade net → CanWire net x → SharesWire net.nodes ns x id → WireAdded net (with_nodes net ns) x id
+wire_shared net x id ns m c (inr s) = wire_added net x id ns m c s.2 s.1 s.0
+wire_shared net x id ns m c (inl s) = subst (λ y. WireAdded net (with_nodes net y) x id) (sym s.0) (record {
+  made = m;
+  names = refl;
+  older = record {
+    settles = λ v h. h;
+    count = omega arith;
+    width = λ i h. refl;
+    inputs = λ i name w h. h;
+    clock = λ h. h;
+    awaits = λ i name w reset h. h;
+    registers = refl;
+    undriven = refl;
+    seats = refl;
+  };
+  node = standing_node net x id m (record { is = s.1 }) (slice_get-within _ _ _ s.1) c;
+  wire = record { is = s.1 };
+})
 
 -- what the call that drives a register shows
 pub record Driven (net new : Net) (reg next : Id) (name : List ℕ) (reset : NetReset) : Type 0 where

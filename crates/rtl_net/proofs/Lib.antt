@@ -18,4 +18,4 @@ mod Tying
 pub mod Values
 pub mod ValuesFit
 pub mod Widths
-mod Wires
+mod WireLists

@@ -1,7 +1,7 @@
 -- Names in lists, by their places.
 use Rattle.std.specs.List.{list_any, position_from}
 use Rattle.std.specs.Str.{bytes_eq}
-use Rattle.std.proofs.Common.{◌≡◌, ℕ, suc, ◌+◌, Bool, true, false, cond, ◌||◌, List, [], ◌∷◌, ◌++◌, Vec, Global, length, take, slice_get, Option, Some, None, position, is_some, IfSome, IfNone, refl, ap, sym, ◌∙◌, subst, arith, inl, inr, ◌⊎◌}
+use Rattle.std.proofs.Common.{◌≡◌, ℕ, suc, ◌+◌, Bool, true, false, cond, ◌||◌, List, [], ◌∷◌, ◌++◌, Vec, Global, length, take, slice_get, Option, Some, None, position, is_some, IfSome, IfNone, refl, ap, sym, ◌∙◌, subst, arith, inl, inr}
 use Rattle.std.specs.BTreeMap.{BTreeMap, UpdatesBy, get_by, is_at}
 use Rattle.std.specs.Cmp.Lexicographic.{slice_cmp}
 use Rattle.std.specs.declared.cmp.Ordering.{Ordering}

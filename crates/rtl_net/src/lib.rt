@@ -8,6 +8,7 @@ mod net;
 mod node;
 mod nodes;
 mod ports;
+mod wires;
 
 pub use laws::{has_run, one_run, values_fit};
 pub use net::Netlist;

@@ -297,11 +297,8 @@ impl Netlist {
         ensures shared { (id : IdOf) → IsWire self.old id expr → (result ≡ Ok id) × (self.new ≡ self.old) }
         ensures err { OnErr result (self.new ≡ self.old) }
     {
-        if let Some(id) = self.nodes.find(expr) {
-            return Ok(id);
-        }
         let width = self.expr_width(expr);
-        let id = self.nodes.push_wire(expr, width)?;
+        let id = self.nodes.wire(expr, width)?;
         Ok(id)
     }
 

@@ -1,26 +1,24 @@
 //! The nodes in order, with their widths, and the wires found by their expressions.
 
-ghost use Rattle.std.specs.Prelude.{◌≡◌, ◌≢◌, ◌<◌, ◌+◌, ◌^◌, ◌++◌, ◌∷◌, [], ℕ, List, Option, false, OnOk, OnErr, IfOk, IfSome, IfNone, slice_get, slice_index, slice_set, Some, None, length, cond};
+ghost use Rattle.std.specs.Prelude.{◌≡◌, ◌≢◌, ◌<◌, ◌+◌, ◌^◌, ◌++◌, ◌∷◌, [], ℕ, List, Option, false, OnOk, OnErr, IfOk, IfSome, IfNone, slice_get, slice_index, slice_set, Some, None, Ok, IsSome, length};
 ghost use Rattle.rtl_net.specs.Value.{node_width, expr_width, widths_after};
-ghost use Rattle.std.specs.BTreeMap.{is_at};
-ghost use Rattle.rtl_net.specs.Shared.{wire_under, is_wire, LacksWire};
-ghost use Rattle.rtl_net.specs.contracts.node.NetExprOrd.TheImpl.{cmp-value};
-ghost use Rattle.rtl_net.specs.declared.node.NetExpr.{NetExpr as ExprOf};
+ghost use Rattle.rtl_net.specs.Shared.{wire_under, is_wire, LacksWire, SameWires, NotesWire, SharesWire};
+ghost use Rattle.rtl_net.specs.declared.node.Id.{Id as IdOf};
 ghost use Rattle.rtl_net.specs.declared.node.NetNode.{NetNode as NodeOf};
 ghost use Rattle.rtl_net.specs.declared.node.NetReset.{NetReset as ResetOf};
 
 use crate::node::{Id, NetExpr, NetNode};
+use crate::wires::Wires;
 use rb_base::NoMemory;
 use std::alloc::Global;
-use std::collections::BTreeMap;
 use std::marker::Model;
 
-/// The nodes in order. A source may choose constants, so wires are found in order and not by a hash.
+/// The nodes in order.
 #[derive(Drop)]
 pub(crate) struct Nodes {
     nodes: Vec<NetNode>,
     widths: Vec<u8>,
-    wires: BTreeMap<NetExpr, Id>,
+    wires: Wires,
 }
 
 impl Model for Nodes {
@@ -67,37 +65,34 @@ fn pop(nodes: &mut Vec<NetNode>, widths: &mut Vec<u8>)
     let _ = widths.pop();
 }
 
-/// Notes the wire of an expression, or changes nothing.
-fn note(wires: &mut BTreeMap<NetExpr, Id>, expr: NetExpr, id: Id) -> Result<(), NoMemory>
-    ensures ok { OnOk result ((e : ExprOf) → wire_under wires.new e ≡ cond (is_at (cmp-value.it expr) e) (Some id) (wire_under wires.old e)) }
-    ensures err { OnErr result (wires.new.entries ≡ wires.old.entries) }
-{
-    wires.insert(expr, id)?;
-    Ok(())
-}
-
-/// Puts a wire, its width and its expression at the end, or changes nothing.
-fn push_wire(
+/// The wire of an expression: the one that stands, or a new one at the end, or changes nothing.
+fn wire(
     nodes: &mut Vec<NetNode>,
     widths: &mut Vec<u8>,
-    wires: &mut BTreeMap<NetExpr, Id>,
+    wires: &mut Wires,
     expr: NetExpr,
     width: u8,
 ) -> Result<Id, NoMemory>
-    ensures id { IfOk result (λ id. id.0 ≡ length nodes.old.items) }
-    ensures nodes { OnOk result (nodes.new.items ≡ nodes.old.items ++ NetNode.Wire expr ∷ []) }
-    ensures widths { OnOk result (widths.new.items ≡ widths.old.items ++ width ∷ []) }
-    ensures wires { IfOk result (λ id. (e : ExprOf) → wire_under wires.new e ≡ cond (is_at (cmp-value.it expr) e) (Some id) (wire_under wires.old e)) }
+    ensures known { (id : IdOf) → wire_under wires.old expr ≡ Some id → result ≡ Ok id }
+    ensures known_nodes { IsSome (wire_under wires.old expr) → nodes.new.items ≡ nodes.old.items }
+    ensures known_widths { IsSome (wire_under wires.old expr) → widths.new.items ≡ widths.old.items }
+    ensures known_wires { IsSome (wire_under wires.old expr) → SameWires wires.old wires.new }
+    ensures id { wire_under wires.old expr ≡ None → IfOk result (λ id. id.0 ≡ length nodes.old.items) }
+    ensures nodes { wire_under wires.old expr ≡ None → OnOk result (nodes.new.items ≡ nodes.old.items ++ NetNode.Wire expr ∷ []) }
+    ensures widths { wire_under wires.old expr ≡ None → OnOk result (widths.new.items ≡ widths.old.items ++ width ∷ []) }
+    ensures wires { wire_under wires.old expr ≡ None → IfOk result (λ id. NotesWire wires.old wires.new expr (Some id)) }
     ensures same_nodes { OnErr result (nodes.new.items ≡ nodes.old.items) }
     ensures same_widths { OnErr result (widths.new.items ≡ widths.old.items) }
-    ensures same_wires { OnErr result (wires.new.entries ≡ wires.old.entries) }
+    ensures same_wires { OnErr result (SameWires wires.old wires.new) }
 {
-    let id = push(nodes, widths, NetNode::Wire(expr), width)?;
-    if note(wires, expr, id).is_err() {
-        pop(nodes, widths);
-        return Err(NoMemory);
+    if let Some(id) = wires.note(expr, Id(nodes.len()))? {
+        return Ok(id);
     }
-    Ok(id)
+    let pushed = push(nodes, widths, NetNode::Wire(expr), width);
+    if pushed.is_err() {
+        wires.forget(expr);
+    }
+    pushed
 }
 
 /// Ties a register to the node that it takes.
@@ -127,7 +122,7 @@ impl Nodes {
         Nodes {
             nodes: Vec::new(alloc),
             widths: Vec::new(alloc),
-            wires: BTreeMap::new(alloc),
+            wires: Wires::new(alloc),
         }
     }
 
@@ -142,14 +137,6 @@ impl Nodes {
         ensures { result.now ≡ widths_after [] self.now }
     {
         &self.widths
-    }
-
-    /// The wire of an expression.
-    pub(crate) fn find(&self, expr: NetExpr) -> Option<Id>
-        ensures found { IfSome result (λ id. slice_get self.now id.0 ≡ Some (NetNode.Wire expr)) }
-        ensures absent { IfNone result (LacksWire self.now expr) }
-    {
-        self.wires.get(&expr).copied()
     }
 
     /// Puts an input or a register at the end, or changes nothing.
@@ -172,15 +159,14 @@ impl Nodes {
         pop(&mut self.nodes, &mut self.widths);
     }
 
-    /// Puts a wire at the end, or changes nothing.
-    pub(crate) fn push_wire(&mut self, expr: NetExpr, width: u8) -> Result<Id, NoMemory>
-        requires absent { LacksWire self.old expr }
-        requires width { width ≡ expr_width (widths_after [] self.old) expr }
-        ensures id { IfOk result (λ id. id.0 ≡ length self.old) }
-        ensures ok { OnOk result (self.new ≡ self.old ++ NetNode.Wire expr ∷ []) }
+    /// The wire of an expression: the one that stands, or a new one at the end, or changes nothing.
+    pub(crate) fn wire(&mut self, expr: NetExpr, width: u8) -> Result<Id, NoMemory>
+        requires { width ≡ expr_width (widths_after [] self.old) expr }
+        ensures ok { IfOk result (SharesWire self.old self.new expr) }
+        ensures absent { OnErr result (LacksWire self.old expr) }
         ensures err { OnErr result (self.new ≡ self.old) }
     {
-        let id = push_wire(
+        let id = wire(
             &mut self.nodes,
             &mut self.widths,
             &mut self.wires,

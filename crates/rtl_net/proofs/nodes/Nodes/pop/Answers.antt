@@ -2,7 +2,7 @@ use Rattle.std.proofs.Common.{◌≡◌, ◌∙◌, sym, ap, subst, [], ◌++◌
 use Rattle.rtl_net.specs.Value.{widths_after}
 use Rattle.rtl_net.specs.Shared.{AreWires}
 use Rattle.rtl_net.proofs.NodeLists.{widths-popped}
-use Rattle.rtl_net.proofs.Wires.{wires_popped}
+use Rattle.rtl_net.proofs.WireLists.{wires_popped}
 use Rattle.rtl_net.proofs.nodes.Nodes.pop.Goals as goal
 
 pub invariant_of-self : goal.invariant_of-self

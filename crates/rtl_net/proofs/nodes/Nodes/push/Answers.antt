@@ -1,7 +1,7 @@
 use Rattle.std.proofs.Common.{◌≡◌, []}
 use Rattle.rtl_net.specs.Value.{widths_after, node_width}
 use Rattle.rtl_net.proofs.NodeLists.{widths-pushed}
-use Rattle.rtl_net.proofs.Wires.{wires_leaf}
+use Rattle.rtl_net.proofs.WireLists.{wires_leaf}
 use Rattle.rtl_net.proofs.nodes.Nodes.push.Goals as goal
 
 pub invariant_of-self-2 : goal.invariant_of-self-2

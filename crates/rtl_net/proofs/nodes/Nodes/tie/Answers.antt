@@ -3,7 +3,7 @@ use Rattle.rtl_net.specs.Value.{widths_after}
 use Rattle.rtl_net.specs.Shared.{AreWires}
 use Rattle.rtl_net.specs.declared.node.NetNode.TheVariants.{Register}
 use Rattle.rtl_net.proofs.NodeLists.{widths_after-set}
-use Rattle.rtl_net.proofs.Wires.{wires_tied}
+use Rattle.rtl_net.proofs.WireLists.{wires_tied}
 use Rattle.rtl_net.proofs.nodes.Nodes.tie.Goals as goal
 
 pub invariant_of-self : goal.invariant_of-self
