@@ -1,20 +1,14 @@
 -- The failures of one assignment.
-use Rattle.std.proofs.Common.{◌≡◌, ◌∙◌, Bool, true, false, not, ◌&&◌, List, [], ◌++◌, append-nil, flat_map, Option, None, Some, is_none, is_some, option_to_list, Result, Ok, Err, refl, sym, ap, subst}
-use Rattle.std.specs.Result.{is_ok, result_ok}
+use Rattle.std.proofs.Common.{◌≡◌, ◌∙◌, Bool, true, false, not, List, [], ◌++◌, append-nil, flat_map, None, is_none, option_to_list, sym, ap}
 use Rattle.rdl_base.specs.declared.fault.Fault.{Fault}
 use Rattle.rdl_base.specs.declared.rule.Rule.TheVariants as rules
 use Rattle.rdl_props.specs.declared.prop.Prop.{Prop}
-use Rattle.rdl_values.specs.Bodies.{Scope}
 use Rattle.rdl_values.specs.Faults.{at_, failures, when}
 use Rattle.rdl_values.specs.Parts.{is_empty}
-use Rattle.rdl_values.specs.Values.{Outcome}
-use Rattle.rdl_failures.specs.Noted.{IsNoted, with_all}
-use Rattle.rdl_failures.proofs.Noting.{both_noted, noted_as, value_noted}
-use Rattle.rdl_layers.specs.Forms.{Meaning}
+use Rattle.rdl_failures.specs.Noted.{IsNoted}
+use Rattle.rdl_failures.proofs.Noting.{noted_as}
 use Rattle.rdl_layers.specs.Judged.{against, bad_value, failures_of, illegal, props_of, taken, unknown}
 use Rattle.rdl_layers.specs.Meanings.{Assignment, meaning, prop_of}
-use Rattle.rdl_layers.specs.declared.setting.Setting.{Setting}
-use Rattle.rdl_assignments.specs.Meant.{meaning_in, outcome_in}
 
 when-none : {A : Type 0} (b : Bool) (x : A) → b ≡ false → when b x ≡ []
 when-none b x e = ap (λ c. when c x) e

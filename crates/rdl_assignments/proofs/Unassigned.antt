@@ -8,7 +8,7 @@ use Rattle.rdl_base.specs.declared.fault.Fault.{Fault}
 use Rattle.rdl_tree.specs.declared.item.Entry.{Entry}
 use Rattle.rdl_tree.specs.declared.item.Item.{Item}
 use Rattle.rdl_tree.specs.declared.item.Set.{Set}
-use Rattle.rdl_values.specs.Bodies.{Body, Scope, standing, standing_from}
+use Rattle.rdl_values.specs.Bodies.{Body, Scope, standing_from}
 use Rattle.rdl_values.specs.Views.{item_is}
 use Rattle.rdl_layers.specs.Judged.{all_failures, failures_of, legal_on_entry}
 use Rattle.rdl_layers.specs.Phase4.{of_entry, of_enums, scope_of_enum}

@@ -1,6 +1,6 @@
 -- Enumerations that are put in under names.
-use Rattle.std.proofs.Common.{◌≡◌, ◌∙◌, ℕ, ◌+◌, ◌<◌, Bool, true, false, cond, List, [], ◌∷◌, ◌++◌, append-nil, arith, bytes_eq, filter, get_or, length, map, take, Option, Some, Vec, refl, sym, ap, subst}
-use Rattle.std.proofs.lemmas.List.{length-take-le, map-append, take_more}
+use Rattle.std.proofs.Common.{◌≡◌, ◌∙◌, ℕ, ◌+◌, ◌<◌, Bool, true, false, cond, List, [], ◌∷◌, ◌++◌, append-nil, arith, bytes_eq, filter, get_or, length, map, take, Option, Some, Vec, refl, sym, ap}
+use Rattle.std.proofs.lemmas.List.{length-take-le, take_more}
 use Rattle.std.specs.Global.{Global}
 use Rattle.std.specs.Cmp.Lexicographic.{bytes_decides}
 use Rattle.rdl_tree.specs.declared.value.EnumValues.{EnumValues}

@@ -1,6 +1,6 @@
 //! The enumerations of a body by their names.
 
-ghost use Rattle.std.specs.Prelude.{◌≡◌, find, nat_lt, option_map};
+ghost use Rattle.std.specs.Prelude.{◌≡◌, find, nat_lt};
 
 use rb_base::{NoMemory, Place};
 use rdl_tree::{EnumValues, Name};
@@ -20,15 +20,11 @@ pub struct Places<'a> {
     by_name: BTreeMap<&'a [u8], Vec<Standing>>,
 }
 
-// The number of the first of some enumerations that stands before a place.
-fn first_before(list: &[Standing], end: Place) -> Option<usize>
-    ensures { result ≡ option_map (λ s. s.number) (find (λ s. nat_lt s.place end.0) list.now) }
+// The first of some enumerations that stands before a place.
+fn first_before(list: &[Standing], end: Place) -> Option<Standing>
+    ensures { result ≡ find (λ s. nat_lt s.place end.0) list.now }
 {
-    let first = list.iter().copied().find(|of| of.place < end.0);
-    match first {
-        Some(of) => Some(of.number),
-        None => None,
-    }
+    list.iter().copied().find(|of| of.place < end.0)
 }
 
 impl<'a> Places<'a> {
@@ -49,7 +45,8 @@ impl<'a> Places<'a> {
     pub fn before(&self, name: &Name<'_>) -> Option<usize>
         ensures { result ≡ number_before self.now name.now }
     {
-        first_before(self.all(name.text), name.place)
+        let first = first_before(self.all(name.text), name.place)?;
+        Some(first.number)
     }
 
     // Takes those of a name out.

@@ -21,7 +21,7 @@ loop-item-preserved c =
     record {
       opened = opened_step c.args.table.bound items i x c.args.outer.now old (state_of c.read.new.self) _ _ c.loop-item-test.true c.item-item.is c.requires.in_order c.loop-item.invariant.opened c.in_ok-read.ensures;
       noted = λ b e a. items-step b items i x c.args.failures.now c.loop-item.failures c.judge_item.new.failures c.loop-item-test.true c.item-item.is (c.loop-item.invariant.noted b e a)
-          (c.in_ok-judge_item.ensures (scope_of_enum b (take i items)) (subst (λ t. IsAlike (t ∷ bodies c.args.outer.now) (around (scope_of_enum b (take i items)))) (sym c.table.ensures) (shown-before b c.args.table.bound (take i items) c.args.outer.now old e c.loop-item.invariant.opened a)));
+          (c.in_ok-judge_item.ensures (scope_of_enum b (take i items)) (subst (λ t. IsAlike (t ∷ bodies c.args.outer.now) (around (scope_of_enum b (take i items)))) (sym c.table-in-loop-item.ensures) (shown-before b c.args.table.bound (take i items) c.args.outer.now old e c.loop-item.invariant.opened a)));
     }
 
 pub returns : goal.returns

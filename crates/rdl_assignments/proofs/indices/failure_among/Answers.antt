@@ -1,6 +1,6 @@
-use Rattle.std.proofs.Common.{◌≡◌, ◌∙◌, ap}
+use Rattle.std.proofs.Common.{◌∙◌, ap}
 use Rattle.rdl_values.specs.Values.{number_of}
-use Rattle.rdl_assignments.proofs.Numbers.{number_fails, number_passes, numbers_pass}
+use Rattle.rdl_assignments.proofs.Numbers.{number_fails, number_passes}
 use Rattle.rdl_assignments.proofs.indices.failure_among.Goals as goal
 
 pub returns-in-Err : goal.returns-in-Err

@@ -1,8 +1,6 @@
-use Rattle.std.proofs.Common.{◌≡◌, ◌∙◌, ap, sym, flat_map, List}
+use Rattle.std.proofs.Common.{◌≡◌, ◌∙◌, ap, sym}
 use Rattle.std.specs.Result.{result_err}
-use Rattle.rdl_tree.specs.declared.expr.Expr.{Expr}
 use Rattle.rdl_tree.specs.declared.expr.Path.{Path, out-Path}
-use Rattle.rdl_tree.specs.declared.expr.Step.{Step}
 use Rattle.rdl_values.specs.Uses.{values}
 use Rattle.rdl_values.specs.Values.{Around}
 use Rattle.rdl_values.specs.Views.{steps_of}

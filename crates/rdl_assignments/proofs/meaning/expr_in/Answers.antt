@@ -1,4 +1,4 @@
-use Rattle.std.proofs.Common.{◌≡◌, ◌∙◌}
+use Rattle.std.proofs.Common.{◌∙◌}
 use Rattle.rdl_assignments.proofs.GivenSettings.{constant_expr}
 use Rattle.rdl_assignments.proofs.meaning.expr_in.Goals as goal
 

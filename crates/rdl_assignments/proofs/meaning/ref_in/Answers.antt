@@ -1,4 +1,4 @@
-use Rattle.std.proofs.Common.{◌≡◌, ◌∙◌}
+use Rattle.std.proofs.Common.{◌∙◌}
 use Rattle.rdl_assignments.proofs.Numbers.{then_passes}
 use Rattle.rdl_assignments.proofs.meaning.ref_in.Goals as goal
 

@@ -1,4 +1,4 @@
-use Rattle.std.proofs.Common.{◌≡◌, ◌∙◌, ap, option_and_then}
+use Rattle.std.proofs.Common.{◌∙◌, ap, option_and_then}
 use Rattle.rdl_layers.specs.Forms.{side}
 use Rattle.rdl_assignments.proofs.paths.side_of.Goals as goal
 

@@ -1,4 +1,4 @@
-use Rattle.std.proofs.Common.{◌≡◌, ◌∙◌, sym, ap}
+use Rattle.std.proofs.Common.{◌∙◌, sym, ap}
 use Rattle.rdl_values.specs.Seen.{val_of}
 use Rattle.rdl_layers.specs.Forms.{from_value}
 use Rattle.rdl_assignments.proofs.values.value_in.Goals as goal

@@ -1,4 +1,4 @@
-use Rattle.std.proofs.Common.{◌≡◌, ◌∙◌, option_map, sym, ap}
+use Rattle.std.proofs.Common.{◌∙◌, option_map, sym, ap}
 use Rattle.rdl_layers.specs.Forms.{named, from_word}
 use Rattle.rdl_assignments.proofs.words.word_in.Goals as goal
 
