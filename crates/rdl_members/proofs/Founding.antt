@@ -18,7 +18,8 @@ use Rattle.rdl_refs.proofs.OneTarget.{AtMost, Other, members, members_fine, of_n
 use Rattle.rdl_bits.proofs.Filtered.{in-kept, kept-in, kept-passes}
 use Rattle.rdl_sizes.proofs.Facts.{count-is, row-at}
 use Rattle.rdl_members.specs.Found.{AreMembersOf, is_element, is_named, members_at}
-use Rattle.rdl_nodes.specs.Keyed.{Key, first_under}
+use Rattle.rdl_nodes.specs.Keyed.{Key}
+use Rattle.rdl_node_lists.specs.Listed.{first_listed}
 use Rattle.rdl_members.specs.Listed.{AreFirst, IsIndexed, body_in, element_key, first_row, has_key, key_is, name_key}
 use Rattle.rdl_members.specs.declared.table.Members.{Members}
 use Rattle.rdl_members.proofs.Firsts.{first-none, first-some, id_of}
@@ -66,7 +67,7 @@ one-element e b name index =
         let q = both-true (is_named name n) (bytes_eq (index_of n.path) index) y in
         other ((bytes_decides m.use_.name.text.now name).0 p.0 ∙ sym ((bytes_decides n.use_.name.text.now name).0 q.0)) ((bytes_decides (index_of m.path) index).0 p.1 ∙ sym ((bytes_decides (index_of n.path) index).0 q.1))
 
-module _ (e : Elab) (clean : IsClean e) (rows : List Row) (are : AreRows e rows) (m : Members) (firsts : AreFirst e.count rows m) (b : ℕ) (low : b ≤ e.count) where
+module _ (e : Elab) (clean : IsClean e) (rows : List Row) (are : AreRows e rows) (m : Members) (firsts : AreFirst e.count rows (first_listed m.elements) (first_listed m.names) m.most) (b : ℕ) (low : b ≤ e.count) where
   -- what a row of this body says of its node
   says-of : (i : ℕ) (x : Row) (l : Lineage) → slice_get rows i ≡ Some x → slice_get (lineages_of e) i ≡ Some l → ((out-Node x.node.now).name.now ≡ l.node.use_.name.text.now) × ((out-Node x.node.now).index.now ≡ index_of l.node.path)
   says-of i x l at here =
@@ -107,8 +108,8 @@ module _ (e : Elab) (clean : IsClean e) (rows : List Row) (are : AreRows e rows)
     among : In (members_at (lineages_of e) b) of-row.0
     among = row-body e clean rows are i x at of-row.0 of-row.1 b body
 
-  found-element : (name index : List ℕ) → option_to_list (option_and_then (slice_get (lineages_of e)) (first_under m.elements (record { body = b; name = name; index = index }))) ≡ filter (λ l. is_element name index l.node) (members_at (lineages_of e) b)
-  found-element name index = by (first_under m.elements key) (firsts.elements_ key)
+  found-element : (name index : List ℕ) → option_to_list (option_and_then (slice_get (lineages_of e)) (first_listed m.elements (record { body = b; name = name; index = index }))) ≡ filter (λ l. is_element name index l.node) (members_at (lineages_of e) b)
+  found-element name index = by (first_listed m.elements key) (firsts.elements_ key)
     where
       key : Key
       key = record { body = b; name = name; index = index }
@@ -136,8 +137,8 @@ module _ (e : Elab) (clean : IsClean e) (rows : List Row) (are : AreRows e rows)
       by None q = sym (none-only kept (nowhere (sym q)))
       by (Some r) q = here r (first-some (has_key element_key e.count key) rows r (sym q))
 
-  found-name : (name : List ℕ) → is_some (first_under m.names (record { body = b; name = name; index = [] })) ≡ list_any (λ l. is_named name l.node) (members_at (lineages_of e) b)
-  found-name name = by (first_under m.names key) (firsts.names_ key)
+  found-name : (name : List ℕ) → is_some (first_listed m.names (record { body = b; name = name; index = [] })) ≡ list_any (λ l. is_named name l.node) (members_at (lineages_of e) b)
+  found-name name = by (first_listed m.names key) (firsts.names_ key)
     where
       key : Key
       key = record { body = b; name = name; index = [] }
@@ -157,7 +158,7 @@ module _ (e : Elab) (clean : IsClean e) (rows : List Row) (are : AreRows e rows)
       by None q = sym (any-nowhere (λ l. is_named name l.node) (members_at (lineages_of e) b) (nowhere (sym q)))
       by (Some r) q = sym (here r (first-some (has_key name_key e.count key) rows r (sym q)))
 
-within : (e : Elab) (rows : List Row) → IsClean e → AreRows e rows → (m : Members) → AreFirst e.count rows m → (key : Key) (k : ℕ) → first_under m.elements key ≡ Some k → k < e.count
+within : (e : Elab) (rows : List Row) → IsClean e → AreRows e rows → (m : Members) → AreFirst e.count rows (first_listed m.elements) (first_listed m.names) m.most → (key : Key) (k : ℕ) → first_listed m.elements key ≡ Some k → k < e.count
 within e rows clean are m firsts key k h =
     let r = first-some (has_key element_key e.count key) rows k (sym (firsts.elements_ key) ∙ h) in
     let l = row-at e rows are r.0 r.1 r.2 in
@@ -167,7 +168,7 @@ within e rows clean are m firsts key k h =
     omega (arith, low, number, many)
 
 -- a row of a key has its indices
-few-indices : (e : Elab) (rows : List Row) (m : Members) → AreFirst e.count rows m → (key : Key) (k : ℕ) → first_under m.elements key ≡ Some k → length key.index ≤ m.most
+few-indices : (e : Elab) (rows : List Row) (m : Members) → AreFirst e.count rows (first_listed m.elements) (first_listed m.names) m.most → (key : Key) (k : ℕ) → first_listed m.elements key ≡ Some k → length key.index ≤ m.most
 few-indices e rows m firsts key k h =
     let r = first-some (has_key element_key e.count key) rows k (sym (firsts.elements_ key) ∙ h) in
     let few = firsts.indexed r.0 r.1 (get-within rows r.0 r.1 r.2) in
@@ -177,7 +178,7 @@ few-indices e rows m firsts key k h =
     has-index None x q = cc q
     has-index (Some c) x q = ap (λ j. j.index) (keys-decide (element_key c x) key q)
 
-pub are-members : (e : Elab) → IsClean e → (rows : List Row) → AreRows e rows → (m : Members) → AreFirst e.count rows m → AreMembersOf e m
+pub are-members : (e : Elab) → IsClean e → (rows : List Row) → AreRows e rows → (m : Members) → AreFirst e.count rows (first_listed m.elements) (first_listed m.names) m.most → AreMembersOf e m
 are-members e clean rows are m firsts = record {
   found = λ b name index low. found-element e clean rows are m firsts b low name index;
   named = λ b name low. found-name e clean rows are m firsts b low name;

@@ -4,8 +4,10 @@ use Rattle.rdl_tree.specs.declared.item.Kind.{Kind}
 use Rattle.rdl_tree.specs.declared.item.Kind.TheVariants as kind
 use Rattle.rdl_tree.specs.declared.node.Node.{out-Node}
 use Rattle.rdl_nodes.specs.declared.table.Row.{Row}
-use Rattle.rdl_nodes.specs.Keyed.{Key, first_under, nodes_under, same_key}
-use Rattle.rdl_members.specs.declared.table.Members.{Members}
+use Rattle.rdl_nodes.specs.Keyed.{Key, same_key}
+use Rattle.rdl_node_lists.specs.Keys.{held_under}
+use Rattle.rdl_node_lists.specs.declared.held.By.TheVariants as by
+use Rattle.rdl_node_lists.specs.declared.held.Held.{Held}
 
 -- the body of the node that it stands in, or the root's, where it is a signal
 abbrev pub body_by : ℕ → Option ℕ → Kind → Option ℕ
@@ -40,14 +42,12 @@ abbrev pub IsIndexed : ℕ → Row → Type 0
 IsIndexed most x = length (out-Node x.node.now).index.now ≤ most
 
 -- A row is added under its keys.
-pub record AddsRow (root : ℕ) (x : Row) (old new : Members) : Type 0 where
-  pub elements_ : (k : Key) → nodes_under new.elements k ≡ nodes_under old.elements k ++ cond (has_key element_key root k x) ((out-Node x.node.now).id ∷ []) []
-  pub names_ : (k : Key) → nodes_under new.names k ≡ nodes_under old.names k ++ cond (has_key name_key root k x) ((out-Node x.node.now).id ∷ []) []
-  pub more : old.most ≤ new.most
-  pub indexed : IsIndexed new.most x
+pub record AddsRow (root : ℕ) (x : Row) (old new : List Held) : Type 0 where
+  pub elements_ : (k : Key) → held_under by.Element new k ≡ held_under by.Element old k ++ cond (has_key element_key root k x) ((out-Node x.node.now).id ∷ []) []
+  pub names_ : (k : Key) → held_under by.Name new k ≡ held_under by.Name old k ++ cond (has_key name_key root k x) ((out-Node x.node.now).id ∷ []) []
 
 -- The first rows under each key, and a count of indices that none exceeds.
-pub record AreFirst (root : ℕ) (rows : List Row) (m : Members) : Type 0 where
-  pub elements_ : (k : Key) → first_under m.elements k ≡ first_row (has_key element_key root k) rows
-  pub names_ : (k : Key) → first_under m.names k ≡ first_row (has_key name_key root k) rows
-  pub indexed : All (IsIndexed m.most) rows
+pub record AreFirst (root : ℕ) (rows : List Row) (elements names : Key → Option ℕ) (most : ℕ) : Type 0 where
+  pub elements_ : (k : Key) → elements k ≡ first_row (has_key element_key root k) rows
+  pub names_ : (k : Key) → names k ≡ first_row (has_key name_key root k) rows
+  pub indexed : All (IsIndexed most) rows

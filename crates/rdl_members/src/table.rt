@@ -1,13 +1,14 @@
 //! The nodes of a tree under the bodies that they are in.
 
-ghost use Rattle.std.specs.Prelude.{◌≡◌, ◌≤◌, IfOk, length};
+ghost use Rattle.std.specs.Prelude.{◌≡◌, ◌≤◌, IfOk, OnOk, length};
 ghost use Rattle.rdl_values.specs.Elaboration.{IsClean};
 ghost use Rattle.rdl_nodes.specs.Rows.{AreRows};
 ghost use Rattle.rdl_members.specs.Found.{AreMembersOf};
-ghost use Rattle.rdl_members.specs.Listed.{body_by};
+ghost use Rattle.rdl_members.specs.Listed.{AddsRow, body_by};
 
 use rb_base::NoMemory;
-use rdl_nodes::{NodeIndex, Row};
+use rdl_node_lists::{By, Held, NodeList};
+use rdl_nodes::Row;
 use rdl_tree::{Elab, Kind};
 use std::alloc::Global;
 
@@ -15,8 +16,8 @@ use std::alloc::Global;
 /// the node's, and that of the root's the count of nodes.
 #[derive(Drop)]
 pub struct Members<'a> {
-    pub(crate) elements: NodeIndex<'a>,
-    pub(crate) names: NodeIndex<'a>,
+    pub(crate) elements: NodeList<'a>,
+    pub(crate) names: NodeList<'a>,
     /// No node has more indices.
     pub(crate) most: usize,
 }
@@ -41,11 +42,10 @@ fn at_least(most: usize, index: &[u64]) -> usize
 }
 
 impl<'a> Members<'a> {
-    ghost use Rattle.std.specs.Prelude.{◌≡◌, ◌≤◌, ◌<◌, IfSome, [], is_some, OnOk, option_to_list, option_and_then, filter, slice_get};
+    ghost use Rattle.std.specs.Prelude.{◌≡◌, ◌≤◌, ◌<◌, IfSome, is_some, option_to_list, option_and_then, filter, slice_get};
     ghost use Rattle.std.specs.List.{list_any};
     ghost use Rattle.rdl_tree.specs.declared.node.Elab.{Elab as AnyElab};
     ghost use Rattle.rdl_values.specs.Lineages.{lineages_of};
-    ghost use Rattle.rdl_members.specs.Listed.{AddsRow};
     ghost use Rattle.rdl_members.specs.Found.{AreMembersOf, is_element, is_named, members_at};
 
     /// The node in a body that has this name and these indices.
@@ -71,21 +71,18 @@ impl<'a> Members<'a> {
     {
         self.most
     }
+}
 
-    /// Adds a row, where the root's body has this number.
-    fn add(&mut self, alloc: Global, row: &Row<'a>, root: u32) -> Result<(), NoMemory>
-        ensures { OnOk result (AddsRow root row.now self.old self.new) }
-    {
-        self.most = at_least(self.most, row.node.index);
-        let Some(body) = body_of(row.parent, row.node.kind, root) else {
-            return Ok(());
-        };
-        let node = row.node;
-        let none: &'a [u64] = &[];
-        self.elements
-            .put(alloc, body, node.name, node.index, node.id)?;
-        self.names.put(alloc, body, node.name, none, node.id)
-    }
+/// Adds the node of a row, where the root's body has this number.
+fn add<'a>(nodes: &mut Vec<Held<'a>>, row: &Row<'a>, root: u32) -> Result<(), NoMemory>
+    ensures { OnOk result (AddsRow root row.now nodes.old.items nodes.new.items) }
+{
+    let Some(body) = body_of(row.parent, row.node.kind, root) else {
+        return Ok(());
+    };
+    let node = row.node;
+    nodes.push(Held { body, node })?;
+    Ok(())
 }
 
 /// The nodes of a tree, of which these are the rows. The only error is want of memory.
@@ -98,13 +95,17 @@ pub fn members_of<'a>(
     requires rows { AreRows elab.now rows.now }
     ensures { IfOk result (AreMembersOf elab.now) }
 {
-    let mut members = Members {
-        elements: NodeIndex::new(alloc),
-        names: NodeIndex::new(alloc),
-        most: 0,
-    };
+    let mut nodes = Vec::with_capacity(alloc, rows.len())?;
+    let mut most = 0;
     for row in rows {
-        members.add(alloc, row, elab.count)?;
+        most = at_least(most, row.node.index);
+        add(&mut nodes, row, elab.count)?;
     }
-    Ok(members)
+    let names = NodeList::of(By::Name, nodes.clone()?)?;
+    let elements = NodeList::of(By::Element, nodes)?;
+    Ok(Members {
+        elements,
+        names,
+        most,
+    })
 }

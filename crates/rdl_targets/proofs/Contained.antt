@@ -14,7 +14,12 @@ use Rattle.rdl_values.specs.Instances.{Instance, children}
 use Rattle.rdl_values.specs.Lineages.{Lineage, lineages_of}
 use Rattle.rdl_nodes.specs.Rows.{AreInside, AreRows, AreRowsFrom}
 use Rattle.rdl_nodes.specs.declared.table.Row.{Row}
-use Rattle.rdl_nodes.specs.Keyed.{Key, nodes_under, same_key}
+use Rattle.rdl_nodes.specs.Keyed.{Key, same_key}
+use Rattle.rdl_node_lists.specs.Keys.{held_under}
+use Rattle.rdl_node_lists.specs.Listed.{listed_under}
+use Rattle.rdl_node_lists.specs.declared.held.By.TheVariants as by
+use Rattle.rdl_node_lists.specs.declared.held.Held.{Held}
+use Rattle.rdl_node_lists.proofs.Adding.{one-added}
 use Rattle.rdl_targets.specs.At.{AreAt, IsAt, id_of}
 use Rattle.rdl_targets.specs.Contents.{AddsNodes, AreContents, element_key, is_element, is_named, name_key, under}
 use Rattle.rdl_targets.specs.declared.contents.Contents.{Contents}
@@ -36,16 +41,16 @@ puts-none key b old k = sym (append-nil (old k))
 puts-more : (key : ℕ → Node → Key) (b : ℕ) (rs : List Node) (r : Node) (old between new : Key → List ℕ) → Puts key b rs old between → Puts key b (r ∷ []) between new → Puts key b (rs ++ (r ∷ [])) old new
 puts-more key b rs r old between new h one k = one k ∙ ap (λ xs. xs ++ under key k b (r ∷ [])) (h k) ∙ append_assoc (old k) (under key k b rs) (under key k b (r ∷ [])) ∙ ap (λ xs. old k ++ xs) (sym (under-append key k b rs (r ∷ [])))
 
-pub none_put : (b : ℕ) (c : Contents) → AddsNodes b [] c c
-none_put b c = record { names_ = puts-none name_key b (nodes_under c.names); elements_ = puts-none element_key b (nodes_under c.elements) }
+pub none_put : (b : ℕ) (hs : List Held) → AddsNodes b [] hs hs
+none_put b hs = record { names_ = puts-none name_key b (held_under by.Name hs); elements_ = puts-none element_key b (held_under by.Element hs) }
 
-pub more_put : (b : ℕ) (rs : List Node) (i : ℕ) (r : Node) (old between new : Contents) → i < length rs → r ≡ get_or rs i r → AddsNodes b (take i rs) old between → AddsNodes b (r ∷ []) between new → AddsNodes b (take (i + 1) rs) old new
+pub more_put : (b : ℕ) (rs : List Node) (i : ℕ) (r : Node) (old between new : List Held) → i < length rs → r ≡ get_or rs i r → AddsNodes b (take i rs) old between → AddsNodes b (r ∷ []) between new → AddsNodes b (take (i + 1) rs) old new
 more_put b rs i r old between new l at h one = subst (λ ss. AddsNodes b ss old new) (ap (λ s. take i rs ++ (s ∷ [])) at ∙ sym (take_more rs i r l)) (record {
-  names_ = puts-more name_key b (take i rs) r (nodes_under old.names) (nodes_under between.names) (nodes_under new.names) h.names_ one.names_;
-  elements_ = puts-more element_key b (take i rs) r (nodes_under old.elements) (nodes_under between.elements) (nodes_under new.elements) h.elements_ one.elements_;
+  names_ = puts-more name_key b (take i rs) r (held_under by.Name old) (held_under by.Name between) (held_under by.Name new) h.names_ one.names_;
+  elements_ = puts-more element_key b (take i rs) r (held_under by.Element old) (held_under by.Element between) (held_under by.Element new) h.elements_ one.elements_;
 })
 
-pub all_put : (b : ℕ) (rs : List Node) (i : ℕ) (old new : Contents) → length rs ≤ i → AddsNodes b (take i rs) old new → AddsNodes b rs old new
+pub all_put : (b : ℕ) (rs : List Node) (i : ℕ) (old new : List Held) → length rs ≤ i → AddsNodes b (take i rs) old new → AddsNodes b rs old new
 all_put b rs i old new l h = subst (λ ss. AddsNodes b ss old new) (take_all i rs l) h
 
 -- Body by body.
@@ -54,26 +59,48 @@ abbrev of-row : (ℕ → Node → Key) → Key → Row → List ℕ
 of-row key k x = under key k (out-Node x.node.now).id (out-Node x.node.now).children.now
 
 -- the nodes in the bodies that these rows say
-pub record AreUnder (rows : List Row) (c : Contents) : Type 0 where
-  pub names_ : (k : Key) → nodes_under c.names k ≡ flat_map (of-row name_key k) rows
-  pub elements_ : (k : Key) → nodes_under c.elements k ≡ flat_map (of-row element_key k) rows
+pub record AreUnder (rows : List Row) (names elements : Key → List ℕ) : Type 0 where
+  pub names_ : (k : Key) → names k ≡ flat_map (of-row name_key k) rows
+  pub elements_ : (k : Key) → elements k ≡ flat_map (of-row element_key k) rows
 
-pub no_bodies : (c : Contents) → ((k : Key) → nodes_under c.names k ≡ []) → ((k : Key) → nodes_under c.elements k ≡ []) → AreUnder [] c
-no_bodies c names elements = record { names_ = names; elements_ = elements }
+abbrev pub AreHeld : List Row → List Held → Type 0
+AreHeld rows hs = AreUnder rows (held_under by.Name hs) (held_under by.Element hs)
+
+pub no_bodies : (hs : List Held) → hs ≡ [] → AreHeld [] hs
+no_bodies hs none = record { names_ = λ k. ap (λ xs. held_under by.Name xs k) none; elements_ = λ k. ap (λ xs. held_under by.Element xs k) none }
 
 row-more : (f : Row → List ℕ) (rows : List Row) (i : ℕ) (x : Row) (old new : List ℕ) → i < length rows → x ≡ get_or rows i x → old ≡ flat_map f (take i rows) → new ≡ old ++ f x → new ≡ flat_map f (take (i + 1) rows)
 row-more f rows i x old new l at h put =
     put ∙ ap (λ xs. xs ++ f x) h ∙ ap (λ ys. flat_map f (take i rows) ++ ys) (sym (append-nil (f x))) ∙ sym (flat_map-append f (take i rows) (x ∷ []))
     ∙ ap (λ y. flat_map f (take i rows ++ (y ∷ []))) at ∙ ap (flat_map f) (sym (take_more rows i x l))
 
-pub more_bodies : (rows : List Row) (i : ℕ) (x : Row) (old new : Contents) → i < length rows → x ≡ get_or rows i x → AreUnder (take i rows) old → AddsNodes (out-Node x.node.now).id (out-Node x.node.now).children.now old new → AreUnder (take (i + 1) rows) new
+pub more_bodies : (rows : List Row) (i : ℕ) (x : Row) (old new : List Held) → i < length rows → x ≡ get_or rows i x → AreHeld (take i rows) old → AddsNodes (out-Node x.node.now).id (out-Node x.node.now).children.now old new → AreHeld (take (i + 1) rows) new
 more_bodies rows i x old new l at h put = record {
-  names_ = λ k. row-more (of-row name_key k) rows i x (nodes_under old.names k) (nodes_under new.names k) l at (h.names_ k) (put.names_ k);
-  elements_ = λ k. row-more (of-row element_key k) rows i x (nodes_under old.elements k) (nodes_under new.elements k) l at (h.elements_ k) (put.elements_ k);
+  names_ = λ k. row-more (of-row name_key k) rows i x (held_under by.Name old k) (held_under by.Name new k) l at (h.names_ k) (put.names_ k);
+  elements_ = λ k. row-more (of-row element_key k) rows i x (held_under by.Element old k) (held_under by.Element new k) l at (h.elements_ k) (put.elements_ k);
 }
 
-pub all_bodies : (rows : List Row) (i : ℕ) (c : Contents) → length rows ≤ i → AreUnder (take i rows) c → AreUnder rows c
-all_bodies rows i c l h = subst (λ xs. AreUnder xs c) (take_all i rows l) h
+pub all_bodies : (rows : List Row) (i : ℕ) (hs : List Held) → length rows ≤ i → AreHeld (take i rows) hs → AreHeld rows hs
+all_bodies rows i hs l h = subst (λ xs. AreHeld xs hs) (take_all i rows l) h
+
+-- lists of the nodes have them
+pub all_listed : (rows : List Row) (hs copied : List Held) (c : Contents) → copied ≡ hs → ((k : Key) → listed_under c.names k ≡ held_under by.Name copied k) → ((k : Key) → listed_under c.elements k ≡ held_under by.Element hs k)
+    → AreHeld rows hs → AreUnder rows (listed_under c.names) (listed_under c.elements)
+all_listed rows hs copied c same names elements h = record { names_ = λ k. names k ∙ ap (λ xs. held_under by.Name xs k) same ∙ h.names_ k; elements_ = λ k. elements k ∙ h.elements_ k }
+
+-- a node more
+pub one_put : (b : ℕ) (r : Node) (x : Held) (old new : List Held) → new ≡ old ++ (x ∷ []) → x.body ≡ b → x.node.now ≡ r → AddsNodes b (r ∷ []) old new
+one_put b r x old new put body node = record {
+  names_ = λ k. ap (λ xs. held_under by.Name xs k) put ∙ one-added by.Name old x k ∙ (λ i. held_under by.Name old k ++ cond (same_key (name_key (body i) (node i)) k) (id_of (node i) ∷ []) []) ∙ one name_key (held_under by.Name old k) k;
+  elements_ = λ k. ap (λ xs. held_under by.Element xs k) put ∙ one-added by.Element old x k ∙ (λ i. held_under by.Element old k ++ cond (same_key (element_key (body i) (node i)) k) (id_of (node i) ∷ []) []) ∙ one element_key (held_under by.Element old k) k;
+}
+  where
+    one : (key : ℕ → Node → Key) (ks : List ℕ) (k : Key) → ks ++ cond (same_key (key b r) k) (id_of r ∷ []) [] ≡ ks ++ under key k b (r ∷ [])
+    one key ks k = ap (λ js. ks ++ js) (go (same_key (key b r) k))
+      where
+        go : (c : Bool) → cond c (id_of r ∷ []) [] ≡ map id_of (cond c (r ∷ []) [])
+        go true = refl
+        go false = refl
 
 -- Only the row of a body says what is in it.
 
@@ -142,7 +169,7 @@ element-same k name index beside r n says =
     ap (λ c. c && bytes_eq (out-Node r).name.now name && bytes_eq (out-Node r).index.now index) (itself k)
     ∙ (λ i. (bytes-turn (out-Node r).name.now name ∙ ap (bytes_eq name) says.name) i && (bytes-turn (out-Node r).index.now index ∙ ap (bytes_eq index) says.index) i)
 
-module _ (e : Elab) (rows : List Row) (c : Contents) (are : AreRows e rows) (h : AreUnder rows c) where
+module _ (e : Elab) (rows : List Row) (c : Contents) (are : AreRows e rows) (h : AreUnder rows (listed_under c.names) (listed_under c.elements)) where
   found : (key : ℕ → Node → Key) → ((b : ℕ) (r : Node) → (key b r).body ≡ b) → (q : Instance → Bool) (k : Key) → ((beside : List Node) (r : Node) (n : Instance) → Says beside r n → same_key (key k.body r) k ≡ q n)
       → (n : Instance) → IsAt (lineages_of e) k.body n → AreAt (lineages_of e) (flat_map (of-row key k) rows) (filter q (children n))
   found key of-body q k same n at = by (slice_get rows k.body) refl

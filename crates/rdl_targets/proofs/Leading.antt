@@ -13,9 +13,11 @@ use Rattle.rdl_values.specs.Values.{Around}
 use Rattle.rdl_nodes.specs.Keyed.{Key, nodes_under, same_key}
 use Rattle.rdl_layers.specs.Assignments.{is_index_or_none, is_step}
 use Rattle.rdl_targets.specs.At.{AreAt, IsAt}
-use Rattle.rdl_targets.specs.Contents.{AreContents, is_element, is_named, passes, same_turn, same_wanted, under_wanted}
+use Rattle.rdl_targets.specs.Contents.{AreContents, found_wanted, is_element, is_named, passes}
+use Rattle.rdl_targets.specs.Noted.{same_turn, same_wanted, under_wanted}
 use Rattle.rdl_targets.specs.Steps.{Wants}
 use Rattle.rdl_targets.specs.declared.contents.Contents.{Contents}
+use Rattle.rdl_targets.specs.declared.notes.Notes.{Notes}
 use Rattle.rdl_targets.specs.declared.matching.Wanted.{Wanted}
 use Rattle.rdl_targets.specs.declared.matching.Wanted.TheVariants as wants
 use Rattle.rdl_targets.proofs.Wants.{wants_none, wants_these}
@@ -28,7 +30,7 @@ pub filter-none : (ns : List Instance) → filter (λ n. false) ns ≡ []
 filter-none [] = refl
 filter-none (n ∷ ns) = filter-none ns
 
-pub under-are : (e : Elab) (c : Contents) (k : ℕ) (n : Instance) (name : List ℕ) (w : Wanted) → AreContents e c → IsAt (lineages_of e) k n → AreAt (lineages_of e) (under_wanted c k name w) (filter (passes w name) (children n))
+pub under-are : (e : Elab) (c : Contents) (k : ℕ) (n : Instance) (name : List ℕ) (w : Wanted) → AreContents e c → IsAt (lineages_of e) k n → AreAt (lineages_of e) (found_wanted c k name w) (filter (passes w name) (children n))
 under-are e c k n name wants.Any are at = are.named k n name at
 under-are e c k n name wants.None are at = subst (AreAt (lineages_of e) []) (sym (filter-none (children n))) tt
 under-are e c k n name (wants.These v) are at = are.indexed k n name v.items at
@@ -44,16 +46,16 @@ passes-step env t (wants.These v) w n = ap (λ b. is_named t.name.text.now n && 
 none-under : (b : Bool) (x : ℕ) (xs : List ℕ) → xs ≡ xs ++ cond (b && false) (x ∷ []) []
 none-under b x xs = sym (ap (λ c. xs ++ cond c (x ∷ []) []) (and-false b) ∙ append-nil xs)
 
-pub kept-none : (c : Contents) (b x : ℕ) (name : List ℕ) (w : Wanted) (k : ℕ) (n : List ℕ) (v : Wanted) → under_wanted c k n v ≡ under_wanted c k n v ++ cond (false && same_turn b name w k n v) (x ∷ []) []
+pub kept-none : (c : Notes) (b x : ℕ) (name : List ℕ) (w : Wanted) (k : ℕ) (n : List ℕ) (v : Wanted) → under_wanted c k n v ≡ under_wanted c k n v ++ cond (false && same_turn b name w k n v) (x ∷ []) []
 kept-none c b x name w k n v = sym (append-nil (under_wanted c k n v))
 
-pub kept-any : (old new : Contents) (b x : ℕ) (name : List ℕ) → new.elements ≡ old.elements → ((k : Key) → nodes_under new.names k ≡ nodes_under old.names k ++ cond (same_key (record { body = b; name = name; index = [] }) k) (x ∷ []) [])
+pub kept-any : (old new : Notes) (b x : ℕ) (name : List ℕ) → new.elements ≡ old.elements → ((k : Key) → nodes_under new.names k ≡ nodes_under old.names k ++ cond (same_key (record { body = b; name = name; index = [] }) k) (x ∷ []) [])
     → (k : ℕ) (n : List ℕ) (v : Wanted) → under_wanted new k n v ≡ under_wanted old k n v ++ cond (true && same_turn b name wants.Any k n v) (x ∷ []) []
 kept-any old new b x name rest put k n wants.Any = put (record { body = k; name = n; index = [] })
 kept-any old new b x name rest put k n wants.None = none-under (b == k && bytes_eq name n) x []
 kept-any old new b x name rest put k n (wants.These v) = ap (λ t. nodes_under t (record { body = k; name = n; index = v.items })) rest ∙ none-under (b == k && bytes_eq name n) x (nodes_under old.elements (record { body = k; name = n; index = v.items }))
 
-pub kept-these : (old new : Contents) (b x : ℕ) (name index : List ℕ) (w : Vec ℕ Global) → new.names ≡ old.names → index ≡ w.items → ((k : Key) → nodes_under new.elements k ≡ nodes_under old.elements k ++ cond (same_key (record { body = b; name = name; index = index }) k) (x ∷ []) [])
+pub kept-these : (old new : Notes) (b x : ℕ) (name index : List ℕ) (w : Vec ℕ Global) → new.names ≡ old.names → index ≡ w.items → ((k : Key) → nodes_under new.elements k ≡ nodes_under old.elements k ++ cond (same_key (record { body = b; name = name; index = index }) k) (x ∷ []) [])
     → (k : ℕ) (n : List ℕ) (v : Wanted) → under_wanted new k n v ≡ under_wanted old k n v ++ cond (true && same_turn b name (wants.These w) k n v) (x ∷ []) []
 kept-these old new b x name index w rest same put k n wants.Any = ap (λ t. nodes_under t (record { body = k; name = n; index = [] })) rest ∙ none-under (b == k && bytes_eq name n) x (nodes_under old.names (record { body = k; name = n; index = [] }))
 kept-these old new b x name index w rest same put k n wants.None = none-under (b == k && bytes_eq name n) x []

@@ -16,9 +16,9 @@ use Rattle.rdl_nodes.specs.declared.node_index.NodeIndex.{NodeIndex}
 use Rattle.rdl_nodes.specs.declared.table.Row.{Row}
 use Rattle.rdl_nodes.proofs.Keyed.{keys-decide}
 use Rattle.rdl_targets.specs.At.{AreAt, IsAt, id_of}
-use Rattle.rdl_targets.specs.Contents.{NotesNodes, element_key, is_element, is_named, name_key, passes, under, under_wanted}
-use Rattle.rdl_targets.specs.Noted.{NotesAll, inside}
-use Rattle.rdl_targets.specs.declared.contents.Contents.{Contents}
+use Rattle.rdl_targets.specs.Contents.{element_key, is_element, is_named, name_key, passes, under}
+use Rattle.rdl_targets.specs.Noted.{NotesAll, NotesNodes, inside, under_wanted}
+use Rattle.rdl_targets.specs.declared.notes.Notes.{Notes}
 use Rattle.rdl_targets.specs.declared.matching.Wanted.{Wanted}
 use Rattle.rdl_targets.specs.declared.matching.Wanted.TheVariants as wants
 use Rattle.rdl_targets.proofs.Contained.{element-same, inside-passing, named-same, under-append}
@@ -69,7 +69,7 @@ not-under key k b r = go (same_key (key b r) k)
     go false = refl
 
 -- a node
-pub one-noted : (b : ℕ) (r : Node) (old new : Contents) → ((k : Key) → is_empty (nodes_under new.names k) ≡ (is_empty (nodes_under old.names k) && not (same_key (name_key b r) k)))
+pub one-noted : (b : ℕ) (r : Node) (old new : Notes) → ((k : Key) → is_empty (nodes_under new.names k) ≡ (is_empty (nodes_under old.names k) && not (same_key (name_key b r) k)))
     → ((k : Key) → is_empty (nodes_under new.elements k) ≡ (is_empty (nodes_under old.elements k) && not (same_key (element_key b r) k))) → NotesNodes b (r ∷ []) old new
 one-noted b r old new names elements = record {
   names_ = λ k. names k ∙ ap (λ c. is_empty (nodes_under old.names k) && c) (not-under name_key k b r);
@@ -78,14 +78,14 @@ one-noted b r old new names elements = record {
 
 -- Nodes one by one.
 
-pub none-noted : (b : ℕ) (c : Contents) → NotesNodes b [] c c
+pub none-noted : (b : ℕ) (c : Notes) → NotesNodes b [] c c
 none-noted b c = record { names_ = λ k. sym (and-true (is_empty (nodes_under c.names k))); elements_ = λ k. sym (and-true (is_empty (nodes_under c.elements k))) }
 
 and-turn : (a b c : Bool) → ((a && b) && c) ≡ (a && (b && c))
 and-turn true b c = refl
 and-turn false b c = refl
 
-pub both-noted : (b : ℕ) (rs ss : List Node) (old between new : Contents) → NotesNodes b rs old between → NotesNodes b ss between new → NotesNodes b (rs ++ ss) old new
+pub both-noted : (b : ℕ) (rs ss : List Node) (old between new : Notes) → NotesNodes b rs old between → NotesNodes b ss between new → NotesNodes b (rs ++ ss) old new
 both-noted b rs ss old between new h g = record {
   names_ = λ k. g.names_ k ∙ join name_key k (is_empty (nodes_under old.names k)) (is_empty (nodes_under between.names k)) (h.names_ k);
   elements_ = λ k. g.elements_ k ∙ join element_key k (is_empty (nodes_under old.elements k)) (is_empty (nodes_under between.elements k)) (h.elements_ k);
@@ -94,10 +94,10 @@ both-noted b rs ss old between new h g = record {
     join : (key : ℕ → Node → Key) (k : Key) (x y : Bool) → y ≡ (x && is_empty (under key k b rs)) → (y && is_empty (under key k b ss)) ≡ (x && is_empty (under key k b (rs ++ ss)))
     join key k x y e = ap (λ c. c && is_empty (under key k b ss)) e ∙ (and-turn x (is_empty (under key k b rs)) (is_empty (under key k b ss)) ∙ ap (λ c. x && c) (sym (ap is_empty (under-append key k b rs ss) ∙ empty-append (under key k b rs) (under key k b ss))))
 
-pub more-noted : (b : ℕ) (rs : List Node) (i : ℕ) (r : Node) (old between new : Contents) → i < length rs → r ≡ get_or rs i r → NotesNodes b (take i rs) old between → NotesNodes b (r ∷ []) between new → NotesNodes b (take (i + 1) rs) old new
+pub more-noted : (b : ℕ) (rs : List Node) (i : ℕ) (r : Node) (old between new : Notes) → i < length rs → r ≡ get_or rs i r → NotesNodes b (take i rs) old between → NotesNodes b (r ∷ []) between new → NotesNodes b (take (i + 1) rs) old new
 more-noted b rs i r old between new l at h one = subst (λ ss. NotesNodes b ss old new) (ap (λ s. take i rs ++ (s ∷ [])) at ∙ sym (take_more rs i r l)) (both-noted b (take i rs) (r ∷ []) old between new h one)
 
-pub all-noted : (b : ℕ) (rs : List Node) (i : ℕ) (old new : Contents) → length rs ≤ i → NotesNodes b (take i rs) old new → NotesNodes b rs old new
+pub all-noted : (b : ℕ) (rs : List Node) (i : ℕ) (old new : Notes) → length rs ≤ i → NotesNodes b (take i rs) old new → NotesNodes b rs old new
 all-noted b rs i old new l h = subst (λ ss. NotesNodes b ss old new) (take_all i rs l) h
 
 -- Bodies one by one.
@@ -105,18 +105,18 @@ all-noted b rs i old new l h = subst (λ ss. NotesNodes b ss old new) (take_all 
 inside-is : (rows : List Row) (k : ℕ) (o : Option Row) → slice_get rows k ≡ o → flat_map (inside rows) (k ∷ []) ≡ flat_map (λ (y : Row). (out-Node y.node.now).children.now) (option_to_list o)
 inside-is rows k o e = append-nil (inside rows k) ∙ ap (λ p. flat_map (λ (y : Row). (out-Node y.node.now).children.now) (option_to_list p)) e
 
-pub no-body : (b : ℕ) (rows : List Row) (k : ℕ) (c : Contents) → slice_get rows k ≡ None → NotesAll b rows (k ∷ []) c c
+pub no-body : (b : ℕ) (rows : List Row) (k : ℕ) (c : Notes) → slice_get rows k ≡ None → NotesAll b rows (k ∷ []) c c
 no-body b rows k c none = subst (λ rs. NotesNodes b rs c c) (sym (inside-is rows k None none)) (none-noted b c)
 
-pub one-body : (b : ℕ) (rows : List Row) (k : ℕ) (x : Row) (old new : Contents) → slice_get rows k ≡ Some x → NotesNodes b (out-Node x.node.now).children.now old new → NotesAll b rows (k ∷ []) old new
+pub one-body : (b : ℕ) (rows : List Row) (k : ℕ) (x : Row) (old new : Notes) → slice_get rows k ≡ Some x → NotesNodes b (out-Node x.node.now).children.now old new → NotesAll b rows (k ∷ []) old new
 one-body b rows k x old new some h = subst (λ rs. NotesNodes b rs old new) (sym (inside-is rows k (Some x) some ∙ append-nil (out-Node x.node.now).children.now)) h
 
-pub more-bodies : (b : ℕ) (rows : List Row) (ks : List ℕ) (i d : ℕ) (old between new : Contents) → i < length ks → NotesAll b rows (take i ks) old between → NotesAll b rows (get_or ks i d ∷ []) between new → NotesAll b rows (take (i + 1) ks) old new
+pub more-bodies : (b : ℕ) (rows : List Row) (ks : List ℕ) (i d : ℕ) (old between new : Notes) → i < length ks → NotesAll b rows (take i ks) old between → NotesAll b rows (get_or ks i d ∷ []) between new → NotesAll b rows (take (i + 1) ks) old new
 more-bodies b rows ks i d old between new l h one =
     subst (λ rs. NotesNodes b rs old new) (sym (ap (flat_map (inside rows)) (take_more ks i d l) ∙ flat_map-append (inside rows) (take i ks) (get_or ks i d ∷ [])))
     (both-noted b (flat_map (inside rows) (take i ks)) (flat_map (inside rows) (get_or ks i d ∷ [])) old between new h one)
 
-pub all-bodies : (b : ℕ) (rows : List Row) (ks : List ℕ) (i : ℕ) (old new : Contents) → length ks ≤ i → NotesAll b rows (take i ks) old new → NotesAll b rows ks old new
+pub all-bodies : (b : ℕ) (rows : List Row) (ks : List ℕ) (i : ℕ) (old new : Notes) → length ks ≤ i → NotesAll b rows (take i ks) old new → NotesAll b rows ks old new
 all-bodies b rows ks i old new l h = subst (λ js. NotesAll b rows js old new) (take_all i ks l) h
 
 -- What isn't listed stands in no body.
@@ -150,7 +150,7 @@ module _ (e : Elab) (rows : List Row) (are : AreRows e rows) (key : ℕ → Node
       by (j ∷ ks) ms h z = cc z
       by [] (m ∷ ms) h z = absurd h
 
-pub tells-all : (e : Elab) (rows : List Row) (b : ℕ) (ks : List ℕ) (old new : Contents) (name : List ℕ) (w : Wanted) (ms : List Instance) → AreRows e rows → NotesAll b rows ks old new → slice_get (under_wanted new b name w) 0 ≡ None → AreAt (lineages_of e) ks ms
+pub tells-all : (e : Elab) (rows : List Row) (b : ℕ) (ks : List ℕ) (old new : Notes) (name : List ℕ) (w : Wanted) (ms : List Instance) → AreRows e rows → NotesAll b rows ks old new → slice_get (under_wanted new b name w) 0 ≡ None → AreAt (lineages_of e) ks ms
     → [] ≡ filter (passes w name) (flat_map children ms)
 tells-all e rows b ks old new name wants.Any ms are h none at =
     let k : Key = record { body = b; name = name; index = [] } in
@@ -163,7 +163,7 @@ tells-all e rows b ks old new name (wants.These v) ms are h none at =
     (and-both (is_empty (nodes_under old.elements k)) (is_empty (under element_key k b (flat_map (inside rows) ks))) (sym (h.elements_ k) ∙ first-none (nodes_under new.elements k) none)).1
 
 -- what was listed still is
-pub still-listed : (b : ℕ) (rs : List Node) (old new : Contents) (k : ℕ) (name : List ℕ) (w : Wanted) → NotesNodes b rs old new → slice_get (under_wanted new k name w) 0 ≡ None → slice_get (under_wanted old k name w) 0 ≡ None
+pub still-listed : (b : ℕ) (rs : List Node) (old new : Notes) (k : ℕ) (name : List ℕ) (w : Wanted) → NotesNodes b rs old new → slice_get (under_wanted new k name w) 0 ≡ None → slice_get (under_wanted old k name w) 0 ≡ None
 still-listed b rs old new k name wants.Any h none = no-first (nodes_under old.names (record { body = k; name = name; index = [] })) (and-both _ _ (sym (h.names_ (record { body = k; name = name; index = [] })) ∙ first-none (nodes_under new.names (record { body = k; name = name; index = [] })) none)).0
   where
     no-first : (xs : List ℕ) → is_empty xs ≡ true → slice_get xs 0 ≡ None

@@ -18,11 +18,11 @@ use Rattle.rdl_nodes.specs.Keyed.{Key, nodes_under}
 use Rattle.rdl_nodes.specs.Rows.{AreRows}
 use Rattle.rdl_nodes.specs.declared.table.Row.{Row}
 use Rattle.rdl_targets.specs.At.{AreAt, IsAt}
-use Rattle.rdl_targets.specs.Contents.{passes, same_turn, under_wanted}
-use Rattle.rdl_targets.specs.Noted.{NotesAll, inside}
+use Rattle.rdl_targets.specs.Contents.{passes}
+use Rattle.rdl_targets.specs.Noted.{NotesAll, inside, same_turn, under_wanted}
 use Rattle.rdl_targets.specs.Steps.{further}
 use Rattle.rdl_targets.specs.Trails.{AreTrails, Finds, IsSpread, IsTurn, Keeps, LeadsTo, MayLead, Pushes, Spreads, listed, nodes_of, set_at}
-use Rattle.rdl_targets.specs.declared.contents.Contents.{Contents}
+use Rattle.rdl_targets.specs.declared.notes.Notes.{Notes}
 use Rattle.rdl_targets.specs.declared.matching.Wanted.{Wanted}
 use Rattle.rdl_targets.specs.declared.matching.Wanted.TheVariants as wants
 use Rattle.rdl_targets.specs.declared.trails.Trails.{Trails}
@@ -31,7 +31,7 @@ use Rattle.rdl_targets.proofs.Listing.{still-listed, tells-all}
 
 -- No path but that without steps.
 
-none-under : (c : Contents) → ((k : Key) → nodes_under c.names k ≡ []) → ((k : Key) → nodes_under c.elements k ≡ []) → (b : ℕ) (name : List ℕ) (w : Wanted) → under_wanted c b name w ≡ []
+none-under : (c : Notes) → ((k : Key) → nodes_under c.names k ≡ []) → ((k : Key) → nodes_under c.elements k ≡ []) → (b : ℕ) (name : List ℕ) (w : Wanted) → under_wanted c b name w ≡ []
 none-under c names elements b name wants.Any = names (record { body = b; name = name; index = [] })
 none-under c names elements b name wants.None = refl
 none-under c names elements b name (wants.These v) = elements (record { body = b; name = name; index = v.items })

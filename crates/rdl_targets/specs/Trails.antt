@@ -7,7 +7,8 @@ use Rattle.rdl_values.specs.Instances.{Instance, children}
 use Rattle.rdl_values.specs.Lineages.{lineages_of}
 use Rattle.rdl_values.specs.Parts.{is_empty}
 use Rattle.rdl_targets.specs.At.{AreAt}
-use Rattle.rdl_targets.specs.Contents.{passes, under_wanted}
+use Rattle.rdl_targets.specs.Contents.{passes}
+use Rattle.rdl_targets.specs.Noted.{under_wanted}
 use Rattle.rdl_targets.specs.declared.matching.Wanted.{Wanted}
 use Rattle.rdl_targets.specs.declared.trails.Trails.{Trails}
 

@@ -3,6 +3,7 @@
 
 mod contents;
 mod matching;
+mod notes;
 mod noting;
 mod trails;
 

@@ -8,6 +8,7 @@ ghost use Rattle.rdl_values.specs.Lineages.{lineages_of};
 ghost use Rattle.rdl_values.specs.Uses.{values};
 ghost use Rattle.rdl_values.specs.Values.{Around};
 ghost use Rattle.rdl_failures.specs.Shown.{IsShown};
+ghost use Rattle.rdl_node_lists.specs.Keys.{numbers};
 ghost use Rattle.rdl_targets.specs.At.{AreAt};
 ghost use Rattle.rdl_targets.specs.Contents.{AreContents, passes};
 ghost use Rattle.rdl_targets.specs.Steps.{AreNumbers, Wants};
@@ -15,6 +16,7 @@ ghost use Rattle.rdl_targets.specs.Steps.{AreNumbers, Wants};
 use crate::contents::Contents;
 use rb_base::NoMemory;
 use rdl_failures::number_seen;
+use rdl_node_lists::Held;
 use rdl_tree::Expr;
 use rdl_values::Chain;
 use std::alloc::Global;
@@ -65,12 +67,12 @@ pub(crate) fn indices_of<'a>(
     }
 }
 
-// Puts nodes behind others.
-fn add_all(list: &mut Vec<u32>, nodes: &[u32]) -> Result<(), NoMemory>
-    ensures { OnOk result (list.new.items ≡ list.old.items ++ nodes.now) }
+// Puts the numbers of nodes behind others.
+fn add_all(list: &mut Vec<u32>, nodes: &[Held<'_>]) -> Result<(), NoMemory>
+    ensures { OnOk result (list.new.items ≡ list.old.items ++ numbers nodes.now) }
 {
-    for node in nodes {
-        list.push(*node)?;
+    for one in nodes {
+        list.push(one.node.id)?;
     }
     Ok(())
 }
@@ -87,7 +89,7 @@ pub(crate) fn matching(
 {
     let mut list = Vec::new(alloc);
     for node in nodes {
-        add_all(&mut list, (&*contents).all(*node, &*name, &*wanted))?;
+        add_all(&mut list, contents.all(*node, name, wanted))?;
     }
     Ok(list)
 }

@@ -4,7 +4,8 @@ ghost use Rattle.std.specs.Prelude.{◌≡◌, ◌&&◌, not, OnOk};
 ghost use Rattle.rdl_values.specs.Parts as parts;
 ghost use Rattle.rdl_nodes.specs.Keyed.{Key, nodes_under, same_key};
 
-use crate::contents::{Contents, row_at};
+use crate::contents::row_at;
+use crate::notes::Notes;
 use rb_base::NoMemory;
 use rdl_nodes::{NodeIndex, Row};
 use rdl_tree::Node;
@@ -27,7 +28,7 @@ fn note_in<'a>(
     nodes.put(alloc, number, name, index, node)
 }
 
-impl<'a> Contents<'a> {
+impl<'a> Notes<'a> {
     ghost use Rattle.std.specs.Prelude.{◌≡◌, ◌∷◌, [], ℕ, List, OnOk};
     ghost use Rattle.rdl_tree.specs.declared.node.Elab.{Elab};
     ghost use Rattle.rdl_tree.specs.declared.node.Node.{out-Node};
@@ -35,8 +36,7 @@ impl<'a> Contents<'a> {
     ghost use Rattle.rdl_values.specs.Lineages.{lineages_of};
     ghost use Rattle.rdl_nodes.specs.Rows.{AreRows};
     ghost use Rattle.rdl_targets.specs.At.{AreAt};
-    ghost use Rattle.rdl_targets.specs.Contents.{NotesNodes};
-    ghost use Rattle.rdl_targets.specs.Noted.{NotesAll};
+    ghost use Rattle.rdl_targets.specs.Noted.{NotesAll, NotesNodes};
 
     // Puts a node under a number, where none of its name, or none of its name and indices, is there.
     fn note(&mut self, alloc: Global, number: u32, node: &Node<'a>) -> Result<(), NoMemory>

@@ -2,6 +2,7 @@
 
 use crate::contents::{Contents, row_at};
 use crate::matching::{Wanted, indices_of, matching};
+use crate::notes::Notes;
 use rb_base::NoMemory;
 use rdl_nodes::Row;
 use rdl_tree::{Path, Step};
@@ -16,9 +17,9 @@ use std::collections::BTreeSet;
 pub struct Trails<'a> {
     pub(crate) sets: Vec<Vec<u32>>,
     // the numbers of paths, under those of the paths without their last step
-    pub(crate) steps: Contents<'a>,
+    pub(crate) steps: Notes<'a>,
     // a node for each name, and one for each name and indices, in the bodies of a path's nodes, under the number of the path
-    pub(crate) inside: Contents<'a>,
+    pub(crate) inside: Notes<'a>,
     // the paths of which there is one
     pub(crate) spread: BTreeSet<u32>,
 }
@@ -60,8 +61,8 @@ impl<'a> Trails<'a> {
         sets.push(first)?;
         Ok(Trails {
             sets,
-            steps: Contents::new(alloc),
-            inside: Contents::new(alloc),
+            steps: Notes::new(alloc),
+            inside: Notes::new(alloc),
             spread: BTreeSet::new(alloc),
         })
     }

@@ -1,5 +1,5 @@
 use Rattle.rdl_targets.proofs.Listing.{all-bodies, more-bodies, none-noted}
-use Rattle.rdl_targets.proofs.contents.Contents.note_all.Goals as goal
+use Rattle.rdl_targets.proofs.notes.Notes.note_all.Goals as goal
 
 pub loop-node-init : goal.loop-node-init
 loop-node-init c = none-noted c.args.number c.args.self.now

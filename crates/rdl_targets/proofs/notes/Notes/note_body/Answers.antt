@@ -1,6 +1,6 @@
 use Rattle.rdl_tree.specs.declared.node.Node.{out-Node}
 use Rattle.rdl_targets.proofs.Listing.{all-noted, more-noted, none-noted}
-use Rattle.rdl_targets.proofs.contents.Contents.note_body.Goals as goal
+use Rattle.rdl_targets.proofs.notes.Notes.note_body.Goals as goal
 
 pub loop-child-init : goal.loop-child-init
 loop-child-init c = none-noted c.args.number c.args.self.now
