@@ -205,9 +205,9 @@ driver-put nets old new s e t i target last h all first second count put n =
     let m = number-low nets (again_of s e) two in
     put (omega (arith, l, first, count)) (omega (arith, m, second, count)) (number_of nets n)
     ∙ ap (λ b. if b then Some i else driver_at nets old n)
-      (ap (λ k. number_of nets n == k || number_of nets n == last) first
-      ∙ (ap (λ k. number_of nets n == number_of nets s.to || number_of nets n == k) second
-      ∙ (rw (same-number nets s.to n one, same-number nets (again_of s e) n two) refl ∙ any-driven (λ w. bytes_eq w n) s e)))
+    (ap (λ k. number_of nets n == k || number_of nets n == last) first
+    ∙ (ap (λ k. number_of nets n == number_of nets s.to || number_of nets n == k) second
+    ∙ (rw (same-number nets s.to n one, same-number nets (again_of s e) n two) refl ∙ any-driven (λ w. bytes_eq w n) s e)))
 
 -- a statement that drives a net of its kind names nets
 has-among : (ns : List specNet) (k : Kind) (n : List ℕ) → has ns k n ≡ true → among (names ns) n ≡ true

@@ -37,13 +37,7 @@ fn is_reset(table: &Table, nets: &[Net], name: &[u8]) -> bool
 }
 
 /// Whether a statement drives a net of its kind, at the clock and under a reset as it should.
-fn drives_its_kind(
-    table: &Table,
-    nets: &[Net],
-    target: usize,
-    stmt: &Stmt,
-    event: &Event,
-) -> bool
+fn drives_its_kind(table: &Table, nets: &[Net], target: usize, stmt: &Stmt, event: &Event) -> bool
     requires nets { AreNets table.now nets.now }
     requires target { target ≡ number_of nets.now stmt.now.to }
     ensures { distinct (names (nets_seen nets.now)) ≡ true → (s : Statement) → IsStatement stmt.now event.now s

@@ -22,12 +22,7 @@ fn is_unknown(table: &Table, bytes: &[u8], token: &VSpot) -> bool
 }
 
 /// The least place of a name that is not declared, among the tokens behind so many.
-fn undeclared(
-    table: &Table,
-    bytes: &[u8],
-    tokens: &[VSpot],
-    before: usize,
-) -> Option<Place>
+fn undeclared(table: &Table, bytes: &[u8], tokens: &[VSpot], before: usize) -> Option<Place>
     ensures { (ns : List Net) → AreNets table.now ns
         → Finds (Stands (IsUndeclared (names (nets_seen ns)) before (placed bytes.now tokens.now)) (token_places (placed bytes.now tokens.now))) result }
 {

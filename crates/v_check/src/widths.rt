@@ -78,12 +78,7 @@ fn cat_width(total: Option<u8>, part: Option<u8>) -> Option<u8>
 }
 
 /// Puts the number of the net of a name behind others, and answers the net's width.
-fn use_of(
-    table: &Table,
-    nets: &[Net],
-    name: &Text,
-    uses: &mut Vec<usize>,
-) -> Result<u8, NoMemory>
+fn use_of(table: &Table, nets: &[Net], name: &Text, uses: &mut Vec<usize>) -> Result<u8, NoMemory>
     requires { AreNets table.now nets.now }
     ensures width { IfOk result (λ w. w ≡ width_in (nets_seen nets.now) name.now) }
     ensures uses { OnOk result (uses.new.items ≡ uses.old.items ++ number_of nets.now name.now ∷ []) }

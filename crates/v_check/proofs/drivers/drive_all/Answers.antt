@@ -41,10 +41,10 @@ loop-index-preserved c =
           let kind = c.drives_its_kind-kind.ensures once s is in
           let clocked = c.reads_clock.ensures ∙ ap (λ ms. among ms clock) (nets-statement stmt _ s is) in
           let again = c.has_driver-again.ensures
-              ∙ (ap (λ k. is_some (driver_of old k) || is_some (driver_of old c.last_target-last.result)) target
-              ∙ (ap (λ k. is_some (driver_at nets old stmt.to) || is_some (driver_of old k)) c.last_target-last.ensures
-              ∙ (any-driven (λ n. is_some (driver_at nets old n)) stmt _
-              ∙ again-driven (driver_at nets old) ss i s _ (driven-statement stmt _ s is) (inv.drivers ss are all)))) in
+          ∙ (ap (λ k. is_some (driver_of old k) || is_some (driver_of old c.last_target-last.result)) target
+          ∙ (ap (λ k. is_some (driver_at nets old stmt.to) || is_some (driver_of old k)) c.last_target-last.ensures
+          ∙ (any-driven (λ n. is_some (driver_at nets old n)) stmt _
+          ∙ again-driven (driver_at nets old) ss i s _ (driven-statement stmt _ s is) (inv.drivers ss are all)))) in
           finds_next (IsMisdriven ns ss) (stmt_places stmts) c.loop-index.misdriven c.note-misdriven.result c.is_misdriven-wrong.result stmt.place i
           c.note-misdriven.ensures (stmt-place stmts i stmt c.loop-index-test.true c.index-stmts-index.is)
           (some-test ss i s (λ t. drives_well ns t && not (list_any (among (all_driven (take i ss))) (driven_by t))) c.is_misdriven-wrong.result here

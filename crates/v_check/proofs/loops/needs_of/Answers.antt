@@ -1,4 +1,4 @@
-use Rattle.std.proofs.Common.{ap, sym, ◌∙◌}
+use Rattle.std.proofs.Common.{ap, ◌∙◌}
 use Rattle.plain_lemmas.proofs.Lists.{take-all}
 use Rattle.v_design.specs.Expr.{nets_of}
 use Rattle.v_design.specs.Seen.{expr_seen}

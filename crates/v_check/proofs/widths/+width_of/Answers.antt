@@ -16,7 +16,7 @@ loop-part-preserved t c =
     let front = listed (take c.loop-part.part-index items) in
     let more = listed-more items c.loop-part.part-index c.part-item.result c.loop-part-test.true c.part-item.is in
     record {
-      width = rw more 
+      width = rw more
           (c.cat_width-total.ensures
           ∙ (ap (λ o. joined o c.in_ok-width-in-Cat.width) c.loop-part.invariant.width
           ∙ (ap (joined (sized_width ws (expr.Cat front))) c.in_ok-width-in-Cat.ensures.width ∙ cat-more ws front (expr_seen c.part-item.result))));
