@@ -11,17 +11,14 @@ use Rattle.v_design.specs.Expr.{Expr, Exprs, Net, Bits, Const, Cat, One, Two, Pi
 use Rattle.v_design.specs.Tree.{Tree, Statement, Assign, Clocked, Resettable, port_widths, decl_widths, is_width}
 use Rattle.v_design.specs.Design.{module_of, widths, width_among, port_pin, decl_pin, expr_of, step_of}
 use Rattle.v_design.specs.Seen.{step_seen}
-use Rattle.v_design.specs.WellFormed.{nets, decl_net, fits_well}
+use Rattle.v_design.specs.WellFormed.{Net as specNet, nets, decl_net, fits_well}
 use Rattle.v_design.specs.declared.design.Decl.{Decl}
 use Rattle.v_design.specs.declared.design.Stmt.{Stmt}
 use Rattle.v_syntax.specs.Syntax.{AreStatements, IsStatement, IsShaped, capped, capped_all, capped_step}
 use Rattle.v_syntax.specs.declared.parsed.Event.{Event}
 use Rattle.v_check.specs.Found.{Finds, Stands}
-use Rattle.v_check.specs.Nets.{AreNets, declared_nets, net_at, nets_seen, width_in, widths_at}
+use Rattle.v_check.specs.Nets.{declared_nets, width_in}
 use Rattle.v_check.specs.Sizes.{IsMisfit, step_fits}
-use Rattle.v_check.specs.declared.nets.Net.{Net as NetOf}
-use Rattle.v_check.specs.declared.nets.Table.{Table}
-use Rattle.v_check.proofs.Tables.{width-found}
 use Rattle.v_check.proofs.Faults.{IsUnfit}
 use Rattle.v_check.proofs.Finding.{finds_stands}
 use Rattle.v_check.proofs.Looping.{statement-of}
@@ -35,11 +32,11 @@ port-width : (ps : List Port) (ds : List Decl) (n : List ℕ) → width_in (decl
 port-width [] ds n = decl-width ds n
 port-width (p ∷ ps) ds n = ap (λ w. if bytes_eq p.name n then p.width else w) (port-width ps ds n)
 
-pub same-widths : (t : Tree) (table : Table) (ns : List NetOf) → AreNets table ns → nets_seen ns ≡ nets t → widths_at table ≡ widths (module_of t)
-same-widths t table ns h is = λ i n. at n i
+pub same-widths : (t : Tree) (ns : List specNet) → ns ≡ nets t → width_in ns ≡ widths (module_of t)
+same-widths t ns is = λ i n. at n i
   where
-    at : (n : List ℕ) → widths_at table n ≡ widths (module_of t) n
-    at n = width-found ns (net_at table n) n (h.at n) ∙ (ap (λ ms. width_in ms n) is ∙ port-width t.ports t.decls n)
+    at : (n : List ℕ) → width_in ns n ≡ widths (module_of t) n
+    at n = ap (λ ms. width_in ms n) is ∙ port-width t.ports t.decls n
 
 -- no net is wider than 128 bits
 most : (w : ℕ) → is_width w ≡ true → w ≤ 128
@@ -178,10 +175,10 @@ tree-statement (y ∷ ys) (e ∷ es) (t ∷ ts) zero x h at = let f : y ≡ x = 
 tree-statement (y ∷ ys) (e ∷ es) (t ∷ ts) (suc i) x h at = tree-statement ys es ts i x h.1 at
 
 -- what does not fit in the program is what does not fit in the tree
-pub unfit-found : (t : Tree) (ts : List (At Token)) (table : Table) (stmts : List Stmt) (events : List Event) (places : List ℕ) (r : Option Place) → AreStatements stmts events t.stmts → widths_at table ≡ widths (module_of t)
-    → ((n : List ℕ) → widths (module_of t) n ≤ 128) → Finds (Stands (IsMisfit (widths_at table) stmts) places) r → Finds (Stands (IsUnfit t ts) places) r
-unfit-found t ts table stmts events places r are same narrow h =
-    finds_stands (IsMisfit (widths (module_of t)) stmts) (IsUnfit t ts) places r there back (subst (λ ws. Finds (Stands (IsMisfit ws stmts) places) r) same h)
+pub unfit-found : (t : Tree) (ts : List (At Token)) (ws : Widths) (stmts : List Stmt) (events : List Event) (places : List ℕ) (r : Option Place) → AreStatements stmts events t.stmts → ws ≡ widths (module_of t)
+    → ((n : List ℕ) → widths (module_of t) n ≤ 128) → Finds (Stands (IsMisfit (ws) stmts) places) r → Finds (Stands (IsUnfit t ts) places) r
+unfit-found t ts ws stmts events places r are same narrow h =
+    finds_stands (IsMisfit (widths (module_of t)) stmts) (IsUnfit t ts) places r there back (subst (λ us. Finds (Stands (IsMisfit us stmts) places) r) same h)
   where
     there : (i : ℕ) → IsMisfit (widths (module_of t)) stmts i → IsUnfit t ts i
     there i (x, at, wrong) = let (e, s, here, is) = tree-statement stmts events t.stmts i x are at in (s, here, sym (statement-fits (widths (module_of t)) narrow x e s is) ∙ wrong)

@@ -1,5 +1,6 @@
 -- Expressions of the program, part by part.
-use Rattle.std.proofs.Common.{◌≡◌, ℕ, ◌+◌, ◌<◌, ◌≤◌, List, [], ◌∷◌, ◌++◌, length, take, get_or, refl, ap, sym, ◌∙◌, append_assoc, rules, Vec, Box, Global}
+use Rattle.std.specs.Str.{bytes_eq}
+use Rattle.std.proofs.Common.{◌≡◌, ℕ, zero, suc, ◌+◌, ◌<◌, ◌≤◌, true, List, [], ◌∷◌, ◌++◌, length, take, get_or, refl, ap, sym, ◌∙◌, append_assoc, arith, rules, Vec, Box, Global}
 use Rattle.std.proofs.lemmas.List.{append-nil, take_more, take_all}
 use Rattle.v_design.specs.declared.design.VExpr.{VExpr, Row_of-VExpr, end_of-VExpr, more_of-VExpr, items-the_row-VExpr}
 use Rattle.v_design.specs.declared.design.VExpr.TheVariants as variant
@@ -8,6 +9,9 @@ use Rattle.v_design.specs.declared.design.VOne.{VOne}
 use Rattle.v_design.specs.declared.design.VTwo.{VTwo}
 use Rattle.v_design.specs.Expr as expr
 use Rattle.v_design.specs.Expr.{Expr, Exprs, none, more, nets_of, nets_of_each}
+use Rattle.v_design.specs.Lexemes.{among}
+use Rattle.v_design.proofs.Names.{or-left, or-right}
+use Rattle.plain_lemmas.proofs.Lists.{list_any-append}
 use Rattle.v_design.specs.Seen.{expr_seen, exprs_seen}
 
 -- the expressions of a list
@@ -52,3 +56,13 @@ listed-more items i d l is = rw (take_more items i d l, listed-push (take i item
 -- all parts of a list
 pub listed-all : (items parts : List VExpr) (i : ℕ) → length items ≤ i → items ≡ parts → listed (take i items) ≡ listed parts
 listed-all items parts i l is = ap listed (take_all i items l ∙ is)
+
+-- a name in a part is one in the whole
+pub part-among : (items : List VExpr) (i : ℕ) (d : VExpr) (n : List ℕ) → i < length items → d ≡ get_or items i d → among (nets_of (expr_seen d)) n ≡ true → among (nets_of_each (listed items)) n ≡ true
+part-among [] i d n l is h = absurd (omega (arith, l))
+part-among (x ∷ xs) zero d n l is h =
+    list_any-append (λ w. bytes_eq w n) (nets_of (expr_seen x)) (nets_of_each (listed xs))
+    ∙ or-left (among (nets_of (expr_seen x)) n) (among (nets_of_each (listed xs)) n) (ap (λ y. among (nets_of (expr_seen y)) n) (sym is) ∙ h)
+part-among (x ∷ xs) (suc i) d n l is h =
+    list_any-append (λ w. bytes_eq w n) (nets_of (expr_seen x)) (nets_of_each (listed xs))
+    ∙ or-right (among (nets_of (expr_seen x)) n) (among (nets_of_each (listed xs)) n) (part-among xs i d n (omega (arith, l)) is h)

@@ -1,6 +1,6 @@
 -- The problems of a tree, as they are found.
 use Rattle.std.specs.List.{list_any}
-use Rattle.std.proofs.Common.{◌≡◌, ℕ, zero, suc, ◌<◌, nat_le, if◌then◌else◌, Bool, true, false, not, ◌&&◌, ◌||◌, Option, Some, None, is_some, List, [], ◌∷◌, take, get_or, slice_get, refl, ap, sym, ◌∙◌, subst, ◌⊎◌, inl, inr, arith}
+use Rattle.std.proofs.Common.{◌≡◌, ℕ, zero, suc, ◌<◌, nat_le, if◌then◌else◌, Bool, true, false, not, ◌&&◌, Option, Some, None, is_some, List, [], ◌∷◌, take, get_or, slice_get, refl, ap, sym, ◌∙◌, subst, ◌⊎◌, inl, inr, arith}
 use Rattle.rb_base.specs.declared.place.Place.{Place}
 use Rattle.rb_grammar.specs.Spelling.{At}
 use Rattle.v_design.specs.Lexemes.{Token, Name, Word, Number, Const, among}
@@ -9,8 +9,7 @@ use Rattle.v_design.specs.Design.{module_of, widths}
 use Rattle.v_design.specs.WellFormed.{Net, Given, same_kind, nets, names, drives_well, fits_well}
 use Rattle.v_syntax.specs.Faulty.{Problem, Twice, Undeclared, Driver, Width, Loop, turn, Faulty, IsFirst, all_driven, driven_by, twice, undeclared, drives_badly, second_driver, no_driver, wrong_width, loop}
 use Rattle.v_syntax.specs.Syntax.{declared_places, statement_places, statements_from}
-use Rattle.v_check.specs.declared.drivers.Drivers.{Drivers}
-use Rattle.v_check.specs.Drivers.{AreDrivers, IsMisdriven, IsUndriven, driver_at}
+use Rattle.v_check.specs.Drivers.{AreDrivers, IsMisdriven, IsUndriven}
 use Rattle.v_check.specs.Found.{either_found, Finds, Stands}
 use Rattle.v_check.specs.Loops.{IsLooping}
 use Rattle.v_check.specs.Nets.{IsTwice, IsUndeclared, is_unknown, token_places}
@@ -63,10 +62,10 @@ module _ (t : Tree) (ts : List (At Token)) where
       (k, (a, low, at, ap (is_unknown (names (nets t))) name ∙ ap not none), sym (token-place-at ts k a at))
 
   -- the cases of Driver
-  abbrev IsDriver : Drivers → ℕ → Type 0
+  abbrev IsDriver : (List ℕ → Option ℕ) → ℕ → Type 0
   IsDriver drivers k = Stands (IsMisdriven (nets t) t.stmts) (statement_places t ts) k ⊎ Stands (IsUndriven (nets t) drivers) (declared_places t ts) k
 
-  faulty-driver : (drivers : Drivers) → AreDrivers drivers t.stmts → (k : ℕ) → Faulty t ts Driver k → IsDriver drivers k
+  faulty-driver : (drivers : List ℕ → Option ℕ) → AreDrivers drivers t.stmts → (k : ℕ) → Faulty t ts Driver k → IsDriver drivers k
   faulty-driver drivers d _ (drives_badly i s at bad) = inl (i, (s, at, ap (λ b. b && not (list_any (among (all_driven (take i t.stmts))) (driven_by s))) bad), refl)
   faulty-driver drivers d _ (second_driver i s at second) = inl (i, (s, at, ap (λ b. drives_well (nets t) s && not b) second ∙ and-last (drives_well (nets t) s)), refl)
     where
@@ -75,13 +74,13 @@ module _ (t : Tree) (ts : List (At Token)) where
       and-last false = refl
   faulty-driver drivers d _ (no_driver i n at kind none) = inr (i, (n, at, rw kind (d.driven n.name ∙ none)), refl)
 
-  driver-faulty : (drivers : Drivers) → AreDrivers drivers t.stmts → (k : ℕ) → IsDriver drivers k → Faulty t ts Driver k
+  driver-faulty : (drivers : List ℕ → Option ℕ) → AreDrivers drivers t.stmts → (k : ℕ) → IsDriver drivers k → Faulty t ts Driver k
   driver-faulty drivers d k (inl (i, (s, at, wrong), is)) = elim (both-false (drives_well (nets t) s) (list_any (among (all_driven (take i t.stmts))) (driven_by s)) wrong) [
     | inl bad ↦ subst (Faulty t ts Driver) (sym is) (drives_badly i s at bad)
     | inr second ↦ subst (Faulty t ts Driver) (sym is) (second_driver i s at second)
   ]
   driver-faulty drivers d k (inr (i, (n, at, wrong), is)) =
-      let (kind, none) = or-false-both (same_kind n.kind Given) (is_some (driver_at drivers n.name)) wrong in
+      let (kind, none) = or-false-both (same_kind n.kind Given) (is_some (drivers n.name)) wrong in
       subst (Faulty t ts Driver) (sym is) (no_driver i n at kind (sym (d.driven n.name) ∙ none))
 
   -- the widths of the statement of a number do not agree
@@ -110,7 +109,7 @@ module _ (t : Tree) (ts : List (At Token)) where
           let (n, name, none) = unknown-name (names (nets t)) a.token unknown in
           subst (Faulty t ts Undeclared) (sym (is ∙ token-place-at ts i a at)) (undeclared i a n low at name none)
 
-  pub driver-found : (drivers : Drivers) (ns os : List Net) (stmt_at net_at : List ℕ) (r q : Option Place) → AreDrivers drivers t.stmts → ns ≡ nets t → os ≡ nets t → stmt_at ≡ statement_places t ts → net_at ≡ declared_places t ts
+  pub driver-found : (drivers : List ℕ → Option ℕ) (ns os : List Net) (stmt_at net_at : List ℕ) (r q : Option Place) → AreDrivers drivers t.stmts → ns ≡ nets t → os ≡ nets t → stmt_at ≡ statement_places t ts → net_at ≡ declared_places t ts
       → Finds (Stands (IsMisdriven ns t.stmts) stmt_at) r → Finds (Stands (IsUndriven os drivers) net_at) q → Finds (Faulty t ts Driver) (either_found r q)
   driver-found drivers ns os stmt_at net_at r q d is other at places h k =
       finds_as (IsDriver drivers) (Faulty t ts Driver) (either_found r q) (driver-faulty drivers d) (faulty-driver drivers d)

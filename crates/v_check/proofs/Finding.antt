@@ -1,5 +1,7 @@
 -- The least place of what is wrong, as it is found one thing after the other.
-use Rattle.std.proofs.Common.{◌≡◌, ℕ, zero, suc, ◌+◌, ◌<◌, ◌≤◌, nat_le, Bool, true, false, not, if◌then◌else◌, Option, Some, None, List, [], ◌∷◌, length, slice_get, get_or, refl, ap, sym, ◌∙◌, subst, ◌⊎◌, inl, inr, arith}
+use Rattle.std.proofs.Common.{◌≡◌, ℕ, zero, suc, ◌+◌, ◌<◌, ◌≤◌, nat_le, Bool, true, false, not, if◌then◌else◌, Option, Some, None, List, [], ◌∷◌, ◌++◌, length, map, take, slice_get, get_or, refl, ap, sym, ◌∙◌, subst, ◌⊎◌, inl, inr, arith}
+use Rattle.std.proofs.lemmas.List.{take_more}
+use Rattle.plain_lemmas.proofs.Lists.{map-append}
 use Rattle.rb_base.specs.declared.place.Place.{Place}
 use Rattle.rb_grammar.specs.Spelling.{At}
 use Rattle.v_design.specs.Lexemes.{Token}
@@ -152,3 +154,8 @@ element-test xs i x well b l is test = some-test xs i x well b (element-at xs i 
 -- other facts of the same things
 pub finds_stands : (F G : ℕ → Type 0) (places : List ℕ) (r : Option Place) → ((i : ℕ) → F i → G i) → ((i : ℕ) → G i → F i) → Finds (Stands F places) r → Finds (Stands G places) r
 finds_stands F G places r f g h = finds_as (Stands F places) (Stands G places) r (λ k q. (q.0, f q.0 q.1, q.2)) (λ k q. (q.0, g q.0 q.1, q.2)) h
+
+-- one element more of a front, mapped
+pub map-more : {X Y : Type 0} (f : X → Y) (xs : List X) (i : ℕ) (x : X) → i < length xs → x ≡ get_or xs i x → map f (take (i + 1) xs) ≡ map f (take i xs) ++ f x ∷ []
+map-more f xs i x l is =
+    ap (map f) (take_more xs i x l) ∙ (map-append f (take i xs) (get_or xs i x ∷ []) ∙ ap (λ y. map f (take i xs) ++ f y ∷ []) (sym is))

@@ -159,13 +159,24 @@ module _ (t : Tree) (ts : List (At Token)) where
   pub single-from : Lacks t ts Driver → IsSingle t.stmts
   single-from h i s at = not-true-false (list_any (among (all_driven (take i t.stmts))) (driven_by s)) (λ e. h _ (second_driver i s at e))
 
+  -- where no name is undeclared, each name in a statement is declared, and the other way round
+  pub declared-from : spelling.tokens_of ts ≡ tree.tokens_of t → Lacks t ts Undeclared → list_all (λ s. list_all (among (names (nets t))) (used s)) t.stmts ≡ true
+  declared-from tokens none = used-all (among (names (nets t))) t.stmts (λ n u. known n u (among (names (nets t)) n) refl)
+    where
+      known : (n : List ℕ) → among (flat_map used t.stmts) n ≡ true → (x : Bool) → among (names (nets t)) n ≡ x → among (names (nets t)) n ≡ true
+      known n u true e = e
+      known n u false e = let (k, s, low, at, name) = used-token t ts tokens n u in absurd (none _ (undeclared k s n low at name e))
+
+  pub none-undeclared : spelling.tokens_of ts ≡ tree.tokens_of t → list_all (λ s. list_all (among (names (nets t))) (used s)) t.stmts ≡ true → Lacks t ts Undeclared
+  none-undeclared tokens all _ (undeclared k a n low at name none) = cc (sym none ∙ all-used (among (names (nets t))) t.stmts n all (token-used t ts tokens k a n low at name))
+
   -- without problems the tree is well-formed
   pub well-formed : spelling.tokens_of ts ≡ tree.tokens_of t → Lacks t ts Twice → Lacks t ts Undeclared → Lacks t ts Driver → Lacks t ts Width → (rank : List ℕ → ℕ) → Rises rank t.stmts → IsWellFormed t
   well-formed tokens a b c d rank rises =
       let wells : list_all (drives_well (nets t)) t.stmts ≡ true = all-from (drives_well (nets t)) t.stmts (λ i s at bad. c _ (drives_badly i s at bad)) in
       record {
         once = once-from a;
-        declared = used-all (among (names (nets t))) t.stmts (λ n u. known n u (among (names (nets t)) n) refl);
+        declared = declared-from tokens b;
         drives = wells;
         single = distinct-from (map target t.stmts) single_targets;
         driven_all = all-from (λ n. same_kind n.kind Given || among (map target t.stmts) n.name) (nets t) (undriven wells);
@@ -174,10 +185,6 @@ module _ (t : Tree) (ts : List (At Token)) where
         rises = rises;
       }
     where
-      known : (n : List ℕ) → among (flat_map used t.stmts) n ≡ true → (x : Bool) → among (names (nets t)) n ≡ x → among (names (nets t)) n ≡ true
-      known n u true e = e
-      known n u false e = let (k, s, low, at, name) = used-token t ts tokens n u in absurd (b _ (undeclared k s n low at name e))
-
       single_targets : (i : ℕ) (n : List ℕ) → slice_get (map target t.stmts) i ≡ Some n → among (take i (map target t.stmts)) n ≡ true → ⊥
       single_targets i n at again =
           let (s, here, is) = map-get t.stmts i n at in
@@ -201,7 +208,7 @@ module _ (t : Tree) (ts : List (At Token)) where
   -- and a well-formed tree has none
   pub no-problem : spelling.tokens_of ts ≡ tree.tokens_of t → IsWellFormed t → (p : Problem) (k : ℕ) → Faulty t ts p k → ⊥
   no-problem tokens f _ _ (twice i n at a) = distinct-apart (names (nets t)) i n f.once at a
-  no-problem tokens f _ _ (undeclared k a n low at name none) = cc (sym none ∙ all-used (among (names (nets t))) t.stmts n f.declared (token-used t ts tokens k a n low at name))
+  no-problem tokens f _ _ (undeclared k a n low at name none) = none-undeclared tokens f.declared _ (undeclared k a n low at name none)
   no-problem tokens f _ _ (drives_badly i s at bad) = cc (sym bad ∙ all-get (drives_well (nets t)) t.stmts i s f.drives at)
   no-problem tokens f _ _ (second_driver i s at second) =
       let (j, m, there, before) = any-index (among (all_driven (take i t.stmts))) (driven_by s) second in

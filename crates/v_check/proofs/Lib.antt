@@ -8,4 +8,5 @@ mod Looping
 mod Parts
 mod Sizing
 mod Spelled
+mod Stages
 mod Tables

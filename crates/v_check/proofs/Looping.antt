@@ -2,7 +2,7 @@
 use Rattle.std.specs.List.{AllByRecursion, list_any}
 use Rattle.std.specs.Option.{option_map_or}
 use Rattle.std.specs.Str.{bytes_eq}
-use Rattle.std.proofs.Common.{◌≡◌, ℕ, zero, suc, ◌+◌, ◌<◌, Bool, true, false, not, if◌then◌else◌, Option, Some, None, IfNone, is_some, List, [], ◌∷◌, ◌++◌, length, take, get_or, slice_get, refl, ap, sym, ◌∙◌, subst, inl, inr, add-one, arith, Bor}
+use Rattle.std.proofs.Common.{◌≡◌, ℕ, zero, suc, ◌+◌, ◌<◌, Bool, true, false, not, if◌then◌else◌, Option, Some, None, IfNone, is_some, List, [], ◌∷◌, ◌++◌, length, take, get_or, slice_get, refl, ap, sym, ◌∙◌, subst, inl, inr, add-one, arith, map}
 use Rattle.std.proofs.lemmas.Bool.{cases_lt, or_cases}
 use Rattle.std.proofs.lemmas.List.{length-map, append-nil}
 use Rattle.rb_base.specs.declared.place.Place.{Place}
@@ -19,11 +19,9 @@ use Rattle.v_design.specs.declared.design.Stmt.{Stmt}
 use Rattle.v_syntax.specs.Faulty.{GoesOn, all_driven, driven_by, feeds}
 use Rattle.v_syntax.specs.Syntax.{AreStatements, IsStatement}
 use Rattle.v_syntax.specs.declared.parsed.Event.{Event}
-use Rattle.v_check.specs.declared.drivers.Drivers.{Drivers}
-use Rattle.v_check.specs.Drivers.{AreDrivers, AreNumbers, IsSingle, driver_at}
+use Rattle.v_check.specs.Drivers.{AreDrivers, AreNumbers, IsSingle}
 use Rattle.v_check.specs.Found.{Finds, Stands}
 use Rattle.v_check.specs.Loops.{IsLooping, IsUnranked, all_needs, numbers_of, stmt_needs, with_number}
-use Rattle.v_check.specs.Nets.{texts}
 use Rattle.v_check.proofs.Driving.{nets-statement, any-append}
 use Rattle.plain_lemmas.proofs.Lists.{any-get as any-at, get-within, mapped-at, some-at}
 
@@ -89,19 +87,19 @@ in-numbers number (m ∷ ms) k i h = go (number m) refl k h (λ k h. in-numbers 
     go (Some j) e (suc k) h rest = later (rest k h)
 
 -- each need of a statement is a statement
-pub needs-within : (drivers : Drivers) (stmts : List Stmt) (needs : List (List ℕ)) → needs ≡ all_needs (driver_at drivers) stmts → AreNumbers drivers (length stmts) → AreWithin needs
+pub needs-within : (drivers : List ℕ → Option ℕ) (stmts : List Stmt) (needs : List (List ℕ)) → needs ≡ all_needs drivers stmts → AreNumbers drivers (length stmts) → AreWithin needs
 needs-within drivers stmts needs is numbers i k j need =
-    let long : length needs ≡ length stmts = (let a = ap length is in let c = length-map stmts (stmt_needs (driver_at drivers)) in omega (arith, a, c)) in
+    let long : length needs ≡ length stmts = (let a = ap length is in let c = length-map stmts (stmt_needs drivers) in omega (arith, a, c)) in
     let l = at-list stmts i (ap (λ ls. slice_get (get_or ls i []) k) (sym is) ∙ need) in
     omega (arith, l, long)
   where
-    at-list : (xs : List Stmt) (i : ℕ) → slice_get (get_or (all_needs (driver_at drivers) xs) i []) k ≡ Some j → j < length stmts
+    at-list : (xs : List Stmt) (i : ℕ) → slice_get (get_or (all_needs drivers xs) i []) k ≡ Some j → j < length stmts
     at-list [] i h = cc h
     at-list (x ∷ xs) zero h = go x.clocked h
       where
-        go : (b : Bool) → slice_get (if b then [] else numbers_of (driver_at drivers) (nets_of (expr_seen x.expr))) k ≡ Some j → j < length stmts
+        go : (b : Bool) → slice_get (if b then [] else numbers_of drivers (nets_of (expr_seen x.expr))) k ≡ Some j → j < length stmts
         go true h = cc h
-        go false h = let (n, a, e) = in-numbers (driver_at drivers) (nets_of (expr_seen x.expr)) k j h in numbers n j e
+        go false h = let (n, a, e) = in-numbers drivers (nets_of (expr_seen x.expr)) k j h in numbers n j e
     at-list (x ∷ xs) (suc i) h = at-list xs i h
 
 -- the statement of the program of a number
@@ -134,8 +132,8 @@ only x n h = elim (or_cases (bytes_eq x n) false h) [ inl e ↦ same-true x n e 
 drives-own : (to : List ℕ) → among (to ∷ []) to ≡ true
 drives-own to = or-left (bytes_eq to to) false (same-refl to)
 
-module _ (drivers : Drivers) (stmts : List Stmt) (events : List Event) (ss : List Statement) (are : AreStatements stmts events ss) (d : AreDrivers drivers ss) (single : IsSingle ss)
-    (needs : List (List ℕ)) (is : needs ≡ all_needs (driver_at drivers) stmts) (ranks : List (Option ℕ)) (order : List ℕ) (ranked : AreLevels needs ranks order) where
+module _ (drivers : List ℕ → Option ℕ) (stmts : List Stmt) (events : List Event) (ss : List Statement) (are : AreStatements stmts events ss) (d : AreDrivers drivers ss) (single : IsSingle ss)
+    (needs : List (List ℕ)) (is : needs ≡ all_needs drivers stmts) (ranks : List (Option ℕ)) (order : List ℕ) (ranked : AreLevels needs ranks order) where
   earlier : (i j : ℕ) (s t : Statement) (n : List ℕ) → slice_get ss i ≡ Some s → slice_get ss j ≡ Some t → among (driven_by s) n ≡ true → among (driven_by t) n ≡ true → i < j → ⊥
   earlier i j s t n a b p q l =
       let e : list_any (among (all_driven (take j ss))) (driven_by t) ≡ true = any-among (among (all_driven (take j ss))) (driven_by t) n q (driven-among (take j ss) i s n (take-at ss i j s a l) p) in
@@ -149,25 +147,25 @@ module _ (drivers : Drivers) (stmts : List Stmt) (events : List Event) (ss : Lis
   ]
 
   -- and that has its number
-  driver-is : (i : ℕ) (s : Statement) (n : List ℕ) → slice_get ss i ≡ Some s → among (driven_by s) n ≡ true → driver_at drivers n ≡ Some i
-  driver-is i s n a p = go (driver_at drivers n) refl (d.driven n ∙ driven-among ss i s n a p)
+  driver-is : (i : ℕ) (s : Statement) (n : List ℕ) → slice_get ss i ≡ Some s → among (driven_by s) n ≡ true → drivers n ≡ Some i
+  driver-is i s n a p = go (drivers n) refl (d.driven n ∙ driven-among ss i s n a p)
     where
-      go : (o : Option ℕ) → driver_at drivers n ≡ o → is_some (driver_at drivers n) ≡ true → driver_at drivers n ≡ Some i
+      go : (o : Option ℕ) → drivers n ≡ o → is_some (drivers n) ≡ true → drivers n ≡ Some i
       go None e t = cc (sym (ap is_some e) ∙ t)
       go (Some j) e t = let (u, b, q) = d.at n j e in let same = one-driver j i u s n b a q p in e ∙ ap Some same
 
-  needs-at : (i : ℕ) (x : Stmt) → slice_get stmts i ≡ Some x → get_or needs i [] ≡ stmt_needs (driver_at drivers) x
-  needs-at i x at = ap (λ l. get_or l i []) is ∙ mapped-at (stmt_needs (driver_at drivers)) stmts i x [] at
+  needs-at : (i : ℕ) (x : Stmt) → slice_get stmts i ≡ Some x → get_or needs i [] ≡ stmt_needs drivers x
+  needs-at i x at = ap (λ l. get_or l i []) is ∙ mapped-at (stmt_needs drivers) stmts i x [] at
 
-  needs-assign : (i : ℕ) (to : List ℕ) (e : Term) → slice_get ss i ≡ Some (Assign to e) → get_or needs i [] ≡ numbers_of (driver_at drivers) (nets_of (expr_of e))
+  needs-assign : (i : ℕ) (to : List ℕ) (e : Term) → slice_get ss i ≡ Some (Assign to e) → get_or needs i [] ≡ numbers_of drivers (nets_of (expr_of e))
   needs-assign i to e at =
       let (x, v, there, st) = statement-of stmts events ss i (Assign to e) are at in
       needs-at i x there
-      ∙ (ap (λ b. if b then [] else numbers_of (driver_at drivers) (nets_of (expr_seen x.expr))) (ap (λ y. y.clocked) st.does)
-      ∙ ap (numbers_of (driver_at drivers)) (nets-statement x v (Assign to e) st))
+      ∙ (ap (λ b. if b then [] else numbers_of drivers (nets_of (expr_seen x.expr))) (ap (λ y. y.clocked) st.does)
+      ∙ ap (numbers_of drivers) (nets-statement x v (Assign to e) st))
 
   counts : length needs ≡ length ss
-  counts = let a = ap length is in let c = length-map stmts (stmt_needs (driver_at drivers)) in let e = same-count stmts events ss are in omega (arith, a, c, e)
+  counts = let a = ap length is in let c = length-map stmts (stmt_needs drivers) in let e = same-count stmts events ss are in omega (arith, a, c, e)
 
   -- an assignment that has no rank
   record Stuck : Type 0 where
@@ -187,7 +185,7 @@ module _ (drivers : Drivers) (stmts : List Stmt) (events : List Event) (ss : Lis
       no-need s at clocked =
           let (k, j, need, none) = ranked.stays i l free in
           let (x, v, there, st) = statement-of stmts events ss i s are at in
-          let e : get_or needs i [] ≡ [] = needs-at i x there ∙ ap (λ b. if b then [] else numbers_of (driver_at drivers) (nets_of (expr_seen x.expr))) (clocked x v st) in
+          let e : get_or needs i [] ≡ [] = needs-at i x there ∙ ap (λ b. if b then [] else numbers_of drivers (nets_of (expr_seen x.expr))) (clocked x v st) in
           cc (sym (ap (λ ks. slice_get ks k) e) ∙ need)
 
       go : (s : Statement) → slice_get ss i ≡ Some s → (x : Stuck) × (x.number ≡ i)
@@ -199,7 +197,7 @@ module _ (drivers : Drivers) (stmts : List Stmt) (events : List Event) (ss : Lis
   next x =
       let c = counts in let l = get-within ss x.number (Assign x.to x.term) x.at in
       let (k, j, need, none) = ranked.stays x.number (omega (arith, l, c)) x.free in
-      let (n, a, e) = in-numbers (driver_at drivers) (nets_of (expr_of x.term)) k j (ap (λ ks. slice_get ks k) (sym (needs-assign x.number x.to x.term x.at)) ∙ need) in
+      let (n, a, e) = in-numbers drivers (nets_of (expr_of x.term)) k j (ap (λ ks. slice_get ks k) (sym (needs-assign x.number x.to x.term x.at)) ∙ need) in
       let (s, b, q) = d.at n j e in
       let m = get-within ss j s b in
       let (y, same) = stuck-at j (omega (arith, m, c)) none in
@@ -237,7 +235,7 @@ module _ (drivers : Drivers) (stmts : List Stmt) (events : List Event) (ss : Lis
       let (j2, s2, there2, fed2) = any-index (feeds (g.path 2) (g.path 1)) ss (g.step 1) in
       let (x2, e2, is_s2, x2_to, reads2) = feeds-assign (g.path 2) (g.path 1) s2 fed2 in
       let drives2 : among (driven_by s2) (g.path 1) ≡ true = ap (λ t. among (driven_by t) (g.path 1)) is_s2 ∙ (ap (λ y. among (y ∷ []) (g.path 1)) x2_to ∙ drives-own (g.path 1)) in
-      let (k, number) = number-in (driver_at drivers) (nets_of (expr_of e)) (g.path 1) j2 reads' (driver-is j2 s2 (g.path 1) there2 drives2) in
+      let (k, number) = number-in drivers (nets_of (expr_of e)) (g.path 1) j2 reads' (driver-is j2 s2 (g.path 1) there2 drives2) in
       let (q, rank2, lower) = ranked.rises i r k j2 rank (ap (λ ks. slice_get ks k) (needs-assign i to e at) ∙ number) in
       no-way b j2 q x2 e2 (there2 ∙ ap Some is_s2) rank2 (omega (arith, l, lower)) (record { path = λ m. g.path (m + 1); begins = sym x2_to; step = λ m. g.step (m + 1) })
 
@@ -258,16 +256,16 @@ module _ (drivers : Drivers) (stmts : List Stmt) (events : List Event) (ss : Lis
 
   -- where each has a rank, the ranks rise along the assignments
   rank-of : List ℕ → ℕ
-  rank-of n = option_map_or (λ i. option_map_or suc (rank_at ranks i) 0) (driver_at drivers n) 0
+  rank-of n = option_map_or (λ i. option_map_or suc (rank_at ranks i) 0) (drivers n) 0
 
   pub ranks-rise : ((i : ℕ) → IsUnranked ranks i → ⊥) → (rank : List ℕ → ℕ) × Rises rank ss
   unfolding rank-of
   ranks-rise none = (rank-of, all-at (RisesAlong rank-of) ss along)
     where
-      below : (i r : ℕ) (n : List ℕ) (ks : List ℕ) → rank_at ranks i ≡ Some r → ((j : ℕ) → driver_at drivers n ≡ Some j → (k : ℕ) × (need_at needs i k ≡ Some j)) → rank-of n < suc r
-      below i r n ks rank need = go (driver_at drivers n) refl
+      below : (i r : ℕ) (n : List ℕ) (ks : List ℕ) → rank_at ranks i ≡ Some r → ((j : ℕ) → drivers n ≡ Some j → (k : ℕ) × (need_at needs i k ≡ Some j)) → rank-of n < suc r
+      below i r n ks rank need = go (drivers n) refl
         where
-          go : (o : Option ℕ) → driver_at drivers n ≡ o → rank-of n < suc r
+          go : (o : Option ℕ) → drivers n ≡ o → rank-of n < suc r
           go None e = let z : rank-of n ≡ 0 = ap (λ o. option_map_or (λ i. option_map_or suc (rank_at ranks i) 0) o 0) e in omega (arith, z)
           go (Some j) e =
               let (k, at) = need j e in
@@ -291,25 +289,29 @@ module _ (drivers : Drivers) (stmts : List Stmt) (events : List Event) (ss : Lis
           let top : rank-of to ≡ suc r = ap (λ o. option_map_or (λ i. option_map_or suc (rank_at ranks i) 0) o 0) (driver-is i (Assign to e) to at (drives-own to)) ∙ ap (λ o. option_map_or suc o 0) rank in
           all-among (λ n. rank-of n < rank-of to) (nets_of (expr_of e))
           (λ n a. subst (λ m. rank-of n < m) (sym top)
-          (below i r n [] rank (λ j drives. let (k, number) = number-in (driver_at drivers) (nets_of (expr_of e)) n j a drives in (k, ap (λ ks. slice_get ks k) (needs-assign i to e at) ∙ number))))
+          (below i r n [] rank (λ j drives. let (k, number) = number-in drivers (nets_of (expr_of e)) n j a drives in (k, ap (λ ks. slice_get ks k) (needs-assign i to e at) ∙ number))))
 
   pub rises-if-none : (places : List ℕ) (found : Option Place) → Finds (Stands (IsUnranked ranks) places) found → IfNone found ((rank : List ℕ → ℕ) × Rises rank ss)
   rises-if-none places None h = ranks-rise (λ i u. h (get_or places i 0) (i, u, refl))
   rises-if-none places (Some p) h = tt
 
--- the names of a front, and their numbers
-pub numbers-more : (number : List ℕ → Option ℕ) (ts : List (Bor (List ℕ))) (i : ℕ) (e : Bor (List ℕ)) → i < length ts
-    → numbers_of number (texts (take (i + 1) ts)) ≡ numbers_of number (texts (take i ts)) ++ with_number (number (get_or ts i e).now) []
-numbers-more number ts i e l = ap (λ n. numbers_of number (texts (take n ts))) (add-one i) ∙ go ts i l
+-- the things of a front, and their numbers
+pub numbers-more : {A : Type 0} (number : A → Option ℕ) (ts : List A) (i : ℕ) (e : A) → i < length ts
+    → numbers_of number (take (i + 1) ts) ≡ numbers_of number (take i ts) ++ with_number (number (get_or ts i e)) []
+numbers-more {A} number ts i e l = ap (λ n. numbers_of number (take n ts)) (add-one i) ∙ go ts i l
   where
     behind : (o : Option ℕ) (xs ys zs : List ℕ) → xs ≡ ys ++ zs → with_number o xs ≡ with_number o ys ++ zs
     behind None xs ys zs h = h
     behind (Some j) xs ys zs h = ap (λ l. j ∷ l) h
 
-    go : (ts : List (Bor (List ℕ))) (i : ℕ) → i < length ts → numbers_of number (texts (take (suc i) ts)) ≡ numbers_of number (texts (take i ts)) ++ with_number (number (get_or ts i e).now) []
+    go : (ts : List A) (i : ℕ) → i < length ts → numbers_of number (take (suc i) ts) ≡ numbers_of number (take i ts) ++ with_number (number (get_or ts i e)) []
     go [] i l = absurd (omega (arith, l))
     go (t ∷ ts) zero l = refl
-    go (t ∷ ts) (suc i) l = behind (number t.now) (numbers_of number (texts (take (suc i) ts))) (numbers_of number (texts (take i ts))) (with_number (number (get_or ts i e).now) []) (go ts i (omega (arith, l)))
+    go (t ∷ ts) (suc i) l = behind (number t) (numbers_of number (take (suc i) ts)) (numbers_of number (take i ts)) (with_number (number (get_or ts i e)) []) (go ts i (omega (arith, l)))
+
+pub numbers-map : {A B : Type 0} (number : B → Option ℕ) (f : A → B) (ts : List A) → numbers_of number (map f ts) ≡ numbers_of (λ t. number (f t)) ts
+numbers-map number f [] = refl
+numbers-map number f (t ∷ ts) = ap (with_number (number (f t))) (numbers-map number f ts)
 
 pub unranked-test : (ranks : List (Option ℕ)) (i : ℕ) (b : Bool) → i < length ranks → is_some (rank_at ranks i) ≡ not b → (IsUnranked ranks i → b ≡ true) × (b ≡ true → IsUnranked ranks i)
 unranked-test ranks i b l h = (λ u. go (rank_at ranks i) b u.1 h, λ t. (l, back (rank_at ranks i) (h ∙ ap not t)))
@@ -323,11 +325,11 @@ unranked-test ranks i b l h = (λ u. go (rank_at ranks i) b u.1 h, λ t. (l, bac
     back None h = refl
     back (Some r) h = cc h
 
-pub number-pushed : (number : List ℕ → Option ℕ) (ts : List (Bor (List ℕ))) (i : ℕ) (e : Bor (List ℕ)) (xs : List ℕ) (j : ℕ) → i < length ts → xs ≡ numbers_of number (texts (take i ts)) → Some j ≡ number (get_or ts i e).now
-    → xs ++ j ∷ [] ≡ numbers_of number (texts (take (i + 1) ts))
-number-pushed number ts i e xs j l h is = ap (λ l. l ++ j ∷ []) h ∙ (ap (λ o. numbers_of number (texts (take i ts)) ++ with_number o []) is ∙ sym (numbers-more number ts i e l))
+pub number-pushed : {A : Type 0} (number : A → Option ℕ) (ts : List A) (i : ℕ) (e : A) (xs : List ℕ) (j : ℕ) → i < length ts → xs ≡ numbers_of number (take i ts) → Some j ≡ number (get_or ts i e)
+    → xs ++ j ∷ [] ≡ numbers_of number (take (i + 1) ts)
+number-pushed number ts i e xs j l h is = ap (λ l. l ++ j ∷ []) h ∙ (ap (λ o. numbers_of number (take i ts) ++ with_number o []) is ∙ sym (numbers-more number ts i e l))
 
-pub number-skipped : (number : List ℕ → Option ℕ) (ts : List (Bor (List ℕ))) (i : ℕ) (e : Bor (List ℕ)) (xs : List ℕ) → i < length ts → xs ≡ numbers_of number (texts (take i ts)) → None ≡ number (get_or ts i e).now
-    → xs ≡ numbers_of number (texts (take (i + 1) ts))
+pub number-skipped : {A : Type 0} (number : A → Option ℕ) (ts : List A) (i : ℕ) (e : A) (xs : List ℕ) → i < length ts → xs ≡ numbers_of number (take i ts) → None ≡ number (get_or ts i e)
+    → xs ≡ numbers_of number (take (i + 1) ts)
 number-skipped number ts i e xs l h is =
-    h ∙ (sym (append-nil (numbers_of number (texts (take i ts)))) ∙ (ap (λ o. numbers_of number (texts (take i ts)) ++ with_number o []) is ∙ sym (numbers-more number ts i e l)))
+    h ∙ (sym (append-nil (numbers_of number (take i ts))) ∙ (ap (λ o. numbers_of number (take i ts) ++ with_number o []) is ∙ sym (numbers-more number ts i e l)))

@@ -1,5 +1,5 @@
 -- The parts of a module that was parsed, as those of its tree.
-use Rattle.std.proofs.Common.{◌≡◌, ℕ, suc, ◌+◌, List, [], ◌∷◌, ◌++◌, length, map, refl, ap, ◌∙◌, arith, length-append}
+use Rattle.std.proofs.Common.{◌≡◌, ℕ, suc, ◌+◌, Option, List, [], ◌∷◌, ◌++◌, length, map, refl, ap, ◌∙◌, arith, length-append}
 use Rattle.std.proofs.lemmas.List.{length-map}
 use Rattle.rb_base.specs.declared.ports.Port.{Port}
 use Rattle.rb_base.specs.declared.place.Place.{Place}
@@ -15,7 +15,6 @@ use Rattle.v_syntax.specs.declared.parsed.Event.{Event}
 use Rattle.v_syntax.specs.declared.parsed.Parsed.{Parsed}
 use Rattle.v_check.specs.Drivers.{AreDrivers, AreNumbers}
 use Rattle.v_check.specs.Nets.{declared_nets, net_seen, nets_seen, numbers}
-use Rattle.v_check.specs.declared.drivers.Drivers.{Drivers}
 use Rattle.v_check.specs.declared.nets.Net.{Net as NetOf}
 use Rattle.v_check.proofs.Looping.{same-count}
 use Rattle.plain_lemmas.proofs.Lists.{get-within}
@@ -56,7 +55,7 @@ events-count (x ∷ xs) [] ts h = absurd h
 events-count (x ∷ xs) (e ∷ es) [] h = absurd h
 events-count (x ∷ xs) (e ∷ es) (t ∷ ts) h = ap suc (events-count xs es ts h.1)
 
-pub numbers-low : (drivers : Drivers) (xs : List Stmt) (es : List Event) (ts : List Statement) → AreStatements xs es ts → AreDrivers drivers ts → AreNumbers drivers (length xs)
+pub numbers-low : (drivers : List ℕ → Option ℕ) (xs : List Stmt) (es : List Event) (ts : List Statement) → AreStatements xs es ts → AreDrivers drivers ts → AreNumbers drivers (length xs)
 numbers-low drivers xs es ts are d n i e =
     let (s, at, own) = d.at n i e in
     let l = get-within ts i s at in

@@ -4,3 +4,4 @@ pub mod Judged
 pub mod Loops
 pub mod Nets
 pub mod Sizes
+pub mod Uses

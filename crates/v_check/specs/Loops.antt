@@ -7,12 +7,12 @@ use Rattle.v_design.specs.Tree.{Statement, Term, Assign}
 use Rattle.v_design.specs.declared.design.Stmt.{Stmt}
 use Rattle.v_syntax.specs.Faulty.{GoesOn}
 
--- the numbers of the names that have one
+-- the numbers of the things that have one
 abbrev pub with_number : Option ℕ → List ℕ → List ℕ
 with_number None is = is
 with_number (Some i) is = i ∷ is
 
-abbrev pub numbers_of : (List ℕ → Option ℕ) → List (List ℕ) → List ℕ
+abbrev pub numbers_of : {A : Type 0} → (A → Option ℕ) → List A → List ℕ
 numbers_of number [] = []
 numbers_of number (n ∷ ns) = with_number (number n) (numbers_of number ns)
 

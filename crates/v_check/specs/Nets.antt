@@ -1,11 +1,9 @@
 -- The declared nets of a module that was parsed.
-use Rattle.std.specs.Prelude.{◌≡◌, ℕ, ◌≤◌, Bool, false, not, IsTrue, if◌then◌else◌, Option, Some, None, List, [], ◌∷◌, ◌++◌, map, take, slice_get}
-use Rattle.std.specs.Option.{option_map_or}
+use Rattle.std.specs.Prelude.{◌≡◌, ℕ, suc, ◌≤◌, Bool, false, not, IsTrue, if◌then◌else◌, Option, Some, None, option_map, unwrap_or, List, [], ◌∷◌, ◌++◌, length, map, take, slice_get}
 use Rattle.std.specs.Str.{bytes_eq}
 use Rattle.std.specs.BTreeMap.{get_by}
 use Rattle.std.specs.Cmp.Lexicographic.{slice_cmp}
 use Rattle.std.specs.Ordering.{nat_cmp}
-use denote.Ref.{Bor}
 use Rattle.rb_base.specs.declared.place.Place.{Place}
 use Rattle.rb_base.specs.declared.ports.Port.{Port}
 use Rattle.rb_grammar.specs.Spelling.{At}
@@ -17,10 +15,6 @@ use Rattle.v_check.specs.declared.nets.Kind.{Kind as KindOf}
 use Rattle.v_check.specs.declared.nets.Kind.TheVariants as kind
 use Rattle.v_check.specs.declared.nets.Net.{Net as NetOf}
 use Rattle.v_check.specs.declared.nets.Table.{Table}
-
--- texts as lists of bytes
-abbrev pub texts : List (Bor (List ℕ)) → List (List ℕ)
-texts ts = map (λ t. t.now) ts
 
 -- places as numbers
 abbrev pub numbers : List Place → List ℕ
@@ -47,13 +41,22 @@ abbrev pub first_net : List NetOf → List ℕ → Option NetOf
 first_net [] n = None
 first_net (d ∷ ds) n = if bytes_eq d.name.now n then Some d else first_net ds n
 
--- what a table has at a name
-abbrev pub net_at : Table → List ℕ → Option NetOf
-net_at table n = get_by (λ k. slice_cmp nat_cmp n k.now) table.nets
+-- its number
+abbrev pub first_number : List NetOf → List ℕ → Option ℕ
+first_number [] n = None
+first_number (d ∷ ds) n = if bytes_eq d.name.now n then Some 0 else option_map suc (first_number ds n)
 
--- a table has the first net of each name
+-- the same, or how many nets there are, where none has the name
+abbrev pub number_of : List NetOf → List ℕ → ℕ
+number_of ns n = unwrap_or (first_number ns n) (length ns)
+
+-- what a table has at a name
+abbrev pub number_at : Table → List ℕ → Option ℕ
+number_at table n = get_by (λ k. slice_cmp nat_cmp n k.now) table.numbers
+
+-- a table has the number of the first net of each name
 pub record AreNets (table : Table) (nets : List NetOf) : Type 0 where
-  pub at : (n : List ℕ) → net_at table n ≡ first_net nets n
+  pub at : (n : List ℕ) → number_at table n ≡ first_number nets n
 
 -- the name of this number stands before it already
 abbrev pub IsTwice : List (List ℕ) → ℕ → Type 0
@@ -63,10 +66,6 @@ IsTwice ns i = (n : List ℕ) × (slice_get ns i ≡ Some n) × IsTrue (among (t
 abbrev pub width_in : List Net → Widths
 width_in [] n = 0
 width_in (d ∷ ds) n = if bytes_eq d.name n then d.width else width_in ds n
-
--- the widths that a table has
-abbrev pub widths_at : Table → Widths
-widths_at table n = option_map_or (λ d. d.width) (net_at table n) 0
 
 -- the places of tokens
 abbrev pub token_places : List (At Token) → List ℕ

@@ -1,61 +1,51 @@
 //! What drives each net.
 
-ghost use Rattle.std.specs.Prelude.{◌≡◌, ◌&&◌, true, not, length, ℕ, List, IfOk, Some, None, is_some, if◌then◌else◌};
-ghost use Rattle.std.specs.List.{list_any};
-ghost use Rattle.std.specs.Str.{bytes_eq};
-ghost use Rattle.v_design.specs.Expr.{nets_of};
-ghost use Rattle.v_design.specs.Lexemes.{among};
-ghost use Rattle.v_design.specs.Seen.{expr_seen};
+ghost use Rattle.std.specs.Prelude.{◌≡◌, ◌&&◌, true, not, length, nat_lt, List, IfOk};
+ghost use Rattle.std.specs.List.{list_all};
 ghost use Rattle.v_design.specs.Tree.{Statement};
-ghost use Rattle.v_design.specs.WellFormed.{clock, distinct, drives_its_kind as drives_kind, drives_well as well_driven, is_clock as clocks, is_reset as resets, names};
+ghost use Rattle.v_design.specs.WellFormed.{distinct, drives_its_kind as drives_kind, drives_well as well_driven, is_clock as clocks, is_reset as resets, names};
 ghost use Rattle.v_syntax.specs.Syntax.{AreStatements, IsStatement};
-ghost use Rattle.v_check.specs.Drivers.{AreDrivers, IsMisdriven, IsUndriven, driven_names, driver_at};
+ghost use Rattle.v_check.specs.Drivers.{AreDrivers, IsMisdriven, IsUndriven, again_of, are_declared, driver_at};
 ghost use Rattle.v_check.specs.Found.{Finds, Stands};
-ghost use Rattle.v_check.specs.Nets.{AreNets, nets_seen, numbers};
+ghost use Rattle.v_check.specs.Nets.{AreNets, nets_seen, number_of, numbers};
 ghost use Rattle.v_check.specs.Sizes.{stmt_places};
-ghost use Rattle.v_check.specs.declared.nets.Net.{Net as NetOf};
+ghost use Rattle.v_check.specs.Uses.{AreUses};
 
 use crate::found::note;
-use crate::names::{bytes_of, nets_in};
-use crate::nets::{Kind, Net, Table};
+use crate::names::{bytes_of, names_clock, reads_clock};
+use crate::nets::{Kind, Net, Table, is_kind, is_pin};
+use crate::widths::Uses;
 use rb_base::{NoMemory, Place};
 use std::alloc::Global;
-use std::collections::BTreeMap;
-use v_design::{Stmt, VExpr};
+use v_design::Stmt;
 use v_syntax::Event;
 
-/// Whether the name is that of the clock, PCLK (AMBA 3 APB, IHI 0024B, chapter 4).
-fn names_clock(name: &[u8]) -> bool
-    ensures { result ≡ bytes_eq name.now clock }
-{
-    name == b"PCLK".as_slice()
-}
-
 /// Whether the name is that of a one-bit input PCLK.
-fn is_clock(table: &Table, name: &[u8]) -> bool
-    ensures { (ns : List NetOf) → AreNets table.now ns → distinct (names (nets_seen ns)) ≡ true
-        → result ≡ clocks (nets_seen ns) name.now }
+fn is_clock(table: &Table, nets: &[Net], name: &[u8]) -> bool
+    requires { AreNets table.now nets.now }
+    ensures { distinct (names (nets_seen nets.now)) ≡ true → result ≡ clocks (nets_seen nets.now) name.now }
 {
-    table.is_pin(name) && names_clock(name)
+    is_pin(nets, table.number(nets, name)) && names_clock(name)
 }
 
 /// Whether the name is that of a one-bit input other than PCLK.
-fn is_reset(table: &Table, name: &[u8]) -> bool
-    ensures { (ns : List NetOf) → AreNets table.now ns → distinct (names (nets_seen ns)) ≡ true
-        → result ≡ resets (nets_seen ns) name.now }
+fn is_reset(table: &Table, nets: &[Net], name: &[u8]) -> bool
+    requires { AreNets table.now nets.now }
+    ensures { distinct (names (nets_seen nets.now)) ≡ true → result ≡ resets (nets_seen nets.now) name.now }
 {
-    table.is_pin(name) && !names_clock(name)
+    is_pin(nets, table.number(nets, name)) && !names_clock(name)
 }
 
 /// Whether a statement drives a net of its kind, at the clock and under a reset as it should.
-fn drives_its_kind(table: &Table, stmt: &Stmt, event: &Event) -> bool
-    ensures { (ns : List NetOf) → AreNets table.now ns → distinct (names (nets_seen ns)) ≡ true
-        → (s : Statement) → IsStatement stmt.now event.now s → result ≡ drives_kind (nets_seen ns) s }
+fn drives_its_kind(table: &Table, nets: &[Net], target: usize, stmt: &Stmt, event: &Event) -> bool
+    requires nets { AreNets table.now nets.now }
+    requires target { target ≡ number_of nets.now stmt.now.to }
+    ensures { distinct (names (nets_seen nets.now)) ≡ true → (s : Statement) → IsStatement stmt.now event.now s
+        → result ≡ drives_kind (nets_seen nets.now) s }
 {
-    let to = bytes_of(&stmt.to);
     match event {
-        Event::None => table.has(Kind::Wired, to),
-        Event::Clock(clock) => table.has(Kind::Kept, to) && is_clock(table, clock),
+        Event::None => is_kind(nets, target, Kind::Wired),
+        Event::Clock(clock) => is_kind(nets, target, Kind::Kept) && is_clock(table, nets, clock),
         Event::Reset {
             clock,
             negated,
@@ -64,139 +54,183 @@ fn drives_its_kind(table: &Table, stmt: &Stmt, event: &Event) -> bool
         } => match &stmt.reset {
             Some(reset) => {
                 let pin = bytes_of(&reset.pin);
-                table.has(Kind::Kept, to)
-                    && is_clock(table, clock)
-                    && is_reset(table, pin)
+                is_kind(nets, target, Kind::Kept)
+                    && is_clock(table, nets, clock)
+                    && is_reset(table, nets, pin)
                     && *test == pin
                     && *negated == reset.low
-                    && *again == to
+                    && *again == bytes_of(&stmt.to)
             }
             None => false,
         },
     }
 }
 
-fn lists_clock(names: &[&[u8]]) -> bool
-    ensures { result ≡ list_any (λ n. bytes_eq n.now clock) names.now }
+/// The number of the net that the last branch of a statement drives.
+fn last_target(table: &Table, nets: &[Net], target: usize, stmt: &Stmt, event: &Event) -> usize
+    requires nets { AreNets table.now nets.now }
+    requires target { target ≡ number_of nets.now stmt.now.to }
+    ensures { result ≡ number_of nets.now (again_of stmt.now event.now) }
 {
-    names.iter().any(|name| names_clock(name))
-}
-
-/// Whether an expression reads PCLK.
-fn reads_clock(alloc: Global, expr: &VExpr) -> Result<bool, NoMemory>
-    ensures { IfOk result (λ r. r ≡ among (nets_of (expr_seen expr.now)) clock) }
-{
-    let mut names = Vec::new(alloc);
-    nets_in(expr, &mut names)?;
-    Ok(lists_clock(&names))
-}
-
-/// Whether a statement drives a net of its kind, and reads no clock.
-fn drives_well(alloc: Global, table: &Table, stmt: &Stmt, event: &Event) -> Result<bool, NoMemory>
-    ensures { IfOk result (λ r. (ns : List NetOf) → AreNets table.now ns → distinct (names (nets_seen ns)) ≡ true
-        → (s : Statement) → IsStatement stmt.now event.now s → r ≡ well_driven (nets_seen ns) s) }
-{
-    if !drives_its_kind(table, stmt, event) {
-        return Ok(false);
+    match event {
+        Event::Reset { again, .. } => {
+            if *again == bytes_of(&stmt.to) {
+                target
+            } else {
+                table.number(nets, again)
+            }
+        }
+        Event::None | Event::Clock(_) => target,
     }
-    let clocked = reads_clock(alloc, &stmt.expr)?;
-    Ok(!clocked)
 }
 
-/// The number of a statement that drives a net, by the net's name.
+/// For each net by its number the number of a statement that drives it.
 #[derive(Drop)]
-pub(crate) struct Drivers<'s> {
-    numbers: BTreeMap<&'s [u8], usize>,
+pub(crate) struct Drivers {
+    numbers: Vec<Option<u32>>,
 }
 
-impl<'s> Drivers<'s> {
-    ghost use Rattle.std.specs.Prelude.{◌≡◌, ℕ, List, IfOk, Some, None, is_some, if◌then◌else◌};
-    ghost use Rattle.std.specs.List.{list_any};
-    ghost use Rattle.std.specs.Str.{bytes_eq};
-    ghost use Rattle.v_design.specs.Lexemes.{among};
-    ghost use Rattle.v_check.specs.Drivers.{driven_names, driver_at};
+impl Drivers {
+    ghost use Rattle.std.specs.Prelude.{◌≡◌, ◌<◌, ◌==◌, ◌||◌, ℕ, length, IfOk, OnOk, Some, None, is_some, if◌then◌else◌};
+    ghost use Rattle.v_check.specs.Drivers.{driver_of};
 
-    /// No statements yet.
-    fn new(alloc: Global) -> Self
-        ensures { (n : List ℕ) → driver_at result n ≡ None }
+    /// So many nets without drivers.
+    fn new(alloc: Global, count: usize) -> Result<Self, NoMemory>
+        ensures none { IfOk result (λ r. (i : ℕ) → driver_of r i ≡ None) }
+        ensures count { IfOk result (λ r. length r.numbers.items ≡ count) }
     {
-        Drivers {
-            numbers: BTreeMap::new(alloc),
+        Ok(Drivers {
+            numbers: vec![in alloc; None; count]?,
+        })
+    }
+
+    /// The number of the statement that drives the net of this number.
+    pub(crate) fn find(&self, net: usize) -> Option<usize>
+        ensures { result ≡ driver_of self.now net }
+    {
+        match self.numbers.get(net) {
+            Some(Some(number)) => Some(*number as usize),
+            _ => None,
         }
     }
 
-    /// The number of the statement that drives the net of this name.
-    pub(crate) fn find(&self, name: &[u8]) -> Option<usize>
-        ensures { result ≡ driver_at self.now name.now }
+    /// Notes a driver of a net, if the net is one of these. A number that takes more than 32 bits is refused like memory.
+    fn insert(&mut self, net: usize, number: usize) -> Result<(), NoMemory>
+        ensures count { OnOk result (length self.new.numbers.items ≡ length self.old.numbers.items) }
+        ensures put { OnOk result (net < length self.old.numbers.items
+            → (i : ℕ) → driver_of self.new i ≡ (if i == net then Some number else driver_of self.old i)) }
     {
-        self.numbers.get(name).copied()
-    }
-
-    /// Whether a net that a statement drives has a driver.
-    fn has_driver(&self, stmt: &Stmt, event: &Event) -> bool
-        ensures { result ≡ list_any (λ n. is_some (driver_at self.now n)) (driven_names stmt.now event.now) }
-    {
-        let driven = self.find(bytes_of(&stmt.to)).is_some();
-        match event {
-            Event::Reset { again, .. } => driven || self.find(again).is_some(),
-            Event::None | Event::Clock(_) => driven,
+        let Ok(number) = u32::try_from(number) else {
+            return Err(NoMemory);
+        };
+        if net < self.numbers.len() {
+            self.numbers[net] = Some(number);
         }
-    }
-
-    fn insert(&mut self, name: &'s [u8], number: usize) -> Result<(), NoMemory>
-        ensures { IfOk result (λ _. (n : List ℕ) → driver_at self.new n ≡ (if bytes_eq name.now n then Some number else driver_at self.old n)) }
-    {
-        self.numbers.insert(name, number)?;
         Ok(())
     }
 
-    /// Notes the nets that a statement drives.
-    fn add(&mut self, stmt: &'s Stmt, event: &Event<'s>, number: usize) -> Result<(), NoMemory>
-        ensures { IfOk result (λ _. (n : List ℕ)
-            → driver_at self.new n ≡ (if among (driven_names stmt.now event.now) n then Some number else driver_at self.old n)) }
+    /// Whether one of two nets has a driver.
+    fn has_driver(&self, net: usize, other: usize) -> bool
+        ensures { result ≡ is_some (driver_of self.now net) || is_some (driver_of self.now other) }
     {
-        self.insert(bytes_of(&stmt.to), number)?;
-        match event {
-            Event::Reset { again, .. } => self.insert(again, number),
-            Event::None | Event::Clock(_) => Ok(()),
-        }
+        self.find(net).is_some() || self.find(other).is_some()
+    }
+
+    /// Notes a driver of two nets, of each if it is one of these.
+    fn add(&mut self, net: usize, other: usize, number: usize) -> Result<(), NoMemory>
+        ensures count { OnOk result (length self.new.numbers.items ≡ length self.old.numbers.items) }
+        ensures put { OnOk result (net < length self.old.numbers.items → other < length self.old.numbers.items
+            → (i : ℕ) → driver_of self.new i ≡ (if (i == net || i == other) then Some number else driver_of self.old i)) }
+    {
+        self.insert(net, number)?;
+        self.insert(other, number)
     }
 }
 
-/// The drivers of nets, and the least place of a statement that drives what it may not, reads the clock, or drives a net
-/// that has a driver before.
-pub(crate) fn misdriven<'s>(
+/// Whether each of these is the number of a net, where there are so many.
+fn are_numbers(numbers: &[u32], count: usize) -> bool
+    ensures { result ≡ list_all (λ i. nat_lt i count) numbers.now }
+{
+    numbers.iter().all(|number| (*number as usize) < count)
+}
+
+/// Whether three things hold.
+fn all_three(one: bool, other: bool, last: bool) -> bool
+    ensures { result ≡ (one && other && last) }
+{
+    one && other && last
+}
+
+/// Whether a statement does not drive a net of its kind, reads the clock, or drives a net that has a driver.
+fn is_misdriven(kind: bool, clocked: bool, again: bool) -> bool
+    ensures { result ≡ not (kind && not clocked && not again) }
+{
+    !kind || clocked || again
+}
+
+/// What drives each net.
+#[derive(Drop)]
+pub(crate) struct Driving {
+    pub drivers: Drivers,
+    /// The least place of a statement that drives what it may not, reads the clock, or drives a net that has a driver
+    /// before.
+    pub misdriven: Option<Place>,
+    /// Whether each name in the statements is seen to be declared.
+    pub declared: bool,
+}
+
+/// The drivers of nets, and which statements drive what they may not. They are told where each name in the statements
+/// is declared, and none twice.
+pub(crate) fn drive_all(
     alloc: Global,
     table: &Table,
-    stmts: &'s [Stmt],
-    events: &[Event<'s>],
-) -> Result<(Drivers<'s>, Option<Place>), NoMemory>
-    requires { length stmts.now ≡ length events.now }
-    ensures drivers { IfOk result (λ r. (ss : List Statement) → AreStatements stmts.now events.now ss → AreDrivers r.0 ss) }
-    ensures found { IfOk result (λ r. (ns : List NetOf) → AreNets table.now ns → distinct (names (nets_seen ns)) ≡ true
-        → (ss : List Statement) → AreStatements stmts.now events.now ss
-        → Finds (Stands (IsMisdriven (nets_seen ns) ss) (stmt_places stmts.now)) r.1) }
+    nets: &[Net],
+    stmts: &[Stmt],
+    events: &[Event],
+    uses: &Uses,
+) -> Result<Driving, NoMemory>
+    requires nets { AreNets table.now nets.now }
+    requires events { length stmts.now ≡ length events.now }
+    requires uses { AreUses (number_of nets.now) uses.now stmts.now }
+    ensures drivers { IfOk result (λ r. (ss : List Statement) → AreStatements stmts.now events.now ss
+        → are_declared (nets_seen nets.now) ss ≡ true → AreDrivers (driver_at nets.now r.drivers) ss) }
+    ensures found { IfOk result (λ r. distinct (names (nets_seen nets.now)) ≡ true → (ss : List Statement) → AreStatements stmts.now events.now ss
+        → are_declared (nets_seen nets.now) ss ≡ true
+        → Finds (Stands (IsMisdriven (nets_seen nets.now) ss) (stmt_places stmts.now)) r.misdriven) }
+    ensures declared { IfOk result (λ r. r.declared ≡ true → distinct (names (nets_seen nets.now)) ≡ true
+        → (ss : List Statement) → AreStatements stmts.now events.now ss → are_declared (nets_seen nets.now) ss ≡ true) }
 {
-    let mut drivers = Drivers::new(alloc);
-    let mut found = None;
+    let mut drivers = Drivers::new(alloc, nets.len())?;
+    let mut misdriven = None;
+    let mut declared = true;
     for (index, stmt) in stmts.iter().enumerate() {
         let event = &events[index];
-        let well = drives_well(alloc, table, stmt, event)?;
-        let again = drivers.has_driver(stmt, event);
-        drivers.add(stmt, event, index)?;
-        found = note(found, !well || again, stmt.place);
+        let target = uses.targets[index];
+        let kind = drives_its_kind(table, nets, target, stmt, event);
+        let read = are_numbers(uses.reads.get(index), nets.len());
+        declared = all_three(declared, kind, read);
+        let last = last_target(table, nets, target, stmt, event);
+        let again = drivers.has_driver(target, last);
+        drivers.add(target, last, index)?;
+        let wrong = is_misdriven(kind, reads_clock(&stmt.expr), again);
+        misdriven = note(misdriven, wrong, stmt.place);
     }
-    Ok((drivers, found))
+    Ok(Driving {
+        drivers,
+        misdriven,
+        declared,
+    })
 }
 
-/// The least place of a net that is no input and has no driver.
+/// The least place of a net that is no input and has no driver, where no name is declared twice.
 pub(crate) fn undriven(drivers: &Drivers, nets: &[Net], places: &[Place]) -> Option<Place>
     requires { length nets.now ≡ length places.now }
-    ensures { Finds (Stands (IsUndriven (nets_seen nets.now) drivers.now) (numbers places.now)) result }
+    ensures { distinct (names (nets_seen nets.now)) ≡ true
+        → Finds (Stands (IsUndriven (nets_seen nets.now) (driver_at nets.now drivers.now)) (numbers places.now)) result }
 {
     let mut found = None;
     for (index, net) in nets.iter().enumerate() {
-        let driven = net.kind.is(Kind::Given) || drivers.find(net.name).is_some();
+        let driven = net.kind.is(Kind::Given) || drivers.find(index).is_some();
         found = note(found, !driven, places[index]);
     }
     found

@@ -8,14 +8,15 @@ ghost use Rattle.v_syntax.specs.Syntax.{IsSyntax};
 ghost use Rattle.v_syntax.specs.Tokens.{placed};
 ghost use Rattle.v_check.specs.Judged.{Judged};
 
-use crate::drivers::{misdriven, undriven};
+use crate::drivers::{drive_all, undriven};
 use crate::found::either;
 use crate::loops::looping;
-use crate::nets::{declare, nets_of};
-use crate::undeclared::undeclared;
-use crate::widths::misfit;
-use rb_base::NoMemory;
+use crate::nets::{Net, declare, nets_of};
+use crate::undeclared::undeclared_yet;
+use crate::widths::uses_of;
+use rb_base::{NoMemory, Place};
 use std::alloc::Global;
+use v_design::Stmt;
 use v_syntax::{Parsed, VError, VSpot};
 
 /// The first problem of a module, if it has one.
@@ -28,22 +29,28 @@ fn judge(
     requires { (t : Tree) × IsSyntax (placed bytes.now tokens.now) parsed.now t }
     ensures { IfOk result (λ r. (t : Tree) → IsSyntax (placed bytes.now tokens.now) parsed.now t → Judged t (placed bytes.now tokens.now) r) }
 {
-    let nets = nets_of(alloc, &parsed.ports, &parsed.decls)?;
-    let (table, twice) = declare(alloc, &nets, &parsed.declared)?;
+    let listed = nets_of(alloc, &parsed.ports, &parsed.decls)?;
+    let nets: &[Net] = &listed;
+    let stmts: &[Stmt] = &parsed.stmts;
+    let places: &[Place] = &parsed.declared;
+    let (table, twice) = declare(alloc, nets, places)?;
     if let Some(place) = twice {
         return Ok(Some(VError::Twice { place }));
     }
-    if let Some(place) = undeclared(&table, bytes, tokens, parsed.before) {
+    let (uses, misfit) = uses_of(alloc, &table, nets, stmts)?;
+    let driving = drive_all(alloc, &table, nets, stmts, &parsed.events, &uses)?;
+    let unknown = undeclared_yet(driving.declared, &table, bytes, tokens, parsed.before);
+    if let Some(place) = unknown {
         return Ok(Some(VError::Undeclared { place }));
     }
-    let (drivers, wrong) = misdriven(alloc, &table, &parsed.stmts, &parsed.events)?;
-    if let Some(place) = either(wrong, undriven(&drivers, &nets, &parsed.declared)) {
+    let undriven = undriven(&driving.drivers, nets, places);
+    if let Some(place) = either(driving.misdriven, undriven) {
         return Ok(Some(VError::Driver { place }));
     }
-    if let Some(place) = misfit(&table, &parsed.stmts) {
+    if let Some(place) = misfit {
         return Ok(Some(VError::Width { place }));
     }
-    if let Some(place) = looping(alloc, &drivers, &parsed.stmts)? {
+    if let Some(place) = looping(alloc, nets, &driving.drivers, stmts, &uses)? {
         return Ok(Some(VError::Loop { place }));
     }
     Ok(None)

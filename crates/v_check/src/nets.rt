@@ -1,10 +1,9 @@
-//! The declared nets, by name.
+//! The declared nets, by name and by number.
 
-ghost use Rattle.std.specs.Prelude.{◌≡◌, ◌+◌, ◌++◌, ◌∷◌, [], true, length, map, List, IfOk, OnOk};
-ghost use Rattle.v_design.specs.Lexemes.{among};
-ghost use Rattle.v_design.specs.WellFormed.{distinct, has, is_pin, names};
+ghost use Rattle.std.specs.Prelude.{◌≡◌, ℕ, true, length, slice_get, List, IfOk};
+ghost use Rattle.v_design.specs.WellFormed.{distinct, has, is_pin as pin, names};
 ghost use Rattle.v_check.specs.Found.{Finds, Stands};
-ghost use Rattle.v_check.specs.Nets.{AreNets, IsTwice, declared_nets, kind_seen, nets_seen, numbers};
+ghost use Rattle.v_check.specs.Nets.{AreNets, IsTwice, declared_nets, kind_seen, nets_seen, number_of, numbers, width_in};
 
 use crate::found::note;
 use crate::names::bytes_of;
@@ -83,17 +82,17 @@ pub(crate) fn nets_of<'s>(
     Ok(nets)
 }
 
-/// The first net of each name.
+/// The number of the first net of each name.
 #[derive(Drop)]
 pub(crate) struct Table<'s> {
-    nets: BTreeMap<&'s [u8], Net<'s>>,
+    numbers: BTreeMap<&'s [u8], usize>,
 }
 
 impl<'s> Table<'s> {
-    ghost use Rattle.std.specs.Prelude.{◌≡◌, ◌++◌, ◌∷◌, [], true, List, IfOk, map};
+    ghost use Rattle.std.specs.Prelude.{◌≡◌, ◌++◌, ◌∷◌, [], ℕ, true, length, List, IfOk};
     ghost use Rattle.v_design.specs.Lexemes.{among};
-    ghost use Rattle.v_design.specs.WellFormed.{distinct, has, is_pin, names};
-    ghost use Rattle.v_check.specs.Nets.{AreNets, kind_seen, net_at, nets_seen, widths_at};
+    ghost use Rattle.v_design.specs.WellFormed.{names};
+    ghost use Rattle.v_check.specs.Nets.{AreNets, nets_seen, number_at, number_of};
     ghost use Rattle.v_check.specs.declared.nets.Net.{Net};
 
     /// No nets yet.
@@ -101,27 +100,27 @@ impl<'s> Table<'s> {
         ensures { AreNets result [] }
     {
         Table {
-            nets: BTreeMap::new(alloc),
+            numbers: BTreeMap::new(alloc),
         }
     }
 
-    /// Puts a net behind the others, and answers whether its name is declared before.
-    fn push(&mut self, net: Net<'s>) -> Result<bool, NoMemory>
-        ensures nets { IfOk result (λ again. (ns : List Net) → AreNets self.old ns → AreNets self.new (ns ++ net.entry ∷ [])) }
+    /// Puts a net behind so many others, and answers whether its name is declared before.
+    fn push(&mut self, net: Net<'s>, number: usize) -> Result<bool, NoMemory>
+        ensures nets { IfOk result (λ again. (ns : List Net) → AreNets self.old ns → number ≡ length ns → AreNets self.new (ns ++ net.entry ∷ [])) }
         ensures again { IfOk result (λ again. (ns : List Net) → AreNets self.old ns → again ≡ among (names (nets_seen ns)) net.entry.name.now) }
     {
         if self.declares(net.name) {
             return Ok(true);
         }
-        self.nets.insert(net.name, net)?;
+        self.numbers.insert(net.name, number)?;
         Ok(false)
     }
 
-    /// The first net of a name.
-    fn find(&self, name: &[u8]) -> Option<Net<'s>>
-        ensures { result ≡ net_at self.now name.now }
+    /// The number of the first net of a name.
+    fn find(&self, name: &[u8]) -> Option<usize>
+        ensures { result ≡ number_at self.now name.now }
     {
-        self.nets.get(name).copied()
+        self.numbers.get(name).copied()
     }
 
     /// Whether a net of this name is declared.
@@ -131,36 +130,51 @@ impl<'s> Table<'s> {
         self.find(name).is_some()
     }
 
-    /// Whether a net of this name and kind is declared, where no name is declared twice.
-    pub(crate) fn has(&self, kind: Kind, name: &[u8]) -> bool
-        ensures { (ns : List Net) → AreNets self.now ns → distinct (names (nets_seen ns)) ≡ true
-            → result ≡ has (nets_seen ns) (kind_seen kind) name.now }
+    /// The number of the first of these nets that has a name, or how many they are, where none has it.
+    pub(crate) fn number(&self, nets: &[Net], name: &[u8]) -> usize
+        requires { AreNets self.now nets.now }
+        ensures { result ≡ number_of nets.now name.now }
     {
-        match self.find(name) {
-            Some(net) => net.kind.is(kind),
-            None => false,
-        }
+        self.find(name).unwrap_or(nets.len())
     }
+}
 
-    /// Whether an input of one bit has this name, where no name is declared twice.
-    pub(crate) fn is_pin(&self, name: &[u8]) -> bool
-        ensures { (ns : List Net) → AreNets self.now ns → distinct (names (nets_seen ns)) ≡ true
-            → result ≡ is_pin (nets_seen ns) name.now }
-    {
-        match self.find(name) {
-            Some(net) => net.kind.is(Kind::Given) && net.width == 1,
-            None => false,
-        }
+/// The net of this number.
+fn net_at<'s>(nets: &[Net<'s>], number: usize) -> Option<Net<'s>>
+    ensures { result ≡ slice_get nets.now number }
+{
+    nets.get(number).copied()
+}
+
+/// Whether the net of this number is of this kind, where no name is declared twice.
+pub(crate) fn is_kind(nets: &[Net], number: usize, kind: Kind) -> bool
+    ensures { (n : List ℕ) → number ≡ number_of nets.now n → distinct (names (nets_seen nets.now)) ≡ true
+        → result ≡ has (nets_seen nets.now) (kind_seen kind) n }
+{
+    match net_at(nets, number) {
+        Some(net) => net.kind.is(kind),
+        None => false,
     }
+}
 
-    /// The width of the net of this name in bits, or 0.
-    pub(crate) fn width(&self, name: &[u8]) -> u8
-        ensures { result ≡ widths_at self.now name.now }
-    {
-        match self.find(name) {
-            Some(net) => net.width,
-            None => 0,
-        }
+/// Whether the net of this number is an input of one bit, where no name is declared twice.
+pub(crate) fn is_pin(nets: &[Net], number: usize) -> bool
+    ensures { (n : List ℕ) → number ≡ number_of nets.now n → distinct (names (nets_seen nets.now)) ≡ true
+        → result ≡ pin (nets_seen nets.now) n }
+{
+    match net_at(nets, number) {
+        Some(net) => net.kind.is(Kind::Given) && net.width == 1,
+        None => false,
+    }
+}
+
+/// The width of the net of this number in bits, or 0.
+pub(crate) fn width_at(nets: &[Net], number: usize) -> u8
+    ensures { (n : List ℕ) → number ≡ number_of nets.now n → result ≡ width_in (nets_seen nets.now) n }
+{
+    match net_at(nets, number) {
+        Some(net) => net.width,
+        None => 0,
     }
 }
 
@@ -177,7 +191,7 @@ pub(crate) fn declare<'s>(
     let mut table = Table::new(alloc);
     let mut found = None;
     for (index, net) in nets.iter().enumerate() {
-        let again = table.push(*net)?;
+        let again = table.push(*net, index)?;
         found = note(found, again, places[index]);
     }
     Ok((table, found))

@@ -1,6 +1,6 @@
 //! Names that are not declared.
 
-ghost use Rattle.std.specs.Prelude.{◌≡◌, List};
+ghost use Rattle.std.specs.Prelude.{◌≡◌, List, None, false, true};
 ghost use Rattle.v_design.specs.WellFormed.{names};
 ghost use Rattle.v_syntax.specs.Tokens.{placed, spotted};
 ghost use Rattle.v_check.specs.Found.{Finds, Stands};
@@ -22,12 +22,7 @@ fn is_unknown(table: &Table, bytes: &[u8], token: &VSpot) -> bool
 }
 
 /// The least place of a name that is not declared, among the tokens behind so many.
-pub(crate) fn undeclared(
-    table: &Table,
-    bytes: &[u8],
-    tokens: &[VSpot],
-    before: usize,
-) -> Option<Place>
+fn undeclared(table: &Table, bytes: &[u8], tokens: &[VSpot], before: usize) -> Option<Place>
     ensures { (ns : List Net) → AreNets table.now ns
         → Finds (Stands (IsUndeclared (names (nets_seen ns)) before (placed bytes.now tokens.now)) (token_places (placed bytes.now tokens.now))) result }
 {
@@ -37,4 +32,23 @@ pub(crate) fn undeclared(
         found = note(found, wrong, token.place);
     }
     found
+}
+
+/// The same, or none where each name is seen to be declared.
+pub(crate) fn undeclared_yet(
+    declared: bool,
+    table: &Table,
+    bytes: &[u8],
+    tokens: &[VSpot],
+    before: usize,
+) -> Option<Place>
+    ensures declared { declared ≡ true → result ≡ None }
+    ensures found { declared ≡ false → (ns : List Net) → AreNets table.now ns
+        → Finds (Stands (IsUndeclared (names (nets_seen ns)) before (placed bytes.now tokens.now)) (token_places (placed bytes.now tokens.now))) result }
+{
+    if declared {
+        None
+    } else {
+        undeclared(table, bytes, tokens, before)
+    }
 }

@@ -1,15 +1,13 @@
-use Rattle.std.proofs.Common.{◌≡◌, ℕ, true, IfNone, List, ap, sym, ◌∙◌, subst}
-use Rattle.v_design.specs.WellFormed.{Rises, distinct, names}
+use Rattle.std.proofs.Common.{ℕ, IfNone, List, refl, sym, subst}
+use Rattle.v_design.specs.WellFormed.{Rises}
 use Rattle.v_syntax.specs.Faulty.{Twice, Undeclared, Driver, Width, Loop, Faulty}
-use Rattle.v_syntax.specs.Syntax.{AreStatements}
 use Rattle.v_syntax.specs.Tokens.{placed}
+use Rattle.v_check.specs.Drivers.{driver_at}
 use Rattle.v_check.specs.Found.{Finds}
-use Rattle.v_check.specs.Nets.{nets_seen, numbers}
-use Rattle.v_check.specs.Sizes.{stmt_places}
-use Rattle.v_check.proofs.Faults.{twice-found, undeclared-found, driver-found, width-found, loop-found, first-twice, first-undeclared, first-driver, first-width, first-loop}
-use Rattle.v_check.proofs.Capping.{same-widths, all-narrow, unfit-found}
-use Rattle.v_check.proofs.Forming.{once-from, single-from, well-formed}
-use Rattle.v_check.proofs.Parts.{nets-tree, places-count, events-count, numbers-low}
+use Rattle.v_check.proofs.Faults.{first-twice, first-undeclared, first-driver, first-width, first-loop}
+use Rattle.v_check.proofs.Forming.{single-from, well-formed}
+use Rattle.v_check.proofs.Parts.{events-count}
+use Rattle.v_check.proofs.Stages.{parts-of, found-declared, found-driver, found-loop, found-numbers, found-once, found-twice, found-undeclared, found-width}
 use Rattle.v_check.proofs.judging.judge.Goals as goal
 
 pub declare-requires : goal.declare-requires
@@ -17,136 +15,181 @@ declare-requires c =
     let (t, syn) = c.requires in
     let ts = placed c.args.bytes.now c.args.tokens.now in
     let x = c.args.parsed.now in
-    let is = nets-tree ts x t c.deref-3.result.now c.deref.result.now c.deref-2.result.now syn c.deref.ensures.value c.deref-2.ensures.value (ap nets_seen c.deref-3.ensures.value ∙ c.in_ok-nets.ensures) in
-    places-count ts x t c.deref-3.result.now c.deref-4.result.now syn is c.deref-4.ensures.value
+    let nets = c.deref-nets.result.now in
+    let stmts = c.deref-stmts.result.now in
+    let places = c.deref-places.result.now in
+    let p = parts-of ts x t c.deref.result.now c.deref-2.result.now c.in_ok-listed.listed.items nets stmts x.events.items places syn c.deref.ensures.value c.deref-2.ensures.value c.in_ok-listed.ensures c.deref-nets.ensures.value c.deref-stmts.ensures.value refl c.deref-places.ensures.value in
+    p.count
 
 pub returns-in-Some : goal.returns-in-Some
 returns-in-Some c = λ t syn.
     let ts = placed c.args.bytes.now c.args.tokens.now in
     let x = c.args.parsed.now in
-    let is = nets-tree ts x t c.deref-3.result.now c.deref.result.now c.deref-2.result.now syn c.deref.ensures.value c.deref-2.ensures.value (ap nets_seen c.deref-3.ensures.value ∙ c.in_ok-nets.ensures) in
-    let twice = twice-found t ts (nets_seen c.deref-3.result.now) (numbers c.deref-4.result.now) c.in_ok-table.twice is (ap numbers c.deref-4.ensures.value ∙ syn.declared) c.in_ok-table.ensures.found in
+    let nets = c.deref-nets.result.now in
+    let stmts = c.deref-stmts.result.now in
+    let places = c.deref-places.result.now in
+    let p = parts-of ts x t c.deref.result.now c.deref-2.result.now c.in_ok-listed.listed.items nets stmts x.events.items places syn c.deref.ensures.value c.deref-2.ensures.value c.in_ok-listed.ensures c.deref-nets.ensures.value c.deref-stmts.ensures.value refl c.deref-places.ensures.value in
+    let twice = found-twice ts x t nets stmts x.events.items places p c.in_ok-table.twice c.in_ok-table.ensures.found in
     first-twice t ts c.in-Some.place (subst (Finds (Faulty t ts Twice)) c.in-Some.is twice)
 
-pub returns-in-Some-undeclared : goal.returns-in-Some-undeclared
-returns-in-Some-undeclared c = λ t syn.
+pub drive_all-requires-clause-events : goal.drive_all-requires-clause-events
+drive_all-requires-clause-events c =
+    let (t, syn) = c.requires in
     let ts = placed c.args.bytes.now c.args.tokens.now in
     let x = c.args.parsed.now in
-    let is = nets-tree ts x t c.deref-3.result.now c.deref.result.now c.deref-2.result.now syn c.deref.ensures.value c.deref-2.ensures.value (ap nets_seen c.deref-3.ensures.value ∙ c.in_ok-nets.ensures) in
-    let twice = twice-found t ts (nets_seen c.deref-3.result.now) (numbers c.deref-4.result.now) c.in_ok-table.twice is (ap numbers c.deref-4.ensures.value ∙ syn.declared) c.in_ok-table.ensures.found in
+    let nets = c.deref-nets.result.now in
+    let stmts = c.deref-stmts.result.now in
+    let places = c.deref-places.result.now in
+    let events = c.deref-3.result.now in
+    let p = parts-of ts x t c.deref.result.now c.deref-2.result.now c.in_ok-listed.listed.items nets stmts events places syn c.deref.ensures.value c.deref-2.ensures.value c.in_ok-listed.ensures c.deref-nets.ensures.value c.deref-stmts.ensures.value c.deref-3.ensures.value c.deref-places.ensures.value in
+    events-count stmts events t.stmts p.are
+
+pub returns-in-Some-unknown : goal.returns-in-Some-unknown
+returns-in-Some-unknown c = λ t syn.
+    let ts = placed c.args.bytes.now c.args.tokens.now in
+    let x = c.args.parsed.now in
+    let nets = c.deref-nets.result.now in
+    let stmts = c.deref-stmts.result.now in
+    let places = c.deref-places.result.now in
+    let events = c.deref-3.result.now in
+    let p = parts-of ts x t c.deref.result.now c.deref-2.result.now c.in_ok-listed.listed.items nets stmts events places syn c.deref.ensures.value c.deref-2.ensures.value c.in_ok-listed.ensures c.deref-nets.ensures.value c.deref-stmts.ensures.value c.deref-3.ensures.value c.deref-places.ensures.value in
+    let twice = found-twice ts x t nets stmts events places p c.in_ok-table.twice c.in_ok-table.ensures.found in
     let no_twice = subst (Finds (Faulty t ts Twice)) c.in_default.is twice in
-    let undeclared = undeclared-found t ts (nets_seen c.deref-3.result.now) x.before c.undeclared.result is syn.before (c.undeclared.ensures c.deref-3.result.now c.in_ok-table.ensures.nets) in
-    first-undeclared t ts c.in-Some-undeclared.place no_twice (subst (Finds (Faulty t ts Undeclared)) c.in-Some-undeclared.is undeclared)
+    let once = found-once ts x t nets stmts events places p no_twice in
+    let driving = c.in_ok-driving.driving in
+    let undeclared = found-undeclared ts x t nets stmts events places p driving.declared x.before c.undeclared_yet-unknown.result refl (λ yes. c.in_ok-driving.ensures.declared yes once t.stmts p.are)
+    c.undeclared_yet-unknown.ensures.declared (λ no. c.undeclared_yet-unknown.ensures.found no nets c.in_ok-table.ensures.nets) in
+    first-undeclared t ts c.in-Some-unknown.place no_twice (subst (Finds (Faulty t ts Undeclared)) c.in-Some-unknown.is undeclared)
 
-pub misdriven-requires : goal.misdriven-requires
-misdriven-requires c =
-    let (t, syn) = c.requires in
-    events-count c.deref-5.result.now c.deref-6.result.now t.stmts
-    (subst (λ xs. AreStatements xs c.deref-6.result.now t.stmts) (sym c.deref-5.ensures.value) (subst (λ es. AreStatements c.args.parsed.now.stmts.items es t.stmts) (sym c.deref-6.ensures.value) syn.stmts))
-
-pub undriven-requires : goal.undriven-requires
-undriven-requires c =
+pub undriven-undriven-requires : goal.undriven-undriven-requires
+undriven-undriven-requires c =
     let (t, syn) = c.requires in
     let ts = placed c.args.bytes.now c.args.tokens.now in
     let x = c.args.parsed.now in
-    let is = nets-tree ts x t c.deref-7.result.now c.deref.result.now c.deref-2.result.now syn c.deref.ensures.value c.deref-2.ensures.value (ap nets_seen c.deref-7.ensures.value ∙ c.in_ok-nets.ensures) in
-    places-count ts x t c.deref-7.result.now c.deref-8.result.now syn is c.deref-8.ensures.value
+    let nets = c.deref-nets.result.now in
+    let stmts = c.deref-stmts.result.now in
+    let places = c.deref-places.result.now in
+    let p = parts-of ts x t c.deref.result.now c.deref-2.result.now c.in_ok-listed.listed.items nets stmts x.events.items places syn c.deref.ensures.value c.deref-2.ensures.value c.in_ok-listed.ensures c.deref-nets.ensures.value c.deref-stmts.ensures.value refl c.deref-places.ensures.value in
+    p.count
 
 pub returns-in-Some-either : goal.returns-in-Some-either
 returns-in-Some-either c = λ t syn.
     let ts = placed c.args.bytes.now c.args.tokens.now in
     let x = c.args.parsed.now in
-    let is = nets-tree ts x t c.deref-3.result.now c.deref.result.now c.deref-2.result.now syn c.deref.ensures.value c.deref-2.ensures.value (ap nets_seen c.deref-3.ensures.value ∙ c.in_ok-nets.ensures) in
-    let other = nets-tree ts x t c.deref-7.result.now c.deref.result.now c.deref-2.result.now syn c.deref.ensures.value c.deref-2.ensures.value (ap nets_seen c.deref-7.ensures.value ∙ c.in_ok-nets.ensures) in
-    let twice = twice-found t ts (nets_seen c.deref-3.result.now) (numbers c.deref-4.result.now) c.in_ok-table.twice is (ap numbers c.deref-4.ensures.value ∙ syn.declared) c.in_ok-table.ensures.found in
+    let nets = c.deref-nets.result.now in
+    let stmts = c.deref-stmts.result.now in
+    let places = c.deref-places.result.now in
+    let events = c.deref-3.result.now in
+    let p = parts-of ts x t c.deref.result.now c.deref-2.result.now c.in_ok-listed.listed.items nets stmts events places syn c.deref.ensures.value c.deref-2.ensures.value c.in_ok-listed.ensures c.deref-nets.ensures.value c.deref-stmts.ensures.value c.deref-3.ensures.value c.deref-places.ensures.value in
+    let twice = found-twice ts x t nets stmts events places p c.in_ok-table.twice c.in_ok-table.ensures.found in
     let no_twice = subst (Finds (Faulty t ts Twice)) c.in_default.is twice in
-    let undeclared = undeclared-found t ts (nets_seen c.deref-3.result.now) x.before c.undeclared.result is syn.before (c.undeclared.ensures c.deref-3.result.now c.in_ok-table.ensures.nets) in
-    let no_undeclared = subst (Finds (Faulty t ts Undeclared)) c.in_default-undeclared.is undeclared in
-    let are = subst (λ xs. AreStatements xs c.deref-6.result.now t.stmts) (sym c.deref-5.ensures.value) (subst (λ es. AreStatements x.stmts.items es t.stmts) (sym c.deref-6.ensures.value) syn.stmts) in
-    let drivers = c.in_ok-drivers.ensures.drivers t.stmts are in
-    let once : distinct (names (nets_seen c.deref-3.result.now)) ≡ true = ap (λ ns. distinct (names ns)) is ∙ once-from t ts no_twice in
-    let driver = driver-found t ts c.in_ok-drivers.drivers (nets_seen c.deref-3.result.now) (nets_seen c.deref-7.result.now) (stmt_places c.deref-5.result.now) (numbers c.deref-8.result.now) c.in_ok-drivers.wrong c.undriven.result
-    drivers is other (ap stmt_places c.deref-5.ensures.value ∙ syn.starts) (ap numbers c.deref-8.ensures.value ∙ syn.declared)
-    (c.in_ok-drivers.ensures.found c.deref-3.result.now c.in_ok-table.ensures.nets once t.stmts are) c.undriven.ensures in
-    first-driver t ts c.in-Some-either.place no_twice no_undeclared (subst (Finds (Faulty t ts Driver)) (sym c.in-Some-either.ensures) driver)
+    let once = found-once ts x t nets stmts events places p no_twice in
+    let driving = c.in_ok-driving.driving in
+    let undeclared = found-undeclared ts x t nets stmts events places p driving.declared x.before c.undeclared_yet-unknown.result refl (λ yes. c.in_ok-driving.ensures.declared yes once t.stmts p.are)
+    c.undeclared_yet-unknown.ensures.declared (λ no. c.undeclared_yet-unknown.ensures.found no nets c.in_ok-table.ensures.nets) in
+    let no_undeclared = subst (Finds (Faulty t ts Undeclared)) c.in_default-unknown.is undeclared in
+    let all = found-declared ts x t nets stmts events places p no_undeclared in
+    let driver = driver_at nets driving.drivers in
+    let drivers = c.in_ok-driving.ensures.drivers t.stmts p.are all in
+    let badly = found-driver ts x t nets stmts events places p driver driving.misdriven c.undriven-undriven.result drivers (c.in_ok-driving.ensures.found once t.stmts p.are all) (c.undriven-undriven.ensures once) in
+    first-driver t ts c.in-Some-either.place no_twice no_undeclared (subst (Finds (Faulty t ts Driver)) (sym c.in-Some-either.ensures) badly)
 
 pub returns-in-Some-misfit : goal.returns-in-Some-misfit
 returns-in-Some-misfit c = λ t syn.
     let ts = placed c.args.bytes.now c.args.tokens.now in
     let x = c.args.parsed.now in
-    let is = nets-tree ts x t c.deref-3.result.now c.deref.result.now c.deref-2.result.now syn c.deref.ensures.value c.deref-2.ensures.value (ap nets_seen c.deref-3.ensures.value ∙ c.in_ok-nets.ensures) in
-    let other = nets-tree ts x t c.deref-7.result.now c.deref.result.now c.deref-2.result.now syn c.deref.ensures.value c.deref-2.ensures.value (ap nets_seen c.deref-7.ensures.value ∙ c.in_ok-nets.ensures) in
-    let twice = twice-found t ts (nets_seen c.deref-3.result.now) (numbers c.deref-4.result.now) c.in_ok-table.twice is (ap numbers c.deref-4.ensures.value ∙ syn.declared) c.in_ok-table.ensures.found in
+    let nets = c.deref-nets.result.now in
+    let stmts = c.deref-stmts.result.now in
+    let places = c.deref-places.result.now in
+    let events = c.deref-3.result.now in
+    let p = parts-of ts x t c.deref.result.now c.deref-2.result.now c.in_ok-listed.listed.items nets stmts events places syn c.deref.ensures.value c.deref-2.ensures.value c.in_ok-listed.ensures c.deref-nets.ensures.value c.deref-stmts.ensures.value c.deref-3.ensures.value c.deref-places.ensures.value in
+    let twice = found-twice ts x t nets stmts events places p c.in_ok-table.twice c.in_ok-table.ensures.found in
     let no_twice = subst (Finds (Faulty t ts Twice)) c.in_default.is twice in
-    let undeclared = undeclared-found t ts (nets_seen c.deref-3.result.now) x.before c.undeclared.result is syn.before (c.undeclared.ensures c.deref-3.result.now c.in_ok-table.ensures.nets) in
-    let no_undeclared = subst (Finds (Faulty t ts Undeclared)) c.in_default-undeclared.is undeclared in
-    let are = subst (λ xs. AreStatements xs c.deref-6.result.now t.stmts) (sym c.deref-5.ensures.value) (subst (λ es. AreStatements x.stmts.items es t.stmts) (sym c.deref-6.ensures.value) syn.stmts) in
-    let drivers = c.in_ok-drivers.ensures.drivers t.stmts are in
-    let once : distinct (names (nets_seen c.deref-3.result.now)) ≡ true = ap (λ ns. distinct (names ns)) is ∙ once-from t ts no_twice in
-    let driver = driver-found t ts c.in_ok-drivers.drivers (nets_seen c.deref-3.result.now) (nets_seen c.deref-7.result.now) (stmt_places c.deref-5.result.now) (numbers c.deref-8.result.now) c.in_ok-drivers.wrong c.undriven.result
-    drivers is other (ap stmt_places c.deref-5.ensures.value ∙ syn.starts) (ap numbers c.deref-8.ensures.value ∙ syn.declared)
-    (c.in_ok-drivers.ensures.found c.deref-3.result.now c.in_ok-table.ensures.nets once t.stmts are) c.undriven.ensures in
-    let no_driver = subst (Finds (Faulty t ts Driver)) (sym c.in_default-either.ensures) driver in
-    let width = width-found t ts (stmt_places c.deref-9.result.now) c.misfit.result (ap stmt_places c.deref-9.ensures.value ∙ syn.starts)
-    (unfit-found t ts c.in_ok-table.table c.deref-9.result.now x.events.items (stmt_places c.deref-9.result.now) c.misfit.result (subst (λ xs. AreStatements xs x.events.items t.stmts) (sym c.deref-9.ensures.value) syn.stmts)
-    (same-widths t c.in_ok-table.table c.deref-3.result.now c.in_ok-table.ensures.nets is) (all-narrow t syn.shaped) c.misfit.ensures) in
+    let once = found-once ts x t nets stmts events places p no_twice in
+    let driving = c.in_ok-driving.driving in
+    let undeclared = found-undeclared ts x t nets stmts events places p driving.declared x.before c.undeclared_yet-unknown.result refl (λ yes. c.in_ok-driving.ensures.declared yes once t.stmts p.are)
+    c.undeclared_yet-unknown.ensures.declared (λ no. c.undeclared_yet-unknown.ensures.found no nets c.in_ok-table.ensures.nets) in
+    let no_undeclared = subst (Finds (Faulty t ts Undeclared)) c.in_default-unknown.is undeclared in
+    let all = found-declared ts x t nets stmts events places p no_undeclared in
+    let driver = driver_at nets driving.drivers in
+    let drivers = c.in_ok-driving.ensures.drivers t.stmts p.are all in
+    let badly = found-driver ts x t nets stmts events places p driver driving.misdriven c.undriven-undriven.result drivers (c.in_ok-driving.ensures.found once t.stmts p.are all) (c.undriven-undriven.ensures once) in
+    let no_driver = subst (Finds (Faulty t ts Driver)) (sym c.in_default-either.ensures) badly in
+    let width = found-width ts x t nets stmts events places p c.in_ok-uses.misfit c.in_ok-uses.ensures.found in
     first-width t ts c.in-Some-misfit.place no_twice no_undeclared no_driver (subst (Finds (Faulty t ts Width)) c.in-Some-misfit.is width)
 
-pub looping-requires : goal.looping-requires
-looping-requires c =
+pub looping-requires-clause-numbers : goal.looping-requires-clause-numbers
+looping-requires-clause-numbers c =
     let (t, syn) = c.requires in
+    let ts = placed c.args.bytes.now c.args.tokens.now in
     let x = c.args.parsed.now in
-    let are = subst (λ xs. AreStatements xs c.deref-6.result.now t.stmts) (sym c.deref-5.ensures.value) (subst (λ es. AreStatements x.stmts.items es t.stmts) (sym c.deref-6.ensures.value) syn.stmts) in
-    numbers-low c.in_ok-drivers.drivers c.deref-10.result.now x.events.items t.stmts (subst (λ xs. AreStatements xs x.events.items t.stmts) (sym c.deref-10.ensures.value) syn.stmts) (c.in_ok-drivers.ensures.drivers t.stmts are)
+    let nets = c.deref-nets.result.now in
+    let stmts = c.deref-stmts.result.now in
+    let places = c.deref-places.result.now in
+    let events = c.deref-3.result.now in
+    let p = parts-of ts x t c.deref.result.now c.deref-2.result.now c.in_ok-listed.listed.items nets stmts events places syn c.deref.ensures.value c.deref-2.ensures.value c.in_ok-listed.ensures c.deref-nets.ensures.value c.deref-stmts.ensures.value c.deref-3.ensures.value c.deref-places.ensures.value in
+    let twice = found-twice ts x t nets stmts events places p c.in_ok-table.twice c.in_ok-table.ensures.found in
+    let no_twice = subst (Finds (Faulty t ts Twice)) c.in_default.is twice in
+    let once = found-once ts x t nets stmts events places p no_twice in
+    let driving = c.in_ok-driving.driving in
+    let undeclared = found-undeclared ts x t nets stmts events places p driving.declared x.before c.undeclared_yet-unknown.result refl (λ yes. c.in_ok-driving.ensures.declared yes once t.stmts p.are)
+    c.undeclared_yet-unknown.ensures.declared (λ no. c.undeclared_yet-unknown.ensures.found no nets c.in_ok-table.ensures.nets) in
+    let no_undeclared = subst (Finds (Faulty t ts Undeclared)) c.in_default-unknown.is undeclared in
+    let all = found-declared ts x t nets stmts events places p no_undeclared in
+    let driver = driver_at nets driving.drivers in
+    let drivers = c.in_ok-driving.ensures.drivers t.stmts p.are all in
+    found-numbers ts x t nets stmts events places p driver drivers
 
 pub returns-in-Some-2 : goal.returns-in-Some-2
 returns-in-Some-2 c = λ t syn.
     let ts = placed c.args.bytes.now c.args.tokens.now in
     let x = c.args.parsed.now in
-    let is = nets-tree ts x t c.deref-3.result.now c.deref.result.now c.deref-2.result.now syn c.deref.ensures.value c.deref-2.ensures.value (ap nets_seen c.deref-3.ensures.value ∙ c.in_ok-nets.ensures) in
-    let other = nets-tree ts x t c.deref-7.result.now c.deref.result.now c.deref-2.result.now syn c.deref.ensures.value c.deref-2.ensures.value (ap nets_seen c.deref-7.ensures.value ∙ c.in_ok-nets.ensures) in
-    let twice = twice-found t ts (nets_seen c.deref-3.result.now) (numbers c.deref-4.result.now) c.in_ok-table.twice is (ap numbers c.deref-4.ensures.value ∙ syn.declared) c.in_ok-table.ensures.found in
+    let nets = c.deref-nets.result.now in
+    let stmts = c.deref-stmts.result.now in
+    let places = c.deref-places.result.now in
+    let events = c.deref-3.result.now in
+    let p = parts-of ts x t c.deref.result.now c.deref-2.result.now c.in_ok-listed.listed.items nets stmts events places syn c.deref.ensures.value c.deref-2.ensures.value c.in_ok-listed.ensures c.deref-nets.ensures.value c.deref-stmts.ensures.value c.deref-3.ensures.value c.deref-places.ensures.value in
+    let twice = found-twice ts x t nets stmts events places p c.in_ok-table.twice c.in_ok-table.ensures.found in
     let no_twice = subst (Finds (Faulty t ts Twice)) c.in_default.is twice in
-    let undeclared = undeclared-found t ts (nets_seen c.deref-3.result.now) x.before c.undeclared.result is syn.before (c.undeclared.ensures c.deref-3.result.now c.in_ok-table.ensures.nets) in
-    let no_undeclared = subst (Finds (Faulty t ts Undeclared)) c.in_default-undeclared.is undeclared in
-    let are = subst (λ xs. AreStatements xs c.deref-6.result.now t.stmts) (sym c.deref-5.ensures.value) (subst (λ es. AreStatements x.stmts.items es t.stmts) (sym c.deref-6.ensures.value) syn.stmts) in
-    let drivers = c.in_ok-drivers.ensures.drivers t.stmts are in
-    let once : distinct (names (nets_seen c.deref-3.result.now)) ≡ true = ap (λ ns. distinct (names ns)) is ∙ once-from t ts no_twice in
-    let driver = driver-found t ts c.in_ok-drivers.drivers (nets_seen c.deref-3.result.now) (nets_seen c.deref-7.result.now) (stmt_places c.deref-5.result.now) (numbers c.deref-8.result.now) c.in_ok-drivers.wrong c.undriven.result
-    drivers is other (ap stmt_places c.deref-5.ensures.value ∙ syn.starts) (ap numbers c.deref-8.ensures.value ∙ syn.declared)
-    (c.in_ok-drivers.ensures.found c.deref-3.result.now c.in_ok-table.ensures.nets once t.stmts are) c.undriven.ensures in
-    let no_driver = subst (Finds (Faulty t ts Driver)) (sym c.in_default-either.ensures) driver in
-    let width = width-found t ts (stmt_places c.deref-9.result.now) c.misfit.result (ap stmt_places c.deref-9.ensures.value ∙ syn.starts)
-    (unfit-found t ts c.in_ok-table.table c.deref-9.result.now x.events.items (stmt_places c.deref-9.result.now) c.misfit.result (subst (λ xs. AreStatements xs x.events.items t.stmts) (sym c.deref-9.ensures.value) syn.stmts)
-    (same-widths t c.in_ok-table.table c.deref-3.result.now c.in_ok-table.ensures.nets is) (all-narrow t syn.shaped) c.misfit.ensures) in
+    let once = found-once ts x t nets stmts events places p no_twice in
+    let driving = c.in_ok-driving.driving in
+    let undeclared = found-undeclared ts x t nets stmts events places p driving.declared x.before c.undeclared_yet-unknown.result refl (λ yes. c.in_ok-driving.ensures.declared yes once t.stmts p.are)
+    c.undeclared_yet-unknown.ensures.declared (λ no. c.undeclared_yet-unknown.ensures.found no nets c.in_ok-table.ensures.nets) in
+    let no_undeclared = subst (Finds (Faulty t ts Undeclared)) c.in_default-unknown.is undeclared in
+    let all = found-declared ts x t nets stmts events places p no_undeclared in
+    let driver = driver_at nets driving.drivers in
+    let drivers = c.in_ok-driving.ensures.drivers t.stmts p.are all in
+    let badly = found-driver ts x t nets stmts events places p driver driving.misdriven c.undriven-undriven.result drivers (c.in_ok-driving.ensures.found once t.stmts p.are all) (c.undriven-undriven.ensures once) in
+    let no_driver = subst (Finds (Faulty t ts Driver)) (sym c.in_default-either.ensures) badly in
+    let width = found-width ts x t nets stmts events places p c.in_ok-uses.misfit c.in_ok-uses.ensures.found in
     let no_width = subst (Finds (Faulty t ts Width)) c.in_default-misfit.is width in
     let single = single-from t ts no_driver in
-    let stmts_are = subst (λ xs. AreStatements xs x.events.items t.stmts) (sym c.deref-10.ensures.value) syn.stmts in
-    let loops = loop-found t ts (stmt_places c.deref-10.result.now) c.in_ok-place.field-0 (ap stmt_places c.deref-10.ensures.value ∙ syn.starts) (c.in_ok-place.ensures.found x.events.items t.stmts stmts_are drivers single) in
+    let loops = found-loop ts x t nets stmts events places p c.in_ok-place.field-0 (c.in_ok-place.ensures.found events t.stmts p.are drivers single) in
     first-loop t ts c.in-Some-2.place no_twice no_undeclared no_driver no_width (subst (Finds (Faulty t ts Loop)) c.in-Some-2.is loops)
 
 pub returns : goal.returns
 returns c = λ t syn.
     let ts = placed c.args.bytes.now c.args.tokens.now in
     let x = c.args.parsed.now in
-    let is = nets-tree ts x t c.deref-3.result.now c.deref.result.now c.deref-2.result.now syn c.deref.ensures.value c.deref-2.ensures.value (ap nets_seen c.deref-3.ensures.value ∙ c.in_ok-nets.ensures) in
-    let other = nets-tree ts x t c.deref-7.result.now c.deref.result.now c.deref-2.result.now syn c.deref.ensures.value c.deref-2.ensures.value (ap nets_seen c.deref-7.ensures.value ∙ c.in_ok-nets.ensures) in
-    let twice = twice-found t ts (nets_seen c.deref-3.result.now) (numbers c.deref-4.result.now) c.in_ok-table.twice is (ap numbers c.deref-4.ensures.value ∙ syn.declared) c.in_ok-table.ensures.found in
+    let nets = c.deref-nets.result.now in
+    let stmts = c.deref-stmts.result.now in
+    let places = c.deref-places.result.now in
+    let events = c.deref-3.result.now in
+    let p = parts-of ts x t c.deref.result.now c.deref-2.result.now c.in_ok-listed.listed.items nets stmts events places syn c.deref.ensures.value c.deref-2.ensures.value c.in_ok-listed.ensures c.deref-nets.ensures.value c.deref-stmts.ensures.value c.deref-3.ensures.value c.deref-places.ensures.value in
+    let twice = found-twice ts x t nets stmts events places p c.in_ok-table.twice c.in_ok-table.ensures.found in
     let no_twice = subst (Finds (Faulty t ts Twice)) c.in_default.is twice in
-    let undeclared = undeclared-found t ts (nets_seen c.deref-3.result.now) x.before c.undeclared.result is syn.before (c.undeclared.ensures c.deref-3.result.now c.in_ok-table.ensures.nets) in
-    let no_undeclared = subst (Finds (Faulty t ts Undeclared)) c.in_default-undeclared.is undeclared in
-    let are = subst (λ xs. AreStatements xs c.deref-6.result.now t.stmts) (sym c.deref-5.ensures.value) (subst (λ es. AreStatements x.stmts.items es t.stmts) (sym c.deref-6.ensures.value) syn.stmts) in
-    let drivers = c.in_ok-drivers.ensures.drivers t.stmts are in
-    let once : distinct (names (nets_seen c.deref-3.result.now)) ≡ true = ap (λ ns. distinct (names ns)) is ∙ once-from t ts no_twice in
-    let driver = driver-found t ts c.in_ok-drivers.drivers (nets_seen c.deref-3.result.now) (nets_seen c.deref-7.result.now) (stmt_places c.deref-5.result.now) (numbers c.deref-8.result.now) c.in_ok-drivers.wrong c.undriven.result
-    drivers is other (ap stmt_places c.deref-5.ensures.value ∙ syn.starts) (ap numbers c.deref-8.ensures.value ∙ syn.declared)
-    (c.in_ok-drivers.ensures.found c.deref-3.result.now c.in_ok-table.ensures.nets once t.stmts are) c.undriven.ensures in
-    let no_driver = subst (Finds (Faulty t ts Driver)) (sym c.in_default-either.ensures) driver in
-    let width = width-found t ts (stmt_places c.deref-9.result.now) c.misfit.result (ap stmt_places c.deref-9.ensures.value ∙ syn.starts)
-    (unfit-found t ts c.in_ok-table.table c.deref-9.result.now x.events.items (stmt_places c.deref-9.result.now) c.misfit.result (subst (λ xs. AreStatements xs x.events.items t.stmts) (sym c.deref-9.ensures.value) syn.stmts)
-    (same-widths t c.in_ok-table.table c.deref-3.result.now c.in_ok-table.ensures.nets is) (all-narrow t syn.shaped) c.misfit.ensures) in
+    let once = found-once ts x t nets stmts events places p no_twice in
+    let driving = c.in_ok-driving.driving in
+    let undeclared = found-undeclared ts x t nets stmts events places p driving.declared x.before c.undeclared_yet-unknown.result refl (λ yes. c.in_ok-driving.ensures.declared yes once t.stmts p.are)
+    c.undeclared_yet-unknown.ensures.declared (λ no. c.undeclared_yet-unknown.ensures.found no nets c.in_ok-table.ensures.nets) in
+    let no_undeclared = subst (Finds (Faulty t ts Undeclared)) c.in_default-unknown.is undeclared in
+    let all = found-declared ts x t nets stmts events places p no_undeclared in
+    let driver = driver_at nets driving.drivers in
+    let drivers = c.in_ok-driving.ensures.drivers t.stmts p.are all in
+    let badly = found-driver ts x t nets stmts events places p driver driving.misdriven c.undriven-undriven.result drivers (c.in_ok-driving.ensures.found once t.stmts p.are all) (c.undriven-undriven.ensures once) in
+    let no_driver = subst (Finds (Faulty t ts Driver)) (sym c.in_default-either.ensures) badly in
+    let width = found-width ts x t nets stmts events places p c.in_ok-uses.misfit c.in_ok-uses.ensures.found in
     let no_width = subst (Finds (Faulty t ts Width)) c.in_default-misfit.is width in
     let single = single-from t ts no_driver in
-    let stmts_are = subst (λ xs. AreStatements xs x.events.items t.stmts) (sym c.deref-10.ensures.value) syn.stmts in
-    let ranked = subst (λ r. IfNone r ((rank : List ℕ → ℕ) × Rises rank t.stmts)) c.in_default-2.is (c.in_ok-place.ensures.rank x.events.items t.stmts stmts_are drivers single) in
+    let ranked = subst (λ r. IfNone r ((rank : List ℕ → ℕ) × Rises rank t.stmts)) c.in_default-2.is (c.in_ok-place.ensures.rank events t.stmts p.are drivers single) in
     well-formed t ts syn.tokens no_twice no_undeclared no_driver no_width ranked.0 ranked.1
