@@ -1,6 +1,7 @@
 //! Enumerations by which fields are encoded that outlive their source.
 
-ghost use Rattle.std.specs.Prelude.{◌≡◌, IfOk, map};
+ghost use Rattle.std.specs.Prelude.{◌≡◌, IfOk};
+ghost use Rattle.kept_texts.specs.Entries.{named};
 
 use crate::text::keep;
 use bumpalo::Bump;
@@ -13,7 +14,7 @@ fn keep_entries<'n>(
     arena: &'n Bump,
     entries: &[(&[u8], u64)],
 ) -> Result<Vec<(&'n [u8], u64)>, NoMemory>
-    ensures { IfOk result (λ r. map (λ x. (x.0.now, x.1)) r.items ≡ map (λ x. (x.0.now, x.1)) entries.now) }
+    ensures { IfOk result (λ r. named r.items ≡ named entries.now) }
 {
     let mut list = Vec::with_capacity(alloc, entries.len())?;
     for entry in entries {
