@@ -80,6 +80,17 @@ fn add_own(
     Ok(())
 }
 
+// How many nodes are fields.
+fn count_fields(rows: &[Row<'_>]) -> usize {
+    let mut count: usize = 0;
+    for row in rows {
+        if row.node.kind.is_field() {
+            count = count.saturating_add(1);
+        }
+    }
+    count
+}
+
 /// The fields of a block, where this is known of all nodes. The only error is want of memory.
 fn fields_by(
     alloc: Global,
@@ -94,7 +105,7 @@ fn fields_by(
     requires count { count ≡ known.props.now.count }
     ensures { IfOk result (λ fs. fs.items ≡ blocks.fields known.entry.props.now.source.now (lineages_of known.entry.props.now)) }
 {
-    let mut list = Vec::new(alloc);
+    let mut list = Vec::with_capacity(alloc, count_fields(known.rows))?;
     let mut number = 0;
     for at in 0..count {
         let row = &known.rows[at as usize];

@@ -1,10 +1,7 @@
 //! A source, from its file to its C header.
 
-ghost use Rattle.std.specs.Prelude.{◌≡◌, ◌≤◌, ◌∷◌, [], ℕ, List, Option, length, IfOk, option_copied};
-ghost use Rattle.c_header.specs.Header as spec;
+ghost use Rattle.std.specs.Prelude.{◌≡◌, ◌≤◌, ◌∷◌, [], ℕ, List, length, IfOk, option_copied};
 ghost use Rattle.command_line.specs.Words.{header_of};
-ghost use Rattle.rdl_encodings.specs.Encoded.{source_encodings};
-ghost use Rattle.rdl_verdict.specs.Answers.{IsJudged};
 ghost use Rattle.replies.specs.Outcome.{FailedRead, Judges, Answers, source_limit};
 ghost use Rattle.replies.specs.Answer.{texts_of};
 
@@ -15,27 +12,9 @@ use bumpalo::Bump;
 use c_header::header;
 use rb_base::NoMemory;
 use rb_edge::Shelf;
-use rdl_rules::Settled;
-use rdl_verdict::{JudgeError, Judged, judge};
+use rdl_documents::heading_of;
+use rdl_verdict::JudgeError;
 use std::alloc::Global;
-
-// The header of a source that breaks no rule. What it needs no more goes before its text is made.
-fn header_of_judged(alloc: Global, judged: Judged<'_>) -> Result<Vec<u8>, NoMemory>
-    requires { (wanted : Option (List ℕ)) × ((text : List ℕ) × IsJudged wanted text judged) }
-    ensures { IfOk result (λ r. (wanted : Option (List ℕ)) (text : List ℕ) → IsJudged wanted text judged.entry
-        → r.items ≡ spec.header judged.entry.block (source_encodings wanted judged.entry.elab.source.now)) }
-{
-    let Judged { settled, block, .. } = judged;
-    let Settled {
-        props,
-        facts,
-        encodings,
-    } = settled;
-    drop(props);
-    drop(facts);
-    let text = header(alloc, &block, &encodings)?;
-    Ok(text)
-}
 
 // The header of a source.
 fn header_source(
@@ -47,10 +26,10 @@ fn header_source(
     requires { length source.now ≤ source_limit }
     ensures { IfOk result (λ answer. Judges (header_of (option_copied top.entry) file.now) (source.now ∷ []) answer.status (texts_of answer)) }
 {
-    let arena = Bump::new(alloc);
-    match judge(alloc, &arena, source, top) {
-        Ok(judged) => {
-            let text = header_of_judged(alloc, judged)?;
+    let names = Bump::new(alloc);
+    match heading_of(alloc, &names, source, top) {
+        Ok(heading) => {
+            let text = header(alloc, &heading.block, &heading.encodings)?;
             Ok(done(alloc, text))
         }
         Err(JudgeError::Faults(faults)) => {
