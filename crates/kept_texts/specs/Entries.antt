@@ -1,5 +1,6 @@
 -- What entries say.
-use Rattle.std.specs.Prelude.{ℕ, List, Bor, map}
+use denote.Ref.{Bor}
+use Rattle.std.specs.Prelude.{ℕ, List, map}
 
 -- their names and values
 abbrev pub named : List (Bor (List ℕ) × ℕ) → List (List ℕ × ℕ)
