@@ -1,5 +1,5 @@
 -- The first row under a key.
-use Rattle.std.proofs.Common.{◌≡◌, ◌∙◌, All, ℕ, zero, suc, ◌+◌, ◌≤◌, Bool, true, false, cond, List, [], ◌∷◌, ◌++◌, length, take, filter, Option, None, Some, slice_get, refl, sym, ap, subst, arith}
+use Rattle.std.proofs.Common.{◌≡◌, ◌∙◌, All, ℕ, zero, suc, ◌+◌, ◌≤◌, Bool, true, false, cond, List, [], ◌∷◌, ◌++◌, length, take, Option, None, Some, slice_get, refl, sym, ap, subst, arith}
 use Rattle.std.specs.Option.{option_or}
 use Rattle.std.proofs.lemmas.List.{take_more}
 use Rattle.std.proofs.lemmas.List.Elements.{All-nil, All-push}
@@ -8,7 +8,7 @@ use Rattle.rdl_nodes.specs.declared.table.Row.{Row}
 use Rattle.rdl_nodes.proofs.Members.{get-read, get-within}
 use Rattle.plain_lemmas.proofs.Lists.{append-none}
 use Rattle.rdl_nodes.specs.Keyed.{Key, same_key}
-use Rattle.rdl_node_lists.specs.Keys.{held_under, index_by, key_of, numbers}
+use Rattle.rdl_node_lists.specs.Keys.{held_under, index_by, key_of}
 use Rattle.rdl_node_lists.specs.Listed.{first_listed, listed_under}
 use Rattle.rdl_node_lists.specs.declared.held.By.{By}
 use Rattle.rdl_node_lists.specs.declared.held.By.TheVariants as by

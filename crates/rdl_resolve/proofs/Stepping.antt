@@ -12,7 +12,7 @@ use Rattle.rdl_values.specs.Lineages.{Lineage, children_in, lineages_of}
 use Rattle.rdl_values.specs.Uses.{values}
 use Rattle.rdl_values.specs.Values.{Around, Outcome, number_of, then}
 use Rattle.rdl_layers.specs.Assignments.{is_index, led_down, same_path}
-use Rattle.rdl_nodes.specs.Keyed.{first_under}
+use Rattle.rdl_node_lists.specs.Listed.{first_listed}
 use Rattle.rdl_nodes.proofs.Lineages.{all_nodes}
 use Rattle.rdl_nodes.proofs.Paths.{Differ, nodes_apart}
 use Rattle.rdl_nodes.proofs.Members.{In, place-in}
@@ -69,7 +69,7 @@ values-many env (x ∷ xs) ns h = go (number_of env x) (values env xs) (λ ms. v
 pub too-many : (e : Elab) (env : Around) (t : Step) (b : ℕ) (m : Members) → AreMembersOf e m → b ≤ e.count → m.most < length t.index.now → IsLed e None (filter (is_exactly env t) (members_at (lineages_of e) b))
 too-many e env t b m are low many = by (values env t.index.now) refl
   where
-    none-there : (ns : List ℕ) (o : Option ℕ) → values env t.index.now ≡ Ok ns → first_under m.elements (record { body = b; name = t.name.text.now; index = ns }) ≡ o → o ≡ None
+    none-there : (ns : List ℕ) (o : Option ℕ) → values env t.index.now ≡ Ok ns → first_listed m.elements (record { body = b; name = t.name.text.now; index = ns }) ≡ o → o ≡ None
     none-there ns None q h = refl
     none-there ns (Some k) q h =
         let few = are.few b t.name.text.now ns k h in
@@ -79,7 +79,7 @@ too-many e env t b m are low many = by (values env t.index.now) refl
     by : (o : Outcome (List ℕ)) → values env t.index.now ≡ o → IsLed e None (filter (is_exactly env t) (members_at (lineages_of e) b))
     by (Err f) q = without-indices e env t (members_at (lineages_of e) b) (sym (ap result_ok q))
     by (Ok ns) q =
-        let none = none-there ns (first_under m.elements (record { body = b; name = t.name.text.now; index = ns })) q refl in
+        let none = none-there ns (first_listed m.elements (record { body = b; name = t.name.text.now; index = ns })) q refl in
         with-indices e env t ns (members_at (lineages_of e) b) None (sym (ap result_ok q))
         (ap (λ o. option_to_list (option_and_then (slice_get (lineages_of e)) o)) (sym none) ∙ are.found b t.name.text.now ns low) (λ k h. cc h)
 
