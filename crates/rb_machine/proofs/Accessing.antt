@@ -106,7 +106,7 @@ module _ {X : Type 0} (b : Block) (k : ℕ) (g : View → Slot → X → X) wher
   stays_touched pick h x [] = refl
   stays_touched pick h x (s ∷ ss) = stays_touched pick h (touched b k g x s) ss ∙ stays_touch pick h x s
 
-slots_at : (ws : List Word) (i : ℕ) (w : Word) → slice_get ws i ≡ Some w → slots_of ws i ≡ w.slots
+pub slots_at : (ws : List Word) (i : ℕ) (w : Word) → slice_get ws i ≡ Some w → slots_of ws i ≡ w.slots
 slots_at ws i w e = ap (λ o. option_map_or (λ w. w.slots) o []) e
 
 -- the marks of a read, and of a write

@@ -1,5 +1,6 @@
 mod Accessing
 mod Agreeing
+mod Begun
 mod Briefs
 mod Buses
 mod Busy
@@ -9,10 +10,12 @@ mod Moving
 mod Narrow
 mod Placing
 mod Plainly
+mod Reaching
 mod Resetting
 mod Resting
 mod Scenes
 mod Settling
 mod Sourcing
 mod Stepping
+mod Taking
 mod Touching

@@ -1,13 +1,10 @@
 -- What a field keeps of which hardware makes something by one pin alone.
-use Rattle.std.proofs.Common.{◌≡◌, ℕ, ◌+◌, ◌-◌, ◌%◌, ◌^◌, ◌<◌, ◌≤◌, ◌==◌, Bool, true, false, not, ◌&&◌, ◌||◌, if◌then◌else◌, Option, Some, None, is_some, unwrap_or, List, [], ◌∷◌, codes, ◌++◌, length, slice_get, get_or, slice_index, refl, sym, ap, subst, ◌∙◌, arith, bit_and, inl, inr, ◌⊎◌}
+use Rattle.std.proofs.Common.{◌≡◌, ℕ, ◌+◌, ◌-◌, ◌%◌, ◌^◌, ◌≤◌, ◌==◌, Bool, true, false, not, ◌&&◌, ◌||◌, if◌then◌else◌, Option, Some, None, is_some, unwrap_or, List, codes, ◌++◌, length, slice_get, slice_index, refl, sym, ap, ◌∙◌, arith, bit_and}
 use Rattle.std.specs.Option.{option_map, option_map_or}
 use Rattle.std.proofs.lemmas.Nat.{and_mask}
-use Rattle.std.proofs.lemmas.Option.{same_Some, slice_get-get_or, slice_get_read, slice_get_within}
 use Rattle.std.proofs.Math.Nat.{add-mod_right}
 use Rattle.std.proofs.Math.Pow.{mod-mod-pow}
 use Rattle.plain_lemmas.proofs.Bools.{or-true as or_true}
-use Rattle.plain_lemmas.proofs.Lists.{get-front_of as front, get-last as last}
-use Rattle.plain_lemmas.proofs.Numbers.{below_next-same_or as same_or_below}
 use Rattle.rb_base.specs.Bits.{ones}
 use Rattle.rb_model.specs.declared.kinds.Amount.{Amount}
 use Rattle.rb_model.specs.declared.kinds.Amount.TheVariants as amount
@@ -22,7 +19,7 @@ use Rattle.rb_model.specs.declared.kinds.Count.{Count}
 use Rattle.rb_model.specs.declared.block.Block.{Block}
 use Rattle.rb_model.specs.declared.block.Field.{Field}
 use Rattle.rb_model.specs.Effects.{counted, finished, is_gated, is_latching, is_open, latched, loaded, loads, masked, set_or_cleared}
-use Rattle.rb_model.specs.Items.{Access, NoAccess, Now, ItemValues, amount_value, down, fed, gated, level_value, mask_value, source_value, step, up}
+use Rattle.rb_model.specs.Items.{Access, Now, ItemValues, amount_value, down, fed, gated, level_value, mask_value, source_value, step, up}
 use Rattle.rb_model.specs.Kept.{Last, is_storage, keeps_last}
 use Rattle.rb_model.specs.Machine.{counts, hardware, is_asserted, software}
 use Rattle.rb_model.specs.Ports.{input_pins, is_pin}
@@ -33,14 +30,11 @@ use Rattle.rb_model.proofs.Eachs.{Each-from_zero}
 use Rattle.rb_model.proofs.OwnViews.{both_true, not_true}
 use Rattle.block_plan.specs.declared.plan.FieldPlaces.{FieldPlaces}
 use Rattle.block_plan.specs.Plan.{AreFieldPlaces, IsPlaceOf}
-use Rattle.rb_machine.specs.declared.plain.PinStep.{PinStep}
 use Rattle.rb_machine.specs.declared.plain.PinStep.TheVariants as pin_step_kind
-use Rattle.rb_machine.specs.declared.scene.EdgeState.{EdgeState}
 use Rattle.rb_machine.specs.declared.sight.FieldState.{FieldState}
 use Rattle.rb_machine.specs.Moves.{begun_state, kept_state, next_state, started_state}
-use Rattle.rb_machine.specs.Plain.{AreSteps, begun_by, counts_by_pin, fixed_amount, is_number, is_plain, is_plain_count, moves_by_pin, number_of, pin_step, step_of, step_value}
+use Rattle.rb_machine.specs.Plain.{counts_by_pin, fixed_amount, is_number, is_plain, is_plain_count, moves_by_pin, number_of, pin_step, step_value}
 use Rattle.rb_machine.specs.Quiet.{begins, is_light, is_quiet, rests}
-use Rattle.rb_machine.specs.Scene.{IsEdgeState, now_in}
 use Rattle.rb_machine.specs.Slots.{access_state}
 use Rattle.rb_machine.proofs.Accessing.{software_done, software_last, software_value}
 use Rattle.rb_machine.proofs.Placing.{place_at}
@@ -172,56 +166,6 @@ module _ (b : Block) (sound : IsSound b) (x : List ℕ) (long : length x ≡ len
       by : (o : Option Count) → f.count ≡ o → option_map_or is_plain_count o (f.hw_writes && is_pin f.source) ≡ true → hardware n v k f y ≡ step_value x (pin_step f p) y
       by None e h = by_load e h
       by (Some c) e h = by_count c e h
-
--- the steps of the fields up to a place
-abbrev pub StepsTo : List Field → List FieldPlaces → List PinStep → ℕ → Type 0
-StepsTo fields places steps end = (k : ℕ) (f : Field) (p : FieldPlaces) → k < end → slice_get fields k ≡ Some f → slice_get places k ≡ Some p → slice_get steps k ≡ Some (step_of f p)
-
-pub steps_more : (fields : List Field) (places : List FieldPlaces) (i : ℕ) (g : Field) (steps steps' : List PinStep) (t : PinStep) → i < length fields → g ≡ get_or fields i g → length steps ≡ i → steps' ≡ steps ++ t ∷ []
-    → ((p : FieldPlaces) → slice_get places i ≡ Some p → t ≡ step_of g p) → StepsTo fields places steps i → StepsTo fields places steps' (i + 1)
-steps_more fields places i g steps steps' t low is sized pushed told before k f p l here there = by (same_or_below k i l)
-  where
-    by : (k ≡ i) ⊎ (k < i) → slice_get steps' k ≡ Some (step_of f p)
-    by (inl e) =
-        let at : slice_get fields i ≡ Some g = slice_get_read fields (length fields) i g refl low is in
-        let same : g ≡ f = same_Some g f (sym at ∙ (ap (slice_get fields) (sym e) ∙ here)) in
-        let one : slice_get (steps ++ t ∷ []) k ≡ Some t = subst (λ m. slice_get (steps ++ t ∷ []) m ≡ Some t) (sized ∙ sym e) (last steps t) in
-        ap (λ ts. slice_get ts k) pushed ∙ (one ∙ ap Some (told p (ap (slice_get places) (sym e) ∙ there) ∙ ap (λ h. step_of h p) same))
-    by (inr b) = ap (λ ts. slice_get ts k) pushed ∙ front steps (t ∷ []) (step_of f p) k (before k f p b here there)
-
-pub steps_all : (fields : List Field) (places : List FieldPlaces) (i : ℕ) (steps : List PinStep) → length fields ≤ i → i ≤ length fields → length steps ≡ i → StepsTo fields places steps i → AreSteps fields places steps
-steps_all fields places i steps past within sized h = record {
-  sized = omega (arith, past, within, sized);
-  each = λ k f p here there. let low : k < length fields = slice_get_within fields k f here in h k f p (omega (arith, low, past)) here there;
-}
-
-pub steps_of : (fields fields' : List Field) (places places' : List FieldPlaces) (steps : List PinStep) → fields' ≡ fields → places' ≡ places → AreSteps fields' places' steps → AreSteps fields places steps
-steps_of fields fields' places places' steps e g h = subst (λ (ps : List FieldPlaces). AreSteps fields ps steps) g (subst (λ (fs : List Field). AreSteps fs places' steps) e h)
-
--- what a field has before software, by its step
-module _ (s : EdgeState) (scene : IsEdgeState s) (v : ItemValues) (i : ℕ) (f : Field) (here : slice_get s.block.now.fields i ≡ Some f) (p : FieldPlaces) (are : AreFieldPlaces s.block.now f p)
-    (t : PinStep) (told : t ≡ step_of f p) (y : FieldState) where
-  begun_plainly : (c : Bool) → is_plain f ≡ c → begun_by s.pins.now t y ≡ (if is_plain f then begun_state (now_in s NoAccess) v i f y else y)
-  begun_plainly true e =
-      let wide : f.width ≤ 64 = (Each-from_zero (FieldIsSoundIn s.block.now) s.block.now.fields i f scene.sound.fields here).alone.wide.1 in
-      let same : step_value s.pins.now t y.value ≡ hardware (now_in s NoAccess) v i f y.value = ap (λ u. step_value s.pins.now u y.value) told ∙ (ap (λ d. step_value s.pins.now (if d then pin_step f p else pin_step_kind.Other) y.value) e
-      ∙ sym (by_step s.block.now scene.sound s.pins.now scene.pins (now_in s NoAccess) refl v i f wide p are (plainly f e) y.value)) in
-      same_state (begun_by s.pins.now t y) (begun_state (now_in s NoAccess) v i f y) same refl refl ∙ sym (ap (λ d. if d then begun_state (now_in s NoAccess) v i f y else y) e)
-  begun_plainly false e =
-      let same : step_value s.pins.now t y.value ≡ y.value = ap (λ u. step_value s.pins.now u y.value) told ∙ ap (λ d. step_value s.pins.now (if d then pin_step f p else pin_step_kind.Other) y.value) e in
-      same_state (begun_by s.pins.now t y) y same refl refl ∙ sym (ap (λ d. if d then begun_state (now_in s NoAccess) v i f y else y) e)
-
-begun_is : (s : EdgeState) → IsEdgeState s → s.is_reset ≡ false → (v : ItemValues) (i : ℕ) (f : Field) → slice_get s.block.now.fields i ≡ Some f → (t : PinStep) → slice_get s.steps.now i ≡ Some t → (y : FieldState)
-    → begun_by s.pins.now t y ≡ (if begins s.is_reset f then begun_state (now_in s NoAccess) v i f y else y)
-begun_is s scene calm v i f here t at y =
-    let (p, there, are) = scene.planned.fields i f here in
-    let told : t ≡ step_of f p = same_Some t (step_of f p) (sym at ∙ scene.steps.each i f p here there) in
-    let free : begins s.is_reset f ≡ is_plain f = ap (λ r. not r && is_plain f) calm in
-    begun_plainly s scene v i f here p are t told y (is_plain f) refl ∙ sym (ap (λ c. if c then begun_state (now_in s NoAccess) v i f y else y) free)
-
-pub begun_at : (s : EdgeState) → IsEdgeState s → s.is_reset ≡ false → (i : ℕ) (d : PinStep) → i < length s.steps.now → (y r : FieldState) → r ≡ begun_by s.pins.now (get_or s.steps.now i d) y
-    → (v : ItemValues) (f : Field) → slice_get s.block.now.fields i ≡ Some f → r ≡ (if begins s.is_reset f then begun_state (now_in s NoAccess) v i f y else y)
-begun_at s scene calm i d low y r is v f here = is ∙ begun_is s scene calm v i f here (get_or s.steps.now i d) (slice_get-get_or s.steps.now i d low) y
 
 -- a plain field that is not under reset keeps what software leaves of what hardware made
 module _ (b : Block) (sound : IsSound b) (n : Now) (v : ItemValues) (k : ℕ) (f : Field) (here : slice_get b.fields k ≡ Some f) (q : IsPlain f) (calm : is_asserted b n.pins f.reset_by ≡ false)

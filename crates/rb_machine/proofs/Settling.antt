@@ -1,8 +1,9 @@
 -- The items' values, computed in order.
-use Rattle.std.proofs.Common.{◌≡◌, ◌≢◌, ℕ, ◌+◌, ◌<◌, ◌≤◌, ◌==◌, true, false, Some, List, length, slice_get, get_or, refl, sym, ap, ◌∙◌, arith, get_or-set_other, get_or-set_same, inl, inr, ◌⊎◌}
+use Rattle.std.proofs.Common.{◌≡◌, ◌≢◌, ℕ, ◌+◌, ◌<◌, ◌≤◌, ◌==◌, true, false, Some, List, length, map, slice_get, get_or, refl, sym, ap, subst, ◌∙◌, arith, get_or-set_other, get_or-set_same, inl, inr, ◌⊎◌}
 use Rattle.std.specs.Prelude.{Contains}
 use Rattle.std.proofs.Math.ListN.{set}
 use Rattle.std.proofs.lemmas.Option.{same_Some, slice_get-get_or, slice_get_read}
+use Rattle.plain_lemmas.proofs.Lists.{mapped-at as mapped_at}
 use Rattle.plain_lemmas.proofs.Numbers.{same_or_other}
 use Rattle.rb_model.specs.declared.kinds.RefItem.{RefItem}
 use Rattle.rb_model.specs.declared.block.Block.{Block}
@@ -65,6 +66,15 @@ module _ (b : Block) (n : Now) (v : ItemValues) (is : List RefItem) (vals : AreI
   settled_next table end d place x low at room e settled =
       let here : slice_get is end ≡ Some (get_or is end d) = slice_get-get_or is end d low in
       rw at (settled_more table end (get_or is end d) x here (room end (get_or is end d) here) e settled)
+
+-- a place of a list of the items' places
+pub place_read : (is : List RefItem) (places : List ℕ) (k : ℕ) (d : RefItem) (p : ℕ) → places ≡ map place_of is → k < length is → get_or places k p ≡ place_of (get_or is k d)
+place_read is places k d p e low = ap (λ ps. get_or ps k p) e ∙ mapped_at place_of is k (get_or is k d) p (slice_get-get_or is k d low)
+
+pub place_room : (is : List RefItem) (places table : List ℕ) (k : ℕ) (p : ℕ) → places ≡ map place_of is → ((k : ℕ) (i : RefItem) → slice_get is k ≡ Some i → place_of i < length table) → k < length is → get_or places k p < length table
+place_room is places table k p e room low =
+    let d : RefItem = item.Field 0 in
+    subst (λ m. m < length table) (sym (place_read is places k d p e low)) (room k (get_or is k d) (slice_get-get_or is k d low))
 
 -- all the items
 pub all_settled : (v : ItemValues) (is : List RefItem) (table : List ℕ) (end : ℕ) → length is ≤ end → SettledTo v is table end → (i : RefItem) → Contains is i → values_of table i ≡ v i

@@ -1,3 +1,4 @@
+pub mod Keeping
 pub mod Machines
 pub mod Moves
 pub mod Plain

@@ -1,5 +1,5 @@
 -- The fields of which hardware makes something by the number at one pin alone.
-use Rattle.std.specs.Prelude.{◌≡◌, ℕ, ◌+◌, ◌%◌, ◌^◌, ◌==◌, Bool, true, false, not, ◌&&◌, if◌then◌else◌, is_some, Option, Some, None, List, length, slice_get, slice_index, bit_and}
+use Rattle.std.specs.Prelude.{◌≡◌, ℕ, ◌<◌, ◌+◌, ◌%◌, ◌^◌, ◌==◌, Bool, true, false, not, ◌&&◌, if◌then◌else◌, is_some, Option, Some, None, List, slice_get, slice_index, bit_and}
 use Rattle.std.specs.Option.{option_map_or}
 use Rattle.rb_base.specs.Bits.{ones}
 use Rattle.rb_model.specs.declared.kinds.Amount.{Amount}
@@ -15,6 +15,7 @@ use Rattle.rb_model.specs.SoundField.{is_fed}
 use Rattle.block_plan.specs.declared.plan.FieldPlaces.{FieldPlaces}
 use Rattle.rb_machine.specs.declared.plain.PinCount.{PinCount}
 use Rattle.rb_machine.specs.declared.plain.PinStep.{PinStep}
+use Rattle.rb_machine.specs.declared.plain.PlainField.{PlainField}
 use Rattle.rb_machine.specs.declared.plain.PinStep.TheVariants as step
 use Rattle.rb_machine.specs.declared.sight.FieldState.{FieldState}
 
@@ -53,20 +54,28 @@ is_plain f = is_storage f.class && not f.hw_first && not (is_interrupt f.latch) 
 abbrev pub pin_step : Field → FieldPlaces → PinStep
 pin_step f p = option_map_or (λ c. step.Count (record { pin = p.up.pulse; amount = fixed_amount c.up; ones = ones f.width })) f.count (step.Load p.source)
 
-abbrev pub step_of : Field → FieldPlaces → PinStep
-step_of f p = if is_plain f then pin_step f p else step.Other
+-- it is such a field, and this is what it does
+pub record IsPlainField (fields : List Field) (places : List FieldPlaces) (s : PlainField) : Type 0 where
+  pub field : Field
+  pub here : slice_get fields s.number ≡ Some field
+  pub plain : is_plain field ≡ true
+  pub step : (p : FieldPlaces) → slice_get places s.number ≡ Some p → s.step ≡ pin_step field p
 
--- so for all fields
-pub record AreSteps (fields : List Field) (places : List FieldPlaces) (steps : List PinStep) : Type 0 where
-  pub sized : length steps ≡ length fields
-  pub each : (k : ℕ) (f : Field) (p : FieldPlaces) → slice_get fields k ≡ Some f → slice_get places k ≡ Some p → slice_get steps k ≡ Some (step_of f p)
+-- their numbers rise
+abbrev pub AreRising : List PlainField → Type 0
+AreRising steps = (i j : ℕ) (s t : PlainField) → i < j → slice_get steps i ≡ Some s → slice_get steps j ≡ Some t → s.number < t.number
+
+-- all such fields, in order
+pub record AreSteps (fields : List Field) (places : List FieldPlaces) (steps : List PlainField) : Type 0 where
+  pub each : (j : ℕ) (s : PlainField) → slice_get steps j ≡ Some s → IsPlainField fields places s
+  pub rising : AreRising steps
+  pub all : (k : ℕ) (f : Field) → slice_get fields k ≡ Some f → is_plain f ≡ true → (j : ℕ) × (s : PlainField) × (slice_get steps j ≡ Some s) × (s.number ≡ k)
 
 -- what a step makes of a value, where the pins have these numbers
 abbrev pub counted_up : List ℕ → PinCount → ℕ → ℕ
 counted_up pins c x = bit_and ((x + (if slice_index pins c.pin == 0 then 0 else c.amount)) % 2 ^ 64) c.ones
 
 abbrev pub step_value : List ℕ → PinStep → ℕ → ℕ
-step_value pins step.Other x = x
 step_value pins (step.Load pin) x = slice_index pins pin
 step_value pins (step.Count c) x = counted_up pins c x
 

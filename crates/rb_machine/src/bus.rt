@@ -13,11 +13,13 @@ ghost use Rattle.rb_model.specs.Run as run;
 ghost use Rattle.rb_model.specs.Run.{pins_of};
 ghost use Rattle.rb_model.specs.Sound.{IsSound};
 ghost use Rattle.block_plan.specs.Plan.{IsPlanOf};
+ghost use Rattle.rb_machine.specs.Keeping.{AreMoving, IsStill};
 ghost use Rattle.rb_machine.specs.Resets.{NoneReset};
 ghost use Rattle.rb_machine.specs.Scene.{map_of};
 ghost use Rattle.rb_machine.specs.Transfers as transfers;
-ghost use Rattle.rb_machine.specs.Transfers.{IsTransfer, access_seen, bus_seen};
+ghost use Rattle.rb_machine.specs.Transfers.{IsThere, IsTransfer, access_seen, bus_seen};
 
+use crate::keeping::take_fields;
 use crate::reset::hold_fields;
 use crate::scene::Held;
 use crate::sight::FieldState;
@@ -211,18 +213,32 @@ pub(crate) fn outs_shown(block: &Block, transfer: Transfer, held: &Held, answer:
 /// Holds what the fields keep after the edge, and with a wait state the access and its answer.
 pub(crate) fn commit(
     block: &Block,
+    moving: &[usize],
     transfer: Transfer,
+    is_reset: bool,
     answer: u64,
     states: &[FieldState],
     held: &mut Held,
 )
-    requires { length held.old.fields.items ≡ length states.now }
+    requires sound { IsSound block.now }
+    requires there { IsThere block.now transfer.access }
+    requires moving { AreMoving block.now.fields moving.now }
+    requires room { length states.now ≡ length block.now.fields }
+    requires sized { length held.old.fields.items ≡ length block.now.fields }
+    requires still { is_reset ≡ false → IsStill block.now (access_seen transfer.access) held.old.fields.items states.now }
     ensures fields { held.new.fields.items ≡ states.now }
     ensures waited { held.new.waited ≡ (has_wait block.now && transfer.carries) }
     ensures answer { held.new.«data» ≡ (if has_wait block.now then answer else 0) }
     ensures error { held.new.error ≡ (has_wait block.now && (transfer.carries && transfer.unmapped)) }
 {
-    held.fields.copy_from_slice(states);
+    take_fields(
+        block,
+        moving,
+        transfer.access,
+        is_reset,
+        states,
+        &mut held.fields,
+    );
     let waits = block.waits == 1;
     held.waited = waits && transfer.carries;
     held.data = if waits { answer } else { 0 };

@@ -6,6 +6,7 @@
 #![tactic(auto)]
 
 mod bus;
+mod keeping;
 mod machine;
 mod moves;
 mod plain;

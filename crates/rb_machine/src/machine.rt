@@ -1,5 +1,5 @@
 //! A register machine.
-ghost use Rattle.std.specs.Prelude.{◌≡◌, ◌∷◌, ◌+◌, ◌<◌, ◌^◌, ℕ, false, length, map, slice_index};
+ghost use Rattle.std.specs.Prelude.{◌≡◌, ◌∷◌, ◌+◌, ◌<◌, ◌^◌, ℕ, false, IfOk, length, map, replicate, slice_index};
 ghost use Rattle.rb_model.specs.Kept.{Kept};
 ghost use Rattle.rb_model.specs.Machine as spec;
 ghost use Rattle.rb_model.specs.Ports.{input_pins};
@@ -7,20 +7,21 @@ ghost use Rattle.rb_model.specs.Protocol.{bus_of};
 ghost use Rattle.rb_model.specs.Run.{bus_held, pins_of};
 ghost use Rattle.rb_model.specs.Sound.{IsSound};
 ghost use Rattle.block_plan.specs.Plan.{IsPlanOf};
-ghost use Rattle.rb_machine.specs.Scene.{map_of};
+ghost use Rattle.rb_machine.specs.Scene.{map_of, no_mark, no_state};
 ghost use Rattle.rb_machine.specs.Resets.{AreWays, NoneReset};
 ghost use Rattle.rb_machine.specs.Transfers.{IsTransfer};
-ghost use Rattle.rb_machine.specs.Table.{values_of};
+ghost use Rattle.rb_machine.specs.Table.{place_of};
 
-use crate::bus::{BusOuts, Transfer, bus_at, commit, hold, outs_shown, transfer_of};
+use crate::bus::{Access, BusOuts, Transfer, bus_at, commit, hold, outs_shown, transfer_of};
+use crate::keeping::moving_places;
 use crate::moves::{answer, mark_access, move_fields};
-use crate::plain::{PinStep, pin_steps};
+use crate::plain::{PlainField, pin_steps};
 use crate::quiet::{Brief, briefs, busy_places};
 use crate::reset::{reset_ways, some_asserted};
 use crate::scene::{EdgeState, Held, Strobes};
 use crate::sight::FieldState;
 use crate::sources::{Source, item_sources};
-use crate::table::{item_value, table_len};
+use crate::table::{item_places, number_at, place_of, table_len};
 use block_plan::{Outlet, Plan, wanted, wanted_items};
 use rb_base::NoMemory;
 use rb_model::{Block, RefItem, ResetBy};
@@ -32,13 +33,17 @@ pub struct Machine<'b> {
     block: &'b Block,
     plan: Plan,
     order: Vec<RefItem>,
+    places: Vec<usize>,
     resets: Vec<ResetBy>,
     briefs: Vec<Brief>,
     next: Vec<usize>,
-    steps: Vec<PinStep>,
+    steps: Vec<PlainField>,
+    moving: Vec<usize>,
+    shown: Vec<usize>,
     sources: Vec<Source>,
     held: Held,
     pins: Vec<u64>,
+    last: Access,
     marks: Vec<Strobes>,
     table: Vec<u64>,
     states: Vec<FieldState>,
@@ -96,16 +101,52 @@ fn observe(
     }
 }
 
-/// Shows the bus's outputs, and then the items of the others.
-fn show(bus: BusOuts, outlets: &[Outlet], table: &[u64], outs: &mut [u128])
-    requires { length outs.old ≡ 3 + length outlets.now }
-    ensures { outs.new ≡ bus.ready ∷ bus.«data» ∷ bus.error ∷ map (λ o. values_of table.now o.item) outlets.now }
+/// What is kept of so many fields where nothing is.
+fn no_states(alloc: Global, fields: usize) -> Result<Vec<FieldState>, NoMemory>
+    ensures items { IfOk result (λ all. all.items ≡ replicate fields no_state) }
+    ensures sized { IfOk result (λ all. length all.items ≡ fields) }
+{
+    let state = FieldState {
+        value: 0,
+        last: 0,
+        done: 0,
+    };
+    Ok(vec![in alloc; state; fields]?)
+}
+
+/// The marks of so many fields where no access reaches one.
+fn no_marks(alloc: Global, fields: usize) -> Result<Vec<Strobes>, NoMemory>
+    ensures items { IfOk result (λ all. all.items ≡ replicate fields no_mark) }
+    ensures sized { IfOk result (λ all. length all.items ≡ fields) }
+{
+    let mark = Strobes {
+        modified: false,
+        accessed: false,
+    };
+    Ok(vec![in alloc; mark; fields]?)
+}
+
+/// The places in the table of the items that outlets show.
+fn outlet_places(alloc: Global, outlets: &[Outlet]) -> Result<Vec<usize>, NoMemory>
+    ensures { IfOk result (λ all. all.items ≡ map (λ o. place_of o.item) outlets.now) }
+{
+    let mut all = Vec::new(alloc);
+    for outlet in outlets {
+        all.push(place_of(outlet.item))?;
+    }
+    Ok(all)
+}
+
+/// Shows the bus's outputs, and then what stands in the table at these places.
+fn show(bus: BusOuts, places: &[usize], table: &[u64], outs: &mut [u128])
+    requires { length outs.old ≡ 3 + length places.now }
+    ensures { outs.new ≡ bus.ready ∷ bus.«data» ∷ bus.error ∷ map (slice_index table.now) places.now }
 {
     outs[0] = u128::from(bus.ready);
     outs[1] = u128::from(bus.data);
     outs[2] = u128::from(bus.error);
-    for (index, outlet) in outlets.iter().enumerate() {
-        outs[index + 3] = u128::from(item_value(table, outlet.item));
+    for (index, place) in places.iter().enumerate() {
+        outs[index + 3] = u128::from(number_at(table, *place));
     }
 }
 
@@ -130,42 +171,40 @@ impl<'b> Machine<'b> {
         let plan = Plan::new(alloc, block)?;
         let needed = wanted(alloc, block, &plan)?;
         let order = wanted_items(alloc, block, &needed)?;
+        let places = item_places(alloc, &order)?;
         let items = table_len(&order);
         let resets = reset_ways(alloc, &block.fields.items)?;
         let briefs = briefs(alloc, &block.fields.items)?;
         let next = busy_places(alloc, &block.fields.items)?;
         let steps = pin_steps(alloc, &block.fields.items, &plan.fields)?;
+        let moving = moving_places(alloc, &block.fields.items)?;
+        let shown = outlet_places(alloc, &plan.outlets)?;
         let sources = item_sources(alloc, block, &plan, &order)?;
         let inputs = plan.inputs;
         let fields = block.fields.items.len();
-        let state = FieldState {
-            value: 0,
-            last: 0,
-            done: 0,
-        };
-        let mark = Strobes {
-            modified: false,
-            accessed: false,
-        };
         Ok(Machine {
             block,
             plan,
             order,
+            places,
             resets,
             briefs,
             next,
             steps,
+            moving,
+            shown,
             sources,
             held: Held {
-                fields: vec![in alloc; state; fields]?,
+                fields: no_states(alloc, fields)?,
                 waited: false,
                 data: 0,
                 error: false,
             },
             pins: vec![in alloc; 0; inputs]?,
-            marks: vec![in alloc; mark; fields]?,
+            last: Access::Off,
+            marks: no_marks(alloc, fields)?,
             table: vec![in alloc; 0; items]?,
-            states: vec![in alloc; state; fields]?,
+            states: no_states(alloc, fields)?,
         })
     }
 
@@ -191,7 +230,8 @@ impl<'b> Machine<'b> {
             &mut self.held,
         );
         let transfer = vector.transfer;
-        mark_access(block, transfer.access, &mut self.marks);
+        mark_access(block, self.last, transfer.access, &mut self.marks);
+        self.last = transfer.access;
         let scene = EdgeState {
             block,
             plan: &self.plan,
@@ -204,11 +244,19 @@ impl<'b> Machine<'b> {
             sources: &self.sources,
             is_reset: vector.is_reset,
         };
-        scene.settle(&self.order, &mut self.table);
+        scene.settle(&self.order, &self.places, &mut self.table);
         move_fields(&scene, &self.table, transfer.access, &mut self.states);
         let answered = answer(block, &self.table, transfer.access);
         let bus_outs = outs_shown(block, transfer, &self.held, answered);
-        show(bus_outs, &self.plan.outlets, &self.table, outs);
-        commit(block, transfer, answered, &self.states, &mut self.held);
+        show(bus_outs, &self.shown, &self.table, outs);
+        commit(
+            block,
+            &self.moving,
+            transfer,
+            vector.is_reset,
+            answered,
+            &self.states,
+            &mut self.held,
+        );
     }
 }

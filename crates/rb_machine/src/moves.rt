@@ -5,6 +5,7 @@ ghost use Rattle.rb_model.specs.Items.{ItemValues, NoAccess};
 ghost use Rattle.rb_model.specs.Machine as spec;
 ghost use Rattle.rb_model.specs.Run.{pins_of};
 ghost use Rattle.rb_model.specs.Sound.{IsSound};
+ghost use Rattle.rb_machine.specs.Keeping.{AreMarksOf};
 ghost use Rattle.rb_machine.specs.Moves.{begun_state, next_state, started_state};
 ghost use Rattle.rb_machine.specs.Quiet.{begins, rests};
 ghost use Rattle.rb_machine.specs.Scene.{AreStrobes, IsEdgeState, no_mark, now_in, mark_at, state_at};
@@ -13,33 +14,39 @@ ghost use Rattle.rb_machine.specs.Table.{values_of};
 ghost use Rattle.rb_machine.specs.Transfers.{IsThere, access_seen};
 
 use crate::bus::Access;
-use crate::plain::begun;
+use crate::plain::take_steps;
 use crate::reset::{is_asserted, kept_state, reset_state};
 use crate::scene::{EdgeState, Strobes};
 use crate::sight::FieldState;
-use crate::slots::{mark_read, mark_write, read_states, word_value, write_states};
+use crate::slots::{mark_read, mark_write, read_states, unmark, word_value, write_states};
 use rb_model::{Block, Field};
 
-/// Takes all marks away.
-fn clear(marks: &mut [Strobes])
-    ensures { (k : ℕ) → mark_at marks.new k ≡ no_mark }
-{
-    for mark in marks.iter_mut() {
-        *mark = Strobes {
-            modified: false,
-            accessed: false,
-        };
-    }
-}
-
-/// Marks the fields that an access reaches.
-pub(crate) fn mark_access(block: &Block, access: Access, marks: &mut [Strobes])
+/// Takes the marks of an access away.
+fn unmark_access(block: &Block, access: Access, marks: &mut [Strobes])
     requires sound { IsSound block.now }
     requires there { IsThere block.now access }
     requires sized { length marks.old ≡ length block.now.fields }
-    ensures { AreStrobes block.now (access_seen access) marks.new }
+    requires marks { AreMarksOf block.now (access_seen access) marks.old }
+    ensures { (k : ℕ) → mark_at marks.new k ≡ no_mark }
 {
-    clear(marks);
+    match access {
+        Access::Off => (),
+        Access::Read(number) => unmark(block, &block.reads.items[number], marks),
+        Access::Write(number, _) => unmark(block, &block.writes.items[number], marks),
+    }
+}
+
+/// Marks the fields that an access reaches, where the marks are those of the last access.
+pub(crate) fn mark_access(block: &Block, last: Access, access: Access, marks: &mut [Strobes])
+    requires sound { IsSound block.now }
+    requires last { IsThere block.now last }
+    requires there { IsThere block.now access }
+    requires sized { length marks.old ≡ length block.now.fields }
+    requires marks { AreMarksOf block.now (access_seen last) marks.old }
+    ensures strobes { AreStrobes block.now (access_seen access) marks.new }
+    ensures marks { AreMarksOf block.now (access_seen access) marks.new }
+{
+    unmark_access(block, last, marks);
     match access {
         Access::Off => (),
         Access::Read(number) => mark_read(block, &block.reads.items[number], marks),
@@ -147,9 +154,7 @@ fn begin(scene: &EdgeState, states: &mut [FieldState])
     if scene.is_reset {
         return;
     }
-    for (number, step) in scene.steps.iter().enumerate() {
-        states[number] = begun(scene.pins, *step, states[number]);
-    }
+    take_steps(scene.pins, scene.steps, states);
 }
 
 /// What each field keeps after the edge, of what software left. One that rests keeps all of it.

@@ -1,11 +1,13 @@
 //! The fields of which hardware makes something by the number at one pin alone.
-ghost use Rattle.std.specs.Prelude.{◌≡◌, ◌≤◌, ℕ, Some, IfOk, slice_get};
+ghost use Rattle.std.specs.Prelude.{◌≡◌, ◌≢◌, ◌≤◌, ◌<◌, ℕ, Some, IfOk, length, slice_get};
 ghost use Rattle.rb_model.specs.declared.block.Field.{Field};
 ghost use Rattle.block_plan.specs.declared.plan.FieldPlaces.{FieldPlaces};
 ghost use Rattle.rb_model.specs.Ports as ports;
 ghost use Rattle.rb_model.specs.SoundField as sound;
 ghost use Rattle.rb_machine.specs.Plain as spec;
-ghost use Rattle.rb_machine.specs.Plain.{AreSteps};
+ghost use Rattle.rb_machine.specs.Plain.{AreRising, AreSteps};
+ghost use Rattle.rb_machine.specs.Scene.{state_at};
+ghost use Rattle.rb_machine.specs.declared.plain.PlainField.{PlainField};
 
 use crate::sight::FieldState;
 use crate::table::number_at;
@@ -23,13 +25,18 @@ pub(crate) struct PinCount {
     pub ones: u64,
 }
 
-/// What hardware makes of a field at an edge: the number at the pin of a place, or a count by one pin, or else what all of its properties
-/// tell.
+/// What hardware makes of a field by one pin at an edge: the number at the pin of a place, or a count by the pin.
 #[derive(Clone, Copy)]
 pub(crate) enum PinStep {
-    Other,
     Load(usize),
     Count(PinCount),
+}
+
+/// A field of which hardware makes something by one pin: its number, and what that is.
+#[derive(Clone, Copy)]
+pub(crate) struct PlainField {
+    pub number: usize,
+    pub step: PinStep,
 }
 
 /// Whether a feed gives numbers.
@@ -143,41 +150,35 @@ fn pin_step(field: &Field, places: &FieldPlaces) -> PinStep
     }
 }
 
-/// What hardware makes of a field, where one pin tells it.
-fn step_of(field: &Field, places: &FieldPlaces) -> PinStep
-    requires { field.now.width ≤ 64 }
-    ensures { result ≡ spec.step_of field.now places.now }
-{
-    if is_plain(field) {
-        pin_step(field, places)
-    } else {
-        PinStep::Other
-    }
-}
-
-/// What hardware makes of the field of a number, where one pin tells it.
+/// What hardware makes of the field of a number by one pin.
 fn step_at(places: &[FieldPlaces], number: usize, field: &Field) -> PinStep
     requires { field.now.width ≤ 64 }
-    ensures { (p : FieldPlaces) → slice_get places.now number ≡ Some p → result ≡ spec.step_of field.now p }
+    ensures { (p : FieldPlaces) → slice_get places.now number ≡ Some p → result ≡ spec.pin_step field.now p }
 {
     match places.get(number) {
-        None => PinStep::Other,
-        Some(places) => step_of(field, places),
+        None => PinStep::Load(0),
+        Some(places) => pin_step(field, places),
     }
 }
 
-/// What hardware makes of each field, where one pin tells it.
+/// The fields of which hardware makes something by one pin, in order.
 pub(crate) fn pin_steps(
     alloc: Global,
     fields: &[Field],
     places: &[FieldPlaces],
-) -> Result<Vec<PinStep>, NoMemory>
+) -> Result<Vec<PlainField>, NoMemory>
     requires wide { (k : ℕ) (f : Field) → slice_get fields.now k ≡ Some f → f.width ≤ 64 }
     ensures { IfOk result (λ all. AreSteps fields.now places.now all.items) }
 {
     let mut all = Vec::new(alloc);
     for (number, field) in fields.iter().enumerate() {
-        all.push(step_at(places, number, field))?;
+        if !is_plain(field) {
+            continue;
+        }
+        all.push(PlainField {
+            number,
+            step: step_at(places, number, field),
+        })?;
     }
     Ok(all)
 }
@@ -199,19 +200,31 @@ fn stepped(pins: &[u64], step: PinStep, value: u64) -> u64
     ensures { result ≡ spec.step_value pins.now step value }
 {
     match step {
-        PinStep::Other => value,
         PinStep::Load(pin) => number_at(pins, pin),
         PinStep::Count(count) => counted_up(pins, count, value),
     }
 }
 
 /// What the field has whose hardware takes this step.
-pub(crate) fn begun(pins: &[u64], step: PinStep, state: FieldState) -> FieldState
+fn begun(pins: &[u64], step: PinStep, state: FieldState) -> FieldState
     ensures { result ≡ spec.begun_by pins.now step state }
 {
     FieldState {
         value: stepped(pins, step, state.value),
         last: state.last,
         done: state.done,
+    }
+}
+
+/// Lets the hardware of these fields act, each by its pin.
+pub(crate) fn take_steps(pins: &[u64], steps: &[PlainField], states: &mut [FieldState])
+    requires rising { AreRising steps.now }
+    requires room { (j : ℕ) (t : PlainField) → slice_get steps.now j ≡ Some t → t.number < length states.old }
+    ensures moved { (j : ℕ) (t : PlainField) → slice_get steps.now j ≡ Some t → state_at states.new t.number ≡ spec.begun_by pins.now t.step (state_at states.old t.number) }
+    ensures others { (k : ℕ) → ((j : ℕ) (t : PlainField) → slice_get steps.now j ≡ Some t → t.number ≢ k) → state_at states.new k ≡ state_at states.old k }
+{
+    for plain in steps {
+        let number = plain.number;
+        states[number] = begun(pins, plain.step, states[number]);
     }
 }

@@ -31,7 +31,7 @@ fn is_spared(field: &Field) -> bool
 }
 
 /// Whether what a field keeps changes through software alone, as it does where the field keeps nothing.
-fn is_quiet(field: &Field) -> bool
+pub(crate) fn is_quiet(field: &Field) -> bool
     ensures { result ≡ spec.is_quiet field.now }
 {
     is_spared(field) || (!is_storage(field.class) && !keeps_last(field.latch))

@@ -1,12 +1,12 @@
 //! What a block finds at an edge, and the values of its items.
 ghost use Rattle.std.specs.Prelude.{◌≡◌};
 
-use crate::plain::PinStep;
+use crate::plain::PlainField;
 use crate::quiet::Brief;
 use crate::reset::signal_pin;
 use crate::sight::{FieldNow, FieldState};
 use crate::sources::{Source, source_at};
-use crate::table::{item_value, number_at, place_of};
+use crate::table::{item_value, number_at};
 use block_plan::Plan;
 use rb_effects::ones;
 use rb_model::{Block, RefItem};
@@ -29,7 +29,7 @@ pub(crate) struct Strobes {
 }
 
 /// A block at an edge, with the pins, what it holds, the marks of the access, what is looked at of each field, for each place the
-/// next whose field isn't light, the fields' steps by one pin, where the
+/// next whose field isn't light, the fields that one pin moves, where the
 /// items' values come from, and whether some reset of a field is asserted.
 #[derive(Clone, Copy)]
 pub(crate) struct EdgeState<'a> {
@@ -40,13 +40,13 @@ pub(crate) struct EdgeState<'a> {
     pub marks: &'a [Strobes],
     pub briefs: &'a [Brief],
     pub next: &'a [usize],
-    pub steps: &'a [PinStep],
+    pub steps: &'a [PlainField],
     pub sources: &'a [Source],
     pub is_reset: bool,
 }
 
 impl<'a> EdgeState<'a> {
-    ghost use Rattle.std.specs.Prelude.{◌≡◌, ◌<◌, ◌≤◌, ℕ, true, false, None, Some, Contains, MatchOption, length, slice_get};
+    ghost use Rattle.std.specs.Prelude.{◌≡◌, ◌<◌, ◌≤◌, ℕ, true, false, None, Some, Contains, MatchOption, length, map, slice_get};
     ghost use Rattle.block_plan.specs.Plan.{members_of};
     ghost use Rattle.std.specs.List.{enumerate_from, list_any};
     ghost use Rattle.std.specs.Option.{option_map, option_map_or};
@@ -56,8 +56,7 @@ impl<'a> EdgeState<'a> {
     ghost use Rattle.rb_model.specs.References.{IsOrdered};
     ghost use Rattle.rb_model.specs.Ports.{signal_name};
     ghost use Rattle.rb_model.specs.Run.{pins_of};
-    ghost use Rattle.rb_machine.specs.Table as places;
-    ghost use Rattle.rb_machine.specs.Table.{values_of};
+    ghost use Rattle.rb_machine.specs.Table.{place_of, values_of};
     ghost use Rattle.rb_model.specs.declared.block.Field.{Field};
     ghost use Rattle.rb_model.specs.Kept.{Val, is_storage};
     ghost use Rattle.rb_machine.specs.Quiet.{brief_of, rests};
@@ -295,20 +294,21 @@ impl<'a> EdgeState<'a> {
         }
     }
 
-    /// Computes the values of items, each behind those that it refers to. What is in the table of others is no matter.
-    pub fn settle(&self, order: &[RefItem], table: &mut [u64])
+    /// Computes the values of items at their places, each behind those that it refers to. What is in the table of others is no matter.
+    pub fn settle(&self, order: &[RefItem], places: &[usize], table: &mut [u64])
         requires scene { IsEdgeState self.now }
         requires sources { AreSources self.now.block.now order.now self.now.sources.now }
         requires ordered { IsOrdered self.now.block.now order.now }
         requires own { (k : ℕ) (i : RefItem) → slice_get order.now k ≡ Some i → Contains (items self.now.block.now) i }
-        requires room { (k : ℕ) (i : RefItem) → slice_get order.now k ≡ Some i → places.place_of i < length table.old }
+        requires places { places.now ≡ map place_of order.now }
+        requires room { (k : ℕ) (i : RefItem) → slice_get order.now k ≡ Some i → place_of i < length table.old }
         ensures { (a : Access) (v : ItemValues) → AreStrobes self.now.block.now a self.now.marks.now → AreItemValues self.now.block.now (now_in self.now a) v
             → (i : RefItem) → Contains order.now i → values_of table.new i ≡ v i }
     {
-        for (place, item) in order.iter().enumerate() {
-            let item = *item;
-            let value = self.drawn(table, source_at(self.sources, place), item);
-            table[place_of(item)] = value;
+        for (index, item) in order.iter().enumerate() {
+            let value = self.drawn(table, source_at(self.sources, index), *item);
+            let place = places[index];
+            table[place] = value;
         }
     }
 }

@@ -5,7 +5,7 @@ ghost use Rattle.rb_model.specs.declared.kinds.RefItem.TheVariants as item;
 ghost use Rattle.rb_model.specs.Items as items;
 ghost use Rattle.rb_model.specs.Machine as spec;
 ghost use Rattle.rb_model.specs.Sound.{IsSound, WordIsSound};
-ghost use Rattle.rb_machine.specs.Scene.{IsEdgeState, mark_at, now_in, state_at};
+ghost use Rattle.rb_machine.specs.Scene.{IsEdgeState, mark_at, no_mark, now_in, state_at};
 ghost use Rattle.rb_machine.specs.Slots as slots;
 ghost use Rattle.rb_machine.specs.Slots.{read_state, touched_by, width_at, write_state, written_by};
 ghost use Rattle.rb_model.specs.declared.block.Slot.{Slot};
@@ -99,6 +99,42 @@ pub(crate) fn mark_write(block: &Block, word: &Word, marks: &mut [Strobes])
         let view = view_at(block, slot.view);
         let number = view.field as usize;
         marks[number] = write_mark(view, marks[number]);
+    }
+}
+
+/// Takes away the marks of the fields that a word has.
+pub(crate) fn unmark(block: &Block, word: &Word, marks: &mut [Strobes])
+    requires sound { IsSound block.now }
+    requires word { WordIsSound block.now word.now }
+    requires sized { length marks.old ≡ length block.now.fields }
+    ensures { (k : ℕ) → mark_at marks.new k ≡ touched_by block.now k (λ w s m. no_mark) (mark_at marks.old k) word.now.slots }
+{
+    for slot in &word.slots.items {
+        let view = view_at(block, slot.view);
+        marks[view.field as usize] = Strobes {
+            modified: false,
+            accessed: false,
+        };
+    }
+}
+
+/// Takes over what the fields of a word keep.
+pub(crate) fn take_word(
+    block: &Block,
+    word: &Word,
+    states: &[FieldState],
+    fields: &mut [FieldState],
+)
+    requires sound { IsSound block.now }
+    requires word { WordIsSound block.now word.now }
+    requires room { length states.now ≡ length block.now.fields }
+    requires sized { length fields.old ≡ length block.now.fields }
+    ensures { (k : ℕ) → state_at fields.new k ≡ touched_by block.now k (λ w s x. state_at states.now w.field) (state_at fields.old k) word.now.slots }
+{
+    for slot in &word.slots.items {
+        let view = view_at(block, slot.view);
+        let number = view.field as usize;
+        fields[number] = states[number];
     }
 }
 

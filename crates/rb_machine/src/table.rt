@@ -1,10 +1,12 @@
 //! The table of the items' values.
-ghost use Rattle.std.specs.Prelude.{◌≡◌, ◌<◌, ◌^◌, ℕ, Some, slice_get, slice_index};
+ghost use Rattle.std.specs.Prelude.{◌≡◌, ◌<◌, ◌^◌, ℕ, Some, IfOk, map, slice_get, slice_index};
 ghost use Rattle.rb_model.specs.declared.kinds.RefItem.{RefItem};
 ghost use Rattle.rb_machine.specs.Table as spec;
 ghost use Rattle.rb_machine.specs.Table.{values_of};
 
+use rb_base::NoMemory;
 use rb_model::RefItem;
+use std::alloc::Global;
 
 /// The place of an item's value. Most items are fields, so that these have every second place, and the others those between.
 pub(crate) fn place_of(item: RefItem) -> usize
@@ -26,6 +28,17 @@ pub(crate) fn place_of(item: RefItem) -> usize
         RefItem::Intr(number) => number as usize * 24 + 21,
         RefItem::Halt(number) => number as usize * 24 + 23,
     }
+}
+
+/// The places of items' values, in the items' order.
+pub(crate) fn item_places(alloc: Global, items: &[RefItem]) -> Result<Vec<usize>, NoMemory>
+    ensures { IfOk result (λ all. all.items ≡ map spec.place_of items.now) }
+{
+    let mut all = Vec::new(alloc);
+    for item in items {
+        all.push(place_of(*item))?;
+    }
+    Ok(all)
 }
 
 /// How many places a table of these items has: all their places are below it.

@@ -12,5 +12,5 @@ first_three (x ∷ y ∷ z ∷ rest) a b c m h = refl
 pub loop-index-init : goal.loop-index-init
 loop-index-init c = record {
   sized = length-set _ 2 c.from-3.result ∙ (length-set _ 1 c.from-2.result ∙ (length-set c.args.outs.now 0 c.from.result ∙ c.requires));
-  values = rw (← c.from.ensures, ← c.from-2.ensures, ← c.from-3.ensures) (first_three c.args.outs.now c.from.result c.from-2.result c.from-3.result (length c.args.outlets.now) c.requires);
+  values = rw (← c.from.ensures, ← c.from-2.ensures, ← c.from-3.ensures) (first_three c.args.outs.now c.from.result c.from-2.result c.from-3.result (length c.args.places.now) c.requires);
 }

@@ -1,9 +1,8 @@
-use Rattle.std.proofs.Common.{◌≡◌, ◌+◌, ◌∷◌, length, map, take}
-use Rattle.rb_machine.specs.Table.{values_of}
+use Rattle.std.proofs.Common.{◌≡◌, ◌+◌, ◌∷◌, length, map, slice_index, take}
 use Rattle.rb_machine.proofs.machine.show.Given as goal
 
 abbrev pub invariant-loop-index : goal.invariant-loop-index
 invariant-loop-index l = record {
-  sized : length l.outs ≡ 3 + length l.outlets;
-  values : take (l.index + 3) l.outs ≡ l.fn.bus.ready ∷ l.fn.bus.«data» ∷ l.fn.bus.error ∷ map (λ o. values_of l.table o.item) (take l.index l.outlets);
+  sized : length l.outs ≡ 3 + length l.places;
+  values : take (l.index + 3) l.outs ≡ l.fn.bus.ready ∷ l.fn.bus.«data» ∷ l.fn.bus.error ∷ map (slice_index l.table) (take l.index l.places);
 }

@@ -1,14 +1,26 @@
-use Rattle.std.proofs.Common.{◌∙◌, ◌∷◌, [], ap, length, arith}
-use Rattle.std.proofs.lemmas.List.{length-append}
-use Rattle.rb_machine.proofs.Plainly.{steps_all, steps_more}
+use Rattle.std.proofs.Common.{◌≡◌, ◌∙◌, Some, length, refl, slice_get, sym}
+use Rattle.std.proofs.lemmas.Option.{slice_get_read}
+use Rattle.rb_machine.proofs.Begun.{is_field, steps_all, steps_more, steps_none, steps_skip}
 use Rattle.rb_machine.proofs.plain.pin_steps.Goals as goal
 
+pub loop-number-init : goal.loop-number-init
+loop-number-init c = steps_none c.args.fields.now c.args.places.now c.new-all.result.items c.new-all.ensures.items
+
+pub loop-number-preserved-then-not-is_plain : goal.loop-number-preserved-then-not-is_plain
+loop-number-preserved-then-not-is_plain c =
+    let fields = c.args.fields.now in
+    let i = c.loop-number.number in
+    let g = c.index-fields-number.result in
+    steps_skip fields c.args.places.now c.loop-number.all.items i g (slice_get_read fields (length fields) i g refl c.loop-number-test.true c.index-fields-number.is) (sym c.is_plain.ensures ∙ c.if-not-is_plain.true) c.loop-number.invariant
+
 pub loop-number-preserved : goal.loop-number-preserved
-loop-number-preserved c = record {
-  sized = ap length c.in_ok-push.ensures.items ∙ omega (arith, length-append c.loop-number.all.items (c.step_at.result ∷ []), c.loop-number.invariant.sized);
-  each = steps_more c.args.fields.now c.args.places.now c.loop-number.number c.index-fields-number.result c.loop-number.all.items c.push.new.self.items c.step_at.result c.loop-number-test.true c.index-fields-number.is
-      c.loop-number.invariant.sized c.in_ok-push.ensures.items c.step_at.ensures c.loop-number.invariant.each;
-}
+loop-number-preserved c =
+    let fields = c.args.fields.now in
+    let i = c.loop-number.number in
+    let g = c.index-fields-number.result in
+    let here : slice_get fields i ≡ Some g = slice_get_read fields (length fields) i g refl c.loop-number-test.true c.index-fields-number.is in
+    let is = is_field fields c.args.places.now i g c.step_at.result here (sym c.is_plain.ensures ∙ c.if-not-is_plain.false) c.step_at.ensures in
+    steps_more fields c.args.places.now c.loop-number.all.items c.push.new.self.items (record { number = i; step = c.step_at.result }) c.in_ok-push.ensures.items is c.loop-number.invariant
 
 pub returns : goal.returns
-returns c = steps_all c.args.fields.now c.args.places.now c.loop-number.number c.loop-number.all.items c.loop-number-test.false c.loop-number.auto.number-end c.loop-number.invariant.sized c.loop-number.invariant.each
+returns c = steps_all c.args.fields.now c.args.places.now c.loop-number.all.items c.loop-number.number c.loop-number-test.false c.loop-number.invariant

@@ -10,4 +10,4 @@ pub returns-in-Some : goal.returns-in-Some
 returns-in-Some c p there =
     let l = c.in-Some.ensures.lookup in
     let at : slice_get c.args.places.now c.args.number ≡ Some c.in-Some.places.now = slice_get_read c.args.places.now (length c.args.places.now) c.args.number c.in-Some.places.now refl l.3.0 l.1 in
-    c.step_of.ensures ∙ ap (spec.step_of c.args.field.now) (same_Some c.in-Some.places.now p (sym at ∙ there))
+    c.pin_step.ensures ∙ ap (spec.pin_step c.args.field.now) (same_Some c.in-Some.places.now p (sym at ∙ there))
