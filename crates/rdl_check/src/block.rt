@@ -53,9 +53,10 @@ pub(crate) fn describe<'a>(
         rows,
         own: &tables.numbers.own,
     };
-    // What finds the order takes the most memory, so it stands before the lists are there.
+    // What finds the order takes the most memory, so it stands before the lists are there, and the tables go before the words come.
     let order = order_of(alloc, known, &tables.marks)?;
     let lists = lists_of(alloc, elab, known, &settled.facts, &tables)?;
+    drop(tables);
     let words = all_words(alloc, elab, &settled.props, map, rows)?;
     let name = name_of(alloc, elab)?;
     Ok(Block {
