@@ -1,7 +1,7 @@
 //! What fits over values of at most 64 bits at places below 2^32.
 ghost use Rattle.std.specs.Prelude.{◌≡◌, ◌+◌, IfOk};
 
-use crate::width::{Bit, Width};
+use sim_lanes::{Bit, Width};
 use rb_base::NoMemory;
 use std::alloc::{AllocError, AllocFailed};
 

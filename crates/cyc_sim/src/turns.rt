@@ -1,6 +1,6 @@
 //! The order in which narrow operations are computed.
 use crate::kinds::{guard_kind, one_kind, two_kind};
-use crate::narrow::Kind;
+use sim_lanes::Kind;
 use crate::operation::Operation;
 use rb_base::NoMemory;
 use std::alloc::Global;
