@@ -5,10 +5,9 @@ ghost use Rattle.cyc_sim.specs.Operations.{are_places};
 
 use crate::arrangement::Arrangement;
 use crate::fitting::{Unfit, sum_of};
-use sim_lanes::NarrowOperation;
 use crate::narrowing::are_below;
 use crate::program::Program;
-use sim_lanes::{Run, are_runs, runs_of};
+use sim_lanes::{NarrowOperation, Run, are_runs, runs_of};
 use std::alloc::Global;
 
 /// As `Program`, where no value has more than 64 bits. Behind the first places are those of the constants.

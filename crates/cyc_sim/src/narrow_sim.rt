@@ -105,7 +105,7 @@ impl NarrowSim {
             → StepsTo m contents pins.now outs.new (held_narrow self.new) × IsNarrowOf m self.new }
     {
         put_low(&mut self.taken, 0, pins);
-        self.schedule.put(&mut self.values, 0, &self.taken);
+        self.schedule.take(&mut self.values, 0, &self.taken);
         self.schedule.settle(
             &self.program.runs,
             &self.program.operations,

@@ -8,10 +8,9 @@ ghost use Rattle.cyc_sim.specs.Narrow.{AreNarrow, IsNarrowModule};
 use crate::arrangement::Arrangement;
 use crate::fitting::{Unfit, bit_of, width_of};
 use crate::kinds::{guard_kind, one_kind, two_kind};
-use sim_lanes::{Kind, NarrowOperation};
 use crate::operation::Operation;
-use sim_lanes::{Bit, Width};
 use rb_base::Pin;
+use sim_lanes::{Bit, Kind, NarrowOperation, Width};
 use std::alloc::Global;
 use v_design::{Design, VOne, VTwo};
 

@@ -9,6 +9,7 @@ mod runs;
 mod schedule;
 mod width;
 
+pub use moves::put_narrow;
 pub use narrow::{Kind, NarrowOperation};
 pub use runs::{Run, are_runs, runs_of, settle_narrow};
 pub use schedule::Schedule;

@@ -1,4 +1,5 @@
 use Rattle.std.proofs.Common.{◌≡◌, length, take, ap, arith}
+use Rattle.std.proofs.lemmas.Bool.{OnTrue_at}
 use Rattle.std.proofs.lemmas.List.{length-take, with_items_is}
 use Rattle.sim_lanes.proofs.Moving.{calm_all}
 use Rattle.sim_lanes.proofs.schedule.Schedule.settle_all.Goals as goal
@@ -14,7 +15,7 @@ returns-clause-schedule c = λ runs h.
       room = omega (arith, h.room, ap length is, long, s.due.ok.0);
       fed = h.fed;
       calm = λ yes. (
-        h.fed yes,
+        h.fed (OnTrue_at yes c.becomes_calm-calm.ensures),
         calm_all os _ c.settle_narrow.new.values vs c.args.first (omega (arith, length-take c.args.first c.args.values.now, c.requires.sized)) c.requires.below (c.settle_narrow.ensures runs)
             (omega (arith, h.room, ap length is, long, s.due.ok.0)),
       );

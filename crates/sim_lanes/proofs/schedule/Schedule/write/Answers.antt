@@ -1,10 +1,10 @@
 use Rattle.std.proofs.Common.{◌≡◌, length, ap, sym, subst, arith}
 use Rattle.std.proofs.lemmas.List.{with_items_is}
 use Rattle.sim_lanes.specs.Due.{IsCalm}
-use Rattle.sim_lanes.proofs.schedule.Schedule.put.Goals as goal
+use Rattle.sim_lanes.proofs.schedule.Schedule.write.Goals as goal
 
-pub returns-then-moved-self-clause-schedule : goal.returns-then-moved-self-clause-schedule
-returns-then-moved-self-clause-schedule c = λ first os front h.
+pub returns-then-stays-clause-schedule : goal.returns-then-stays-clause-schedule
+returns-then-stays-clause-schedule c = λ first os front h.
     let s = c.args.self.now in
     let long : length c.change_all.new.due ≡ s.due.len = omega (arith, ap length c.deref_mut.ensures.value, s.due.ok.0, c.change_all.auto.due) in
     let is = with_items_is s.due c.change_all.new.due long in
