@@ -6,15 +6,15 @@ use Rattle.std.proofs.Math.Seq.{get_or-append_seam}
 use Rattle.std.proofs.lemmas.List.{get_or_append_left}
 use Rattle.v_design.specs.Expr.{value_under}
 use Rattle.cyc_sim.specs.declared.arrangement.Arrangement.{Arrangement}
-use Rattle.cyc_sim.specs.declared.narrow.NarrowOperation.{NarrowOperation}
-use Rattle.cyc_sim.specs.declared.narrow.Kind.TheVariants as kind
+use Rattle.sim_lanes.specs.declared.narrow.NarrowOperation.{NarrowOperation}
+use Rattle.sim_lanes.specs.declared.narrow.Kind.TheVariants as kind
 use Rattle.cyc_sim.specs.declared.operation.Operation.{Operation}
 use Rattle.cyc_sim.specs.declared.operation.Operation.TheVariants.{Constant, Part, Join, One, Two, Pick, Guard}
 use Rattle.cyc_sim.specs.Operations.{are_places, are_within, is_within, result_over, value_by, values_after, values_in}
-use Rattle.cyc_sim.specs.Narrow.{AreBelow, narrow_after}
+use Rattle.sim_lanes.specs.Narrow.{AreBelow, narrow_after}
 use Rattle.cyc_sim.specs.Arranged.{AreAlike, HasConstants, IsArrangement, IsConstant, IsPlaced, IsTurn, StandsAt}
 use Rattle.cyc_sim.proofs.Settling.{values_after-next, values_stay, within_at}
-use Rattle.cyc_sim.proofs.NarrowSettling.{narrow_calm, narrow_stay}
+use Rattle.sim_lanes.proofs.Settling.{narrow_calm, narrow_stay}
 use Rattle.plain_lemmas.proofs.Bools.{and-left, and-right}
 use Rattle.plain_lemmas.proofs.Numbers.{less as below_test}
 

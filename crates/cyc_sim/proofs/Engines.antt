@@ -11,7 +11,9 @@ use Rattle.cyc_sim.specs.declared.sim.WideSim.{WideSim}
 use Rattle.cyc_sim.specs.declared.sim.Engine.{Engine}
 use Rattle.cyc_sim.specs.declared.sim.Engine.TheVariants.{Wide, Narrow}
 use Rattle.cyc_sim.specs.declared.sim.Sim.{Sim}
-use Rattle.cyc_sim.specs.Narrow.{AreNarrow, IsNarrowModule, low_all, narrow_after}
+use Rattle.sim_lanes.specs.Narrow.{narrow_after}
+use Rattle.sim_lanes.specs.Schedules.{IsSchedule}
+use Rattle.cyc_sim.specs.Narrow.{AreNarrow, IsNarrowModule, low_all}
 use Rattle.cyc_sim.specs.Narrowed.{Narrows}
 use Rattle.cyc_sim.specs.Operations.{values_in}
 use Rattle.cyc_sim.specs.Simulation.{IsEngineOf, IsNarrowOf, IsNarrowProgramOf, IsProgramOf, IsSimOf, IsWideOf, StepsTo, constants_in, held, held_in, held_narrow, held_wide, inputs_in, narrow_values, next_of, outputs_in, outputs_of}
@@ -61,10 +63,11 @@ narrow_program_of m p q h narrow n = record {
   runs = n.runs;
 }
 
-pub narrow_of_program : (m : Module) (q : NarrowProgram) (s : NarrowSim) (start : List ℕ) → IsNarrowProgramOf m q → s.program ≡ q → held_narrow s ≡ low_all start → constants_in s ≡ q.constants.items → FitsPins (registers m) start → IsNarrowOf m s
-narrow_of_program m q s start h same is constants fits =
+pub narrow_of_program : (m : Module) (q : NarrowProgram) (s : NarrowSim) (start : List ℕ) → IsNarrowProgramOf m q → s.program ≡ q → held_narrow s ≡ low_all start → constants_in s ≡ q.constants.items
+    → IsSchedule s.schedule s.program.limit s.program.operations.items s.values.items → FitsPins (registers m) start → IsNarrowOf m s
+narrow_of_program m q s start h same is constants schedule fits =
     let k : IsNarrowProgramOf m s.program = subst (IsNarrowProgramOf m) (sym same) h in
-    record { takes = k.takes; gives = k.gives; program = k; constants = constants ∙ ap (λ x. x.constants.items) (sym same); fits = subst (FitsPins (registers m)) (sym (narrow_held m s start is h.narrow.contents fits)) fits }
+    record { takes = k.takes; gives = k.gives; program = k; constants = constants ∙ ap (λ x. x.constants.items) (sym same); schedule = schedule; fits = subst (FitsPins (registers m)) (sym (narrow_held m s start is h.narrow.contents fits)) fits }
 
 -- a step by either engine
 pub wide_step : (m : Module) (old new : Sim) (a b : WideSim) (pins outs : List ℕ) (contents : Values) → old.engine ≡ Wide a → new.engine ≡ Wide b

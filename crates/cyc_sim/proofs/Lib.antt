@@ -6,14 +6,12 @@ pub mod Facts
 mod Knowing
 mod Lows
 mod NarrowPrograms
-mod NarrowSettling
 mod NarrowStepping
 mod Numbers
 mod Ordering
 mod Places
 mod Programs
 mod Readying
-mod Running
 mod Settling
 mod Sizes
 mod Stages

@@ -2,11 +2,11 @@
 use Rattle.std.proofs.Common.{◌≡◌, ℕ, zero, suc, ◌+◌, ◌%◌, ◌^◌, ◌<◌, ◌≤◌, List, [], ◌∷◌, ◌++◌, length, take, drop, get_or, refl, ap, sym, ◌∙◌, arith}
 use Rattle.std.proofs.Math.Nat.{mod-eq_of_lt, pow-le-pow_right}
 use Rattle.std.proofs.Math.ListN.{set}
-use Rattle.std.proofs.lemmas.List.{length-map, take_all}
+use Rattle.std.proofs.lemmas.List.{drop_all, length-map, take_all}
 use Rattle.rb_base.specs.declared.ports.Pin.{Pin}
 use Rattle.v_design.specs.Fits.{FitsPins}
 use Rattle.cyc_sim.specs.Narrow.{AreNarrow, low_all}
-use Rattle.cyc_sim.proofs.Places.{put_more}
+use Rattle.sim_lanes.proofs.Places.{put_more}
 
 pub low_at : (xs : List ℕ) (k : ℕ) → get_or (low_all xs) k 0 ≡ get_or xs k 0 % 2 ^ 64
 low_at [] k = refl
@@ -44,3 +44,11 @@ put_all old ns at k is =
 pub narrow_more : (ps : List Pin) (p : Pin) → AreNarrow ps → p.width ≤ 64 → AreNarrow (ps ++ (p ∷ []))
 narrow_more [] p h k = (k, tt)
 narrow_more (q ∷ qs) p h k = (h.0, narrow_more qs p h.1 k)
+
+-- numbers are written over all values
+pub written_all : (old ns : List ℕ) → length ns ≡ length old → take 0 old ++ (ns ++ drop (0 + length ns) old) ≡ ns
+written_all old ns long = ap (λ xs. ns ++ xs) (drop_all (0 + length ns) old (omega (arith, long))) ∙ append-nil ns
+  where
+    append-nil : (xs : List ℕ) → xs ++ [] ≡ xs
+    append-nil [] = refl
+    append-nil (x ∷ xs) = ap (λ ys. x ∷ ys) (append-nil xs)

@@ -5,9 +5,9 @@ use Rattle.cyc_sim.specs.declared.arrangement.Arrangement.{Arrangement}
 use Rattle.cyc_sim.specs.declared.narrow_program.NarrowProgram.{NarrowProgram}
 use Rattle.cyc_sim.specs.declared.program.Program.{Program}
 use Rattle.cyc_sim.specs.Operations.{are_places, values_after, values_in}
-use Rattle.cyc_sim.specs.Narrow.{narrow_after}
+use Rattle.sim_lanes.specs.Narrow.{narrow_after}
 use Rattle.cyc_sim.specs.Narrowed.{Narrows}
-use Rattle.cyc_sim.specs.Runs.{AreRuns}
+use Rattle.sim_lanes.specs.Runs.{AreRuns}
 use Rattle.cyc_sim.proofs.Arranging.{IsMade, alike_after, values_alike}
 
 -- the values at some places of a program

@@ -1,9 +1,11 @@
 -- What a step of a narrow simulation does.
-use Rattle.std.proofs.Common.{◌≡◌, ℕ, zero, suc, ◌+◌, ◌≤◌, List, [], ◌∷◌, ◌++◌, length, take, drop, refl, ap, sym, ◌∙◌, append_assoc, length-append, arith}
+use Rattle.std.proofs.Common.{◌≡◌, ℕ, zero, suc, ◌+◌, ◌≤◌, List, [], ◌∷◌, ◌++◌, length, take, drop, refl, ap, sym, subst, ◌∙◌, append_assoc, length-append, arith}
 use Rattle.std.proofs.Math.Seq.{drop-append_seam, take-append_seam}
 use Rattle.std.proofs.lemmas.List.{drop-drop, length-take}
-use Rattle.cyc_sim.specs.declared.narrow.NarrowOperation.{NarrowOperation}
-use Rattle.cyc_sim.specs.Narrow.{narrow_after, value_at}
+use Rattle.sim_lanes.specs.declared.narrow.NarrowOperation.{NarrowOperation}
+use Rattle.sim_lanes.specs.declared.schedule.Schedule.{Schedule}
+use Rattle.sim_lanes.specs.Schedules.{IsSchedule}
+use Rattle.sim_lanes.specs.Narrow.{narrow_after, value_at}
 use Rattle.cyc_sim.proofs.Places.{first_places}
 
 -- the values begin with those given
@@ -58,3 +60,6 @@ narrow_settled operations ops values v0 v1 v2 v3 pins constants inputs count mor
     let written : take first v2 ≡ pins ++ (take count (drop inputs values) ++ constants)
     = ap (λ n. take n v2) group ∙ (ap (take (inputs + (count + more))) put' ∙ (first_places v0 pins v1 inputs (count + more) long put ∙ (ap (λ vs. pins ++ take (count + more) (drop inputs vs)) is ∙ ap (λ xs. pins ++ xs) rest))) in
     settled ∙ (ap (λ os. narrow_after os (take first v2)) same ∙ ap (narrow_after operations) written)
+
+pub schedule_as : (s : Schedule) (first : ℕ) (os os' : List NarrowOperation) (vs vs' : List ℕ) → os' ≡ os → vs' ≡ vs → IsSchedule s first os vs → IsSchedule s first os' vs'
+schedule_as s first os os' vs vs' p q h = subst (λ xs. IsSchedule s first xs vs') (sym p) (subst (IsSchedule s first os) (sym q) h)

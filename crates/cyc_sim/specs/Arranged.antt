@@ -1,9 +1,9 @@
 -- Where the values of a program stand in a narrow one.
 use Rattle.std.specs.Prelude.{◌≡◌, ℕ, ◌+◌, ◌<◌, true, List, length, slice_index, slice_index_or}
-use Rattle.cyc_sim.specs.Narrow.{value_at}
+use Rattle.sim_lanes.specs.Narrow.{value_at}
 use Rattle.cyc_sim.specs.Operations.{is_within, value_by}
 use Rattle.cyc_sim.specs.declared.arrangement.Arrangement.{Arrangement}
-use Rattle.cyc_sim.specs.declared.narrow.NarrowOperation.{NarrowOperation}
+use Rattle.sim_lanes.specs.declared.narrow.NarrowOperation.{NarrowOperation}
 use Rattle.cyc_sim.specs.declared.operation.Operation.{Operation}
 use Rattle.cyc_sim.specs.declared.operation.Operation.TheVariants.{Constant}
 

@@ -6,5 +6,4 @@ pub mod Narrowed
 pub mod Operations
 pub mod Order
 pub mod Preparing
-pub mod Runs
 pub mod Simulation

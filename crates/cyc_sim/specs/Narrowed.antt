@@ -1,8 +1,8 @@
 -- Programs whose values have at most 64 bits.
 use Rattle.std.specs.Prelude.{◌≡◌, ℕ, ◌+◌, List, ◌++◌, length}
 use Rattle.cyc_sim.specs.Operations.{values_after, values_in}
-use Rattle.cyc_sim.specs.Narrow.{narrow_after}
-use Rattle.cyc_sim.specs.Runs.{AreRuns}
+use Rattle.sim_lanes.specs.Narrow.{narrow_after}
+use Rattle.sim_lanes.specs.Runs.{AreRuns}
 use Rattle.cyc_sim.specs.declared.narrow_program.NarrowProgram.{NarrowProgram}
 use Rattle.cyc_sim.specs.declared.program.Program.{Program}
 

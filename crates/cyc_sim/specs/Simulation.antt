@@ -6,8 +6,10 @@ use Rattle.v_design.specs.Run.{Edge, values_at}
 use Rattle.v_design.specs.Fits.{FitsPins}
 use Rattle.cyc_sim.specs.Operations.{values_after, values_in}
 use Rattle.cyc_sim.specs.declared.program.Program.{Program}
-use Rattle.cyc_sim.specs.Narrow.{IsNarrowModule, narrow_after}
-use Rattle.cyc_sim.specs.Runs.{AreRuns}
+use Rattle.sim_lanes.specs.Narrow.{narrow_after}
+use Rattle.cyc_sim.specs.Narrow.{IsNarrowModule}
+use Rattle.sim_lanes.specs.Runs.{AreRuns}
+use Rattle.sim_lanes.specs.Schedules.{IsSchedule}
 use Rattle.cyc_sim.specs.declared.narrow_program.NarrowProgram.{NarrowProgram}
 use Rattle.cyc_sim.specs.declared.narrow_sim.NarrowSim.{NarrowSim}
 use Rattle.cyc_sim.specs.declared.sim.WideSim.{WideSim}
@@ -99,6 +101,7 @@ pub record IsNarrowOf (m : Module) (s : NarrowSim) : Type 0 where
   pub gives : length s.program.outputs.items ≡ length (outputs m)
   pub program : IsNarrowProgramOf m s.program
   pub constants : constants_in s ≡ s.program.constants.items
+  pub schedule : IsSchedule s.schedule s.program.limit s.program.operations.items s.values.items
   pub fits : FitsPins (registers m) (held_narrow s)
 
 abbrev pub IsEngineOf : Module → Engine → Type 0

@@ -1,8 +1,8 @@
 //! What fits over values of at most 64 bits at places below 2^32.
 ghost use Rattle.std.specs.Prelude.{◌≡◌, ◌+◌, IfOk};
 
-use crate::width::{Bit, Width};
 use rb_base::NoMemory;
+use sim_lanes::{Bit, Width};
 use std::alloc::{AllocError, AllocFailed};
 
 /// Why there is no such thing.

@@ -2,9 +2,9 @@
 ghost use Rattle.std.specs.Prelude.{◌≡◌, ℕ, ◌==◌, if◌then◌else◌};
 ghost use Rattle.v_design.specs.Expr.{value_under};
 ghost use Rattle.cyc_sim.specs.Operations.{result_over};
-ghost use Rattle.cyc_sim.specs.Narrow.{value_by_kind};
+ghost use Rattle.sim_lanes.specs.Narrow.{value_by_kind};
 
-use crate::narrow::Kind;
+use sim_lanes::Kind;
 use v_design::{VOne, VTwo};
 
 /// What an operator before an operand does.

@@ -6,7 +6,6 @@ mod compile;
 mod fitting;
 mod kinds;
 mod listing;
-mod narrow;
 mod narrow_program;
 mod narrow_sim;
 mod narrowing;
@@ -14,9 +13,7 @@ mod operation;
 mod order;
 mod prepare;
 mod program;
-mod runs;
 mod sim;
 mod turns;
-mod width;
 
 pub use sim::Sim;

@@ -1,14 +1,13 @@
 //! Compiled modules whose values have at most 64 bits.
 ghost use Rattle.std.specs.Prelude.{◌≡◌, ◌+◌, true, length};
-ghost use Rattle.cyc_sim.specs.Narrow.{AreBelow};
+ghost use Rattle.sim_lanes.specs.Narrow.{AreBelow};
 ghost use Rattle.cyc_sim.specs.Operations.{are_places};
 
 use crate::arrangement::Arrangement;
 use crate::fitting::{Unfit, sum_of};
-use crate::narrow::NarrowOperation;
 use crate::narrowing::are_below;
 use crate::program::Program;
-use crate::runs::{Run, are_runs, runs_of};
+use sim_lanes::{NarrowOperation, Run, are_runs, runs_of};
 use std::alloc::Global;
 
 /// As `Program`, where no value has more than 64 bits. Behind the first places are those of the constants.

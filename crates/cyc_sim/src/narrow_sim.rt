@@ -4,8 +4,8 @@ ghost use Rattle.cyc_sim.specs.Operations.{are_places, values_in};
 ghost use Rattle.cyc_sim.specs.Narrow.{low_all};
 
 use crate::narrow_program::NarrowProgram;
-use crate::runs::settle_narrow;
 use rb_base::NoMemory;
+use sim_lanes::{Schedule, put_narrow};
 use std::alloc::Global;
 
 /// As `WideSim`, of a narrow program.
@@ -13,8 +13,13 @@ use std::alloc::Global;
 pub(crate) struct NarrowSim {
     pub program: NarrowProgram,
     pub values: Vec<u64>,
+    /// Which operations are due.
+    pub schedule: Schedule,
+    /// Room for the pins of an edge, and for what the registers move to.
+    pub taken: Vec<u64>,
     pub moved: Vec<u64>,
     pub ghost sized: { length values.items ≡ program.total },
+    pub ghost taken_sized: { length taken.items ≡ program.inputs },
     pub ghost moved_sized: { length moved.items ≡ length program.registers.items },
 }
 
@@ -32,16 +37,6 @@ fn put_low(values: &mut [u64], at: usize, numbers: &[u128])
 {
     for (index, number) in numbers.iter().enumerate() {
         values[at + index] = low(*number);
-    }
-}
-
-/// Writes numbers over the values from a place on.
-fn put_narrow(values: &mut [u64], at: usize, numbers: &[u64])
-    requires { at + length numbers.now ≤ length values.old }
-    ensures { values.new ≡ take at values.old ++ (numbers.now ++ drop (at + length numbers.now) values.old) }
-{
-    for (index, number) in numbers.iter().enumerate() {
-        values[at + index] = *number;
     }
 }
 
@@ -75,6 +70,7 @@ impl NarrowSim {
     ghost use Rattle.v_design.specs.Fits.{FitsPins};
     ghost use Rattle.cyc_sim.specs.Narrow.{low_all};
     ghost use Rattle.cyc_sim.specs.Simulation.{IsNarrowOf, StepsTo, constants_in, held_narrow};
+    ghost use Rattle.sim_lanes.specs.Schedules.{IsSchedule};
 
     /// A simulation of a narrow program, the registers of which contain these numbers.
     pub fn new(alloc: Global, program: NarrowProgram, start: &[u128]) -> Result<NarrowSim, NoMemory>
@@ -82,8 +78,11 @@ impl NarrowSim {
         ensures program { IfOk result (λ s. s.program ≡ program) }
         ensures start { IfOk result (λ s. held_narrow s ≡ low_all start.now) }
         ensures constants { IfOk result (λ s. constants_in s ≡ program.constants.items) }
+        ensures schedule { IfOk result (λ s. IsSchedule s.schedule s.program.limit s.program.operations.items s.values.items) }
     {
+        let schedule = Schedule::new(alloc, &program.operations, program.total)?;
         let mut values = vec![in alloc; 0; program.total]?;
+        let taken = vec![in alloc; 0; program.inputs]?;
         let moved = vec![in alloc; 0; program.registers.len()]?;
         let first = program.inputs + program.registers.len();
         put_narrow(&mut values, first, &program.constants);
@@ -91,6 +90,8 @@ impl NarrowSim {
         Ok(NarrowSim {
             program,
             values,
+            schedule,
+            taken,
             moved,
         })
     }
@@ -103,8 +104,9 @@ impl NarrowSim {
             → (contents : Values) → values_at contents (registers m) ≡ held_narrow self.old
             → StepsTo m contents pins.now outs.new (held_narrow self.new) × IsNarrowOf m self.new }
     {
-        put_low(&mut self.values, 0, pins);
-        settle_narrow(
+        put_low(&mut self.taken, 0, pins);
+        self.schedule.take(&mut self.values, 0, &self.taken);
+        self.schedule.settle(
             &self.program.runs,
             &self.program.operations,
             self.program.limit,
@@ -112,6 +114,7 @@ impl NarrowSim {
         );
         read_wide(&self.values, &self.program.outputs, outs);
         read_narrow(&self.values, &self.program.registers, &mut self.moved);
-        put_narrow(&mut self.values, self.program.inputs, &self.moved);
+        self.schedule
+            .put(&mut self.values, self.program.inputs, &self.moved);
     }
 }

@@ -2,15 +2,15 @@
 ghost use Rattle.std.specs.Prelude.{◌≡◌, IfOk};
 ghost use Rattle.std.specs.Bool.{OnTrue};
 ghost use Rattle.v_design.specs.Seen.{module_seen};
-ghost use Rattle.cyc_sim.specs.Narrow.{AreBelow, AreNarrow, IsBelow, IsNarrowModule};
+ghost use Rattle.sim_lanes.specs.Narrow.{AreBelow, IsBelow};
+ghost use Rattle.cyc_sim.specs.Narrow.{AreNarrow, IsNarrowModule};
 
 use crate::arrangement::Arrangement;
 use crate::fitting::{Unfit, bit_of, width_of};
 use crate::kinds::{guard_kind, one_kind, two_kind};
-use crate::narrow::{Kind, NarrowOperation};
 use crate::operation::Operation;
-use crate::width::{Bit, Width};
 use rb_base::Pin;
+use sim_lanes::{Bit, Kind, NarrowOperation, Width};
 use std::alloc::Global;
 use v_design::{Design, VOne, VTwo};
 

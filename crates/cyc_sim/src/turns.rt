@@ -1,8 +1,8 @@
 //! The order in which narrow operations are computed.
 use crate::kinds::{guard_kind, one_kind, two_kind};
-use crate::narrow::Kind;
 use crate::operation::Operation;
 use rb_base::NoMemory;
+use sim_lanes::Kind;
 use std::alloc::Global;
 
 /// When an operation is computed: behind all that it reads, beside those of its kind that have as many before them.

@@ -1,6 +1,6 @@
 use Rattle.std.proofs.Common.{ℕ, ◌+◌, ◌<◌, get_or}
-use Rattle.cyc_sim.specs.Narrow.{IsBelow}
-use Rattle.cyc_sim.specs.declared.narrow.NarrowOperation.{NarrowOperation}
+use Rattle.sim_lanes.specs.Narrow.{IsBelow}
+use Rattle.sim_lanes.specs.declared.narrow.NarrowOperation.{NarrowOperation}
 use Rattle.cyc_sim.proofs.narrowing.are_below.Given as goal
 
 abbrev pub invariant-loop-index : goal.invariant-loop-index

@@ -1,6 +1,6 @@
 use Rattle.std.proofs.Common.{◌+◌, ap, ◌∙◌, get_or}
 use Rattle.std.proofs.Math.ListN.{set}
-use Rattle.cyc_sim.proofs.Places.{put_more}
+use Rattle.sim_lanes.proofs.Places.{put_more}
 use Rattle.cyc_sim.proofs.sim.put.Goals as goal
 
 pub loop-index-preserved : goal.loop-index-preserved

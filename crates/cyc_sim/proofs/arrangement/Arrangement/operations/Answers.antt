@@ -3,7 +3,7 @@ use Rattle.std.specs.List.{AllZip}
 use Rattle.std.proofs.lemmas.List.{take_more}
 use Rattle.cyc_sim.specs.Arranged.{StandsAt}
 use Rattle.cyc_sim.specs.declared.arrangement.Arrangement.{Arrangement}
-use Rattle.cyc_sim.specs.declared.narrow.NarrowOperation.{NarrowOperation}
+use Rattle.sim_lanes.specs.declared.narrow.NarrowOperation.{NarrowOperation}
 use Rattle.cyc_sim.specs.declared.operation.Operation.{Operation}
 use Rattle.cyc_sim.proofs.Knowing.{AllZip-pushed}
 use Rattle.cyc_sim.proofs.arrangement.Arrangement.operations.Goals as goal

@@ -3,11 +3,11 @@ use Rattle.std.proofs.Common.{◌≡◌, ◌+◌, true, length, get_or, refl, ap
 use Rattle.std.proofs.lemmas.Bool.{OnTrue_at}
 use Rattle.std.proofs.lemmas.List.{length-map}
 use Rattle.cyc_sim.specs.Arranged.{IsArrangement, StandsAt}
-use Rattle.cyc_sim.specs.Narrow.{AreBelow}
+use Rattle.sim_lanes.specs.Narrow.{AreBelow}
 use Rattle.cyc_sim.specs.Operations.{are_within, values_in}
 use Rattle.cyc_sim.proofs.Arranging.{IsMade}
 use Rattle.cyc_sim.proofs.NarrowPrograms.{narrows_as}
-use Rattle.cyc_sim.proofs.Running.{are_runs_as}
+use Rattle.sim_lanes.proofs.Running.{are_runs_as}
 use Rattle.cyc_sim.proofs.narrow_program.NarrowProgram.of.Goals as goal
 use Rattle.cyc_sim.proofs.narrow_program.NarrowProgram.of.Goals.{In_ok-registers}
 

@@ -1,6 +1,7 @@
-use Rattle.std.proofs.Common.{◌≡◌, ◌+◌, ◌≤◌, length, take, drop, ap, ◌∙◌, arith}
+use Rattle.std.proofs.Common.{◌≡◌, ◌+◌, ◌≤◌, length, take, drop, ap, subst, ◌∙◌, arith}
 use Rattle.std.specs.Vec.{with_items}
 use Rattle.std.proofs.lemmas.List.{length-map, with_items_is}
+use Rattle.sim_lanes.specs.Schedules.{IsSchedule}
 use Rattle.cyc_sim.specs.Narrow.{low_all}
 use Rattle.cyc_sim.proofs.NarrowStepping.{behind_moved}
 use Rattle.cyc_sim.proofs.Places.{moved_places}
@@ -10,7 +11,7 @@ use Rattle.cyc_sim.proofs.narrow_sim.NarrowSim.new.Goals.{After-deref_mut-2}
 pub put_narrow-requires : goal.put_narrow-requires
 put_narrow-requires c =
     let p = c.args.program in
-    omega (arith, p.sized, p.front, p.registers.ok.0, c.len-2.ensures, ap length c.deref.ensures.value, ap length c.deref_mut.ensures.value, c.in_ok-values.values.ok.0, c.in_ok-values.ensures.len)
+    omega (arith, p.sized, p.front, p.registers.ok.0, c.len-2.ensures, ap length c.deref-2.ensures.value, ap length c.deref_mut.ensures.value, c.in_ok-values.values.ok.0, c.in_ok-values.ensures.len)
 
 -- the values, once the constants are written
 long : (c : After-deref_mut-2) → length c.put_narrow.new.values ≡ c.in_ok-values.values.len
@@ -45,8 +46,13 @@ returns-clause-constants c =
     let more = length p.constants.items in
     let d = (goal.at.returns-clause-constants c).After-deref_mut-2 in
     let first : p.inputs + c.len-2.result ≡ p.inputs + count = omega (arith, c.len-2.ensures, p.registers.ok.0) in
-    let kept : take more (drop (p.inputs + c.len-2.result) c.put_narrow.new.values) ≡ c.deref.result.now
-    = moved_places _ c.deref.result.now _ _ (p.inputs + c.len-2.result) more (ap length c.deref.ensures.value) (omega (arith, first, room d, ap length (written d), long d, ap length c.deref_mut.ensures.value, c.in_ok-values.values.ok.0)) c.put_narrow.ensures in
+    let kept : take more (drop (p.inputs + c.len-2.result) c.put_narrow.new.values) ≡ c.deref-2.result.now
+    = moved_places _ c.deref-2.result.now _ _ (p.inputs + c.len-2.result) more (ap length c.deref-2.ensures.value) (omega (arith, first, room d, ap length (written d), long d, ap length c.deref_mut.ensures.value, c.in_ok-values.values.ok.0)) c.put_narrow.ensures in
     ap (λ vs. take more (drop (p.inputs + count) vs)) (all c)
     ∙ (ap (take more) (behind_moved _ (low_all c.args.start.now) _ p.inputs count (length-map c.args.start.now _ ∙ c.requires) (omega (arith, room d)) c.put_low.ensures)
-    ∙ (ap (λ vs. take more (drop (p.inputs + count) vs)) (written d) ∙ (ap (λ n. take more (drop n c.put_narrow.new.values)) (omega (arith, first)) ∙ (kept ∙ c.deref.ensures.value))))
+    ∙ (ap (λ vs. take more (drop (p.inputs + count) vs)) (written d) ∙ (ap (λ n. take more (drop n c.put_narrow.new.values)) (omega (arith, first)) ∙ (kept ∙ c.deref-2.ensures.value))))
+
+pub returns-clause-schedule : goal.returns-clause-schedule
+returns-clause-schedule c =
+    let vs = (with_items (with_items c.in_ok-values.values c.put_narrow.new.values) c.put_low.new.values).items in
+    subst (λ os. IsSchedule c.in_ok-schedule.schedule c.args.program.limit os vs) c.deref.ensures.value (c.in_ok-schedule.ensures c.args.program.limit vs)

@@ -1,5 +1,0 @@
-use Rattle.std.proofs.Common.{◌≡◌, ◌+◌, ◌++◌, take, drop}
-use Rattle.cyc_sim.proofs.narrow_sim.put_narrow.Given as goal
-
-abbrev pub invariant-loop-index : goal.invariant-loop-index
-invariant-loop-index l = l.values ≡ take l.at l.fn.values ++ (take l.index l.numbers ++ drop (l.at + l.index) l.fn.values)

@@ -1,6 +1,0 @@
-use Rattle.std.proofs.Common.{drop}
-use Rattle.cyc_sim.specs.Runs.{AreRuns}
-use Rattle.cyc_sim.proofs.runs.are_runs.Given as goal
-
-abbrev pub invariant-loop-run : goal.invariant-loop-run
-invariant-loop-run l = AreRuns l.rest (drop l.run-index l.runs) → AreRuns l.operations l.runs

@@ -1,0 +1,4 @@
+pub mod Due
+pub mod Narrow
+pub mod Runs
+pub mod Schedules
