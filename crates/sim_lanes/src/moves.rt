@@ -50,7 +50,7 @@ pub(crate) fn count_moved(values: &[u64], at: usize, numbers: &[u64]) -> usize
 {
     let mut moved: usize = 0;
     for (index, number) in numbers.iter().enumerate() {
-        moved = moved.saturating_add(usize::from(values[at + index] != *number));
+        moved = moved.wrapping_add(usize::from(values[at + index] != *number));
     }
     moved
 }
