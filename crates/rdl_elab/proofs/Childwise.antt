@@ -15,11 +15,10 @@ use Rattle.rdl_uses.specs.declared.standing.Standing.{Standing}
 use Rattle.rdl_children.specs.Children.{AreChildren, IsChild}
 use Rattle.rdl_children.specs.declared.child.Child.{Child}
 use Rattle.rdl_children.proofs.Itemized.{children_stay}
-use Rattle.rdl_walk.specs.Walking.{AreWalking}
 use Rattle.rdl_walk.specs.Walked.{CanVisitChild, Fits, StandIn}
 use Rattle.rdl_walk.proofs.Asking.{seen_stand}
 use Rattle.rdl_walk.proofs.Loops.{IsNextUse, next-use, no-more, stand-right}
-use Rattle.rdl_elab.specs.Grown.{AddsNodes, AreAllWhole, CanGrowAll, IsGrown, IsWhole}
+use Rattle.rdl_elab.specs.Grown.{AddsNodes, AreAllWhole, AreGrowing, CanGrowAll, IsGrown, IsWhole}
 use Rattle.rdl_elab.specs.declared.growing.Growing.{Growing}
 use Rattle.rdl_elab.proofs.Appending.{trees_append, trees_as, whole_part}
 use Rattle.rdl_elab.proofs.Elementwise.{grown_none, grown_on}
@@ -38,7 +37,7 @@ pub record GrownChildren (g v : Growing) (at : Standing) (levels : ℕ) (xs : Li
   pub grown : IsGrown g v
   pub done : (above : List Body) (b : Body) → AreChildren g.walk.bodies xs (seen above b) → StandsAt at (parent_of b) → Fits (parent_of b) levels → AreGrown g v levels (drop k xs) (seen above b) rs
 
-pub children_none : (g : Growing) (at : Standing) (levels : ℕ) (xs : List Child) (rs : List Node) → AreWalking g.walk → rs ≡ [] → GrownChildren g g at levels xs 0 rs
+pub children_none : (g : Growing) (at : Standing) (levels : ℕ) (xs : List Child) (rs : List Node) → AreGrowing g → rs ≡ [] → GrownChildren g g at levels xs 0 rs
 children_none g at levels xs rs inv e = subst (GrownChildren g g at levels xs 0) (sym e) (record {
   grown = grown_none g inv;
   done = λ above b h a f. record { done = []; rest = seen above b; split = refl; children = h; trees = λ w later. none };
@@ -85,12 +84,12 @@ module _ (g v : Growing) (at : Standing) (levels : ℕ) (xs : List Child) (k : �
           let beside : rs ++ (more.0 ++ later) ≡ ns ++ later = sym (append_assoc rs more.0 later) ∙ ap (λ ms. ms ++ later) (sym more.1) in
           trees_as _ _ _ _ _ _ g.count u.count refl (sym more.1) (sym done-nodes) (trees_append (trees_as _ _ _ _ _ _ g.count v.count beside refl refl (now.trees w (more.0 ++ later))) (more.2 later))
 
-      pub one_grown : AreWalking v.walk → AreGrown g u levels later_ones (seen above b) ns
+      pub one_grown : AreGrowing v → AreGrown g u levels later_ones (seen above b) ns
       one_grown inv = record {
         done = (now.done ++ next.failed) ++ (next.use_ ∷ []);
         rest = next.rest;
         split = whole-split ∙ sym (append_assoc (now.done ++ next.failed) (next.use_ ∷ []) next.rest);
-        children = children_stay v.walk.bodies u.walk.bodies v.walk.failures inv.kept step.grown later_ones next.rest next.children;
+        children = children_stay v.walk.bodies u.walk.bodies v.walk.failures inv.walking.kept step.grown later_ones next.rest next.children;
         trees = grown-trees;
       }
 
@@ -101,7 +100,7 @@ module _ (g v : Growing) (at : Standing) (levels : ℕ) (xs : List Child) (k : �
       → GrownChildren g u at levels xs (k + 1) ns
   children_more u ns step adds = record {
     grown = grown_on g v u h.grown step;
-    done = λ above b c a f. one_grown above b c a f u ns step adds h.grown.walking;
+    done = λ above b c a f. one_grown above b c a f u ns step adds h.grown.growing;
   }
 
 pub children_end : (g v : Growing) (at : Standing) (levels : ℕ) (xs : List Child) (k : ℕ) (rs out : List Node) → length xs ≤ k → out ≡ rs → GrownChildren g v at levels xs k rs

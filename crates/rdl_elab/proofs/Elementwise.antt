@@ -14,20 +14,19 @@ use Rattle.rdl_bodies.proofs.Growing.{grows_on, grows_same}
 use Rattle.rdl_children.specs.Children.{IsChild}
 use Rattle.rdl_children.specs.declared.child.Child.{Child}
 use Rattle.rdl_children.proofs.Itemized.{child_stays}
-use Rattle.rdl_walk.specs.Walking.{AreWalking}
 use Rattle.rdl_walk.specs.Walked.{CanVisitChild, Fits, element_of}
 use Rattle.rdl_walk.proofs.Elements.{given_elements}
 use Rattle.rdl_walk.proofs.Loops.{element}
-use Rattle.rdl_elab.specs.Grown.{AddsNodes, IsGrown, IsNodeFor, IsNamedIn, IsWhole}
+use Rattle.rdl_elab.specs.Grown.{AddsNodes, AreGrowing, IsGrown, IsNodeFor, IsNamedIn, IsWhole}
 use Rattle.rdl_elab.specs.declared.growing.Growing.{Growing}
 use Rattle.rdl_elab.proofs.Appending.{trees_append, trees_as, upto_each, upto_length}
 use Rattle.rdl_elab.proofs.Primaries.{number_stays}
 
-pub grown_none : (g : Growing) → AreWalking g.walk → IsGrown g g
-grown_none g inv = record { walking = inv; grown = grows_same g.walk.bodies g.walk.bodies refl refl refl ([], sym (append-nil g.walk.bodies.sites.items)) }
+pub grown_none : (g : Growing) → AreGrowing g → IsGrown g g
+grown_none g inv = record { growing = inv; grown = grows_same g.walk.bodies g.walk.bodies refl refl refl ([], sym (append-nil g.walk.bodies.sites.items)) }
 
 pub grown_on : (g v u : Growing) → IsGrown g v → IsGrown v u → IsGrown g u
-grown_on g v u h k = record { walking = k.walking; grown = grows_on g.walk.bodies v.walk.bodies u.walk.bodies h.grown k.grown }
+grown_on g v u h k = record { growing = k.growing; grown = grows_on g.walk.bodies v.walk.bodies u.walk.bodies h.grown k.grown }
 
 -- What the loop over the elements keeps.
 pub record GrownElements (g v : Growing) (old new : List Node) (at : Standing) (levels : ℕ) (x : Child) (k : ℕ) : Type 0 where
@@ -35,13 +34,13 @@ pub record GrownElements (g v : Growing) (old new : List Node) (at : Standing) (
   pub done : (s : Seen) (h : IsChild g.walk.bodies x s) → StandsAt at s.parent → Fits s.parent levels → AllByRecursion (IsWhole levels) (map (element g.walk.bodies x s h) (upto (product x.dims.now)))
       → AddsNodes g.count old new s.use_.alias (map (element g.walk.bodies x s h) (upto k)) v.count
 
-pub elements_none : (g : Growing) (old : List Node) (at : Standing) (levels : ℕ) (x : Child) → AreWalking g.walk → GrownElements g g old old at levels x 0
+pub elements_none : (g : Growing) (old : List Node) (at : Standing) (levels : ℕ) (x : Child) → AreGrowing g → GrownElements g g old old at levels x 0
 elements_none g old at levels x inv = record { grown = grown_none g inv; done = λ s h a f w named. ([], sym (append-nil old), λ later. none) }
 
-pub can_element : (g v : Growing) (old new : List Node) (at : Standing) (levels : ℕ) (x : Child) (k : ℕ) → AreWalking g.walk → GrownElements g v old new at levels x k → CanVisitChild g.walk.bodies x at levels → CanVisitChild v.walk.bodies x at levels
-can_element g v old new at levels x k inv h can = record { use_ = can.use_; child = child_stays g.walk.bodies v.walk.bodies g.walk.failures inv.kept h.grown.grown x can.use_ can.child; stands = can.stands; fits = can.fits }
+pub can_element : (g v : Growing) (old new : List Node) (at : Standing) (levels : ℕ) (x : Child) (k : ℕ) → AreGrowing g → GrownElements g v old new at levels x k → CanVisitChild g.walk.bodies x at levels → CanVisitChild v.walk.bodies x at levels
+can_element g v old new at levels x k inv h can = record { use_ = can.use_; child = child_stays g.walk.bodies v.walk.bodies g.walk.failures inv.walking.kept h.grown.grown x can.use_ can.child; stands = can.stands; fits = can.fits }
 
-module _ (g v u : Growing) (old new : List Node) (at : Standing) (levels : ℕ) (x : Child) (k : ℕ) (alias : Option ℕ) (r : Node) (inv : AreWalking g.walk) (l : k < product x.dims.now) (number : alias ≡ option_and_then (number_named old) x.alias) (h : GrownElements g v old new at levels x k) (step : IsGrown v u)
+module _ (g v u : Growing) (old new : List Node) (at : Standing) (levels : ℕ) (x : Child) (k : ℕ) (alias : Option ℕ) (r : Node) (inv : AreGrowing g) (l : k < product x.dims.now) (number : alias ≡ option_and_then (number_named old) x.alias) (h : GrownElements g v old new at levels x k) (step : IsGrown v u)
     (made : (s : Seen) (c : IsChild v.walk.bodies x s) → StandsAt at s.parent → Fits s.parent levels → IsWhole levels (element_of s c.closure c.bound (row x.dims.now k)) → IsNodeFor v.count alias r (element_of s c.closure c.bound (row x.dims.now k)) u.count) where
   one_more : (s : Seen) (c : IsChild g.walk.bodies x s) → StandsAt at s.parent → Fits s.parent levels → AllByRecursion (IsWhole levels) (map (element g.walk.bodies x s c) (upto (product x.dims.now))) → IsNamedIn old s.use_.alias
       → AddsNodes g.count old new s.use_.alias (map (element g.walk.bodies x s c) (upto k)) v.count → (added : List Node) × (new ++ (r ∷ []) ≡ old ++ added) × ((later : List Node) → AreTreesOf ((new ++ (r ∷ [])) ++ later) g.count added (map (element g.walk.bodies x s c) (upto (suc k))) u.count)
@@ -49,7 +48,7 @@ module _ (g v u : Growing) (old new : List Node) (at : Standing) (levels : ℕ) 
       let was = prev named in
       let here = ap (λ ns. ns ++ (r ∷ [])) was.1 ∙ append_assoc old was.0 (r ∷ []) in
       let whole = upto_each (IsWhole levels) (element g.walk.bodies x s c) (product x.dims.now) k l w in
-      let node = made s (child_stays g.walk.bodies v.walk.bodies g.walk.failures inv.kept h.grown.grown x s c) a f whole in (
+      let node = made s (child_stays g.walk.bodies v.walk.bodies g.walk.failures inv.walking.kept h.grown.grown x s c) a f whole in (
         was.0 ++ (r ∷ []),
         here,
         λ later.

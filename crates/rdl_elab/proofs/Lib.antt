@@ -1,6 +1,7 @@
 mod Appending
 mod Childwise
 mod Elementwise
+mod Environments
 mod Listing
 mod Measured
 mod Nodewise

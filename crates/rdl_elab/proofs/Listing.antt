@@ -91,7 +91,7 @@ module _ (t : Bodies) (w : Option (List ℕ)) (s : Source) (top : Top) (y : Body
   alike = round_alike t y.numbers.now (top.position ∷ []) scope_of shown
 
   pub round : AreRound t y.numbers.now (top.position ∷ []) scope_of
-  round = record { shown = shown; envs = open_.envs }
+  round = record { shown = shown; names = open_.names }
 
   holds : Holds s.items.now (take top.position s.items.now) top.def.now
   holds =

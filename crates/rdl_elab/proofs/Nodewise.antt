@@ -1,6 +1,8 @@
 -- One node, with those below it.
 use Rattle.std.proofs.Common.{◌≡◌, ◌≢◌, ◌∙◌, ℕ, ◌+◌, ◌-◌, List, [], ◌∷◌, ◌++◌, flat_map, slice_get, Option, Some, option_and_then, IsSome, refl, sym, ap, subst, arith}
+use Rattle.std.specs.Borrow.{Bor}
 use Rattle.rdl_tree.specs.declared.node.Node.{Node}
+use Rattle.rdl_tree.specs.declared.value.Env.{Env}
 use Rattle.rdl_values.specs.Bodies as values
 use Rattle.rdl_values.specs.Bodies.{Path, Step, below_top, of_signal, around}
 use Rattle.rdl_values.specs.Elaborated.{AreTreesOf, IsTreeOf, around_body, index_of, last_index, node, none, number_named}
@@ -8,13 +10,12 @@ use Rattle.rdl_values.specs.Instances.{Instance, body, children, given_by, kind_
 use Rattle.rdl_values.specs.Paths.{Parent, nowhere, at_root, in_node, path_in}
 use Rattle.rdl_values.specs.Seen.{around_of}
 use Rattle.rdl_values.specs.Uses.{parent_of, seen}
-use Rattle.rdl_values.specs.Values.{Names}
 use Rattle.rdl_uses.specs.Parts.{StandsAt}
 use Rattle.rdl_uses.specs.declared.standing.Standing.{Standing}
 use Rattle.rdl_uses.specs.Placed.{IsParent}
 use Rattle.rdl_bodies.specs.Kept.{Grows}
 use Rattle.rdl_bodies.specs.Opened.{CanOpen, IsOpened}
-use Rattle.rdl_bodies.specs.Sited.{HaveEnvs, IsAt, IsOpenAs}
+use Rattle.rdl_bodies.specs.Sited.{IsAt, IsOpenAs}
 use Rattle.rdl_bodies.specs.declared.bodies.Bodies.{Bodies}
 use Rattle.rdl_bodies.specs.declared.bodies.Body.{Body}
 use Rattle.rdl_bodies.specs.declared.bodies.Site.{Site}
@@ -28,10 +29,12 @@ use Rattle.rdl_walk.proofs.Asking.{one_less, stands_here}
 use Rattle.rdl_walk.proofs.Elements.{fits_body}
 use Rattle.rdl_walk.proofs.Steps.{walking_open}
 use Rattle.rb_base.specs.declared.place.Place.{Place}
+use Rattle.rdl_elab.specs.Envs.{AreEnvs}
 use Rattle.rdl_elab.specs.Grown.{AreAllWhole, CanGrowAll, CanGrowBelow, IsHeadOf, IsWhole}
 use Rattle.rdl_elab.specs.Nodes.{CanShow, IsMadeOf, IsShown}
 use Rattle.rdl_elab.specs.declared.heads.Head.{Head}
 use Rattle.rdl_elab.specs.declared.opening.Opened.{Opened}
+use Rattle.rdl_elab.proofs.Environments.{envs_stay}
 
 -- A body that is opened.
 
@@ -61,22 +64,6 @@ is_shown w u o site s n inv js cs at e h def env =
       open_ = h.open_;
     }
 
--- the nearest of the bodies that are visible is there
-pub record IsNearest (t : Bodies) (x : Body) (names : Names) (rest : List Names) : Type 0 where
-  pub number : ℕ
-  pub numbers : List ℕ
-  pub is : x.numbers.now ≡ number ∷ numbers
-  pub own : Body
-  pub here : slice_get t.list.items number ≡ Some own
-  pub env_is : around_of own.env.now ≡ names ∷ rest
-
-pub nearest : (t : Bodies) (x : Body) (b : values.Body) → IsOpenAs t x b → IsNearest t x b.names (around b.outer)
-nearest t x b h = go x.numbers.now refl h.envs
-  where
-    go : (ks : List ℕ) → x.numbers.now ≡ ks → HaveEnvs t.list.items ks (b.names ∷ around b.outer) → IsNearest t x b.names (around b.outer)
-    go [] e h = absurd h
-    go (k ∷ ks) e h = record { number = k; numbers = ks; is = e; own = h.0.0; here = h.0.1; env_is = h.0.2 }
-
 pub can_ask_of : (old w : Walk) (o : Opened) (n : Instance) (at : Standing) → IsShown old w o n → StandsAt at (in_node n.path (kind_of n)) → CanAsk w.bodies o.number at
 can_ask_of old w o n at h stands = record { body = h.opened; here = h.here; shown = body n; open_ = h.open_; stands = stands_here w.bodies h.opened n at h.open_ stands }
 
@@ -95,6 +82,10 @@ module _ (w0 w1 w2 w3 : Walk) (o : Opened) (site : ℕ) (p : Place) (at : Standi
 
   pub walking_asked : CanVisit w0.bodies site p at levels → AreWalking w3
   walking_asked can = (asked_at can.site can.node can.here can.at can.stands).walking
+
+  pub envs_asked : (envs : List (Bor Env)) → AreEnvs w2.bodies.list.items envs → CanVisit w0.bodies site p at levels → AreEnvs w3.bodies.list.items envs
+  envs_asked envs known can =
+      envs_stay w2.bodies w3.bodies w2.failures envs (shown_at can.site can.node can.here can.at).walking.kept (asked_at can.site can.node can.here can.at can.stands).grown known
 
   pub grown_asked : CanVisit w0.bodies site p at levels → Grows w0.bodies w3.bodies
   grown_asked can = grows_on w0.bodies w2.bodies w3.bodies (shown_at can.site can.node can.here can.at).grown (asked_at can.site can.node can.here can.at can.stands).grown

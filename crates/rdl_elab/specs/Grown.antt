@@ -18,12 +18,18 @@ use Rattle.rdl_children.specs.Children.{AreChildren}
 use Rattle.rdl_children.specs.declared.child.Child.{Child}
 use Rattle.rdl_walk.specs.Walked.{Fits, FitsNode}
 use Rattle.rdl_walk.specs.Walking.{AreWalking}
+use Rattle.rdl_elab.specs.Envs.{AreEnvs}
 use Rattle.rdl_elab.specs.declared.growing.Growing.{Growing}
 use Rattle.rdl_elab.specs.declared.heads.Head.{Head}
 
--- Bodies and judgements are what they always are, and those before stay.
+-- Bodies and judgements are what they always are, and the environments are those of the first bodies.
+pub record AreGrowing (g : Growing) : Type 0 where
+  pub walking : AreWalking g.walk
+  pub envs : AreEnvs g.walk.bodies.list.items g.envs.items
+
+-- All is what it always is, and the bodies before stay.
 pub record IsGrown (old new : Growing) : Type 0 where
-  pub walking : AreWalking new.walk
+  pub growing : AreGrowing new
   pub grown : Grows old.walk.bodies new.walk.bodies
 
 -- Each use in the body of a node, and of those below it, gives its nodes, these are few, and none stands deeper than so many levels.

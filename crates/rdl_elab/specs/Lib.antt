@@ -1,4 +1,5 @@
 pub mod Answers
+pub mod Envs
 pub mod Grown
 pub mod Nodes
 pub mod Surveying

@@ -3,12 +3,14 @@
 ghost use Rattle.std.specs.Prelude.{◌≡◌, ◌+◌, ◌^◌, IfOk, OnErr};
 
 use rb_base::NoMemory;
+use rdl_tree::Env;
 use rdl_walk::Walk;
 
-/// The walk whose bodies the tree is made of, and how many nodes there are so far.
+/// The walk whose bodies the tree is made of, the environments of the first bodies, and how many nodes there are so far.
 #[derive(Drop)]
 pub(crate) struct Growing<'s, 'a> {
     pub walk: Walk<'s, 's, 'a>,
+    pub envs: Vec<&'a Env<'a>>,
     pub count: u32,
 }
 
@@ -16,6 +18,7 @@ impl<'s, 'a> Growing<'s, 'a> {
     /// The number of the next node. The only error is a number behind which a u32 has none.
     pub(crate) fn number(&mut self) -> Result<u32, NoMemory>
         ensures walk { self.new.walk ≡ self.old.walk }
+        ensures envs { self.new.envs ≡ self.old.envs }
         ensures number { IfOk result (λ k. k ≡ self.old.count) }
         ensures next { IfOk result (λ k. self.new.count ≡ self.old.count + 1) }
         ensures over { OnErr result (self.old.count + 1 ≡ 2 ^ 32) }

@@ -48,8 +48,7 @@ impl<'s, 'a> Growing<'s, 'a> {
     ghost use Rattle.rdl_bodies.specs.declared.bodies.Site.{Site as SiteOf};
     ghost use Rattle.rdl_children.specs.Children.{AreChildren, IsChild};
     ghost use Rattle.rdl_walk.specs.Walked.{CanVisit, CanVisitChild, Fits, FitsNode, element_of};
-    ghost use Rattle.rdl_walk.specs.Walking.{AreWalking};
-    ghost use Rattle.rdl_elab.specs.Grown.{AddsNodes, AreAllWhole, CanGrowAll, CanGrowBelow, IsGrown, IsHeadOf, IsNodeFor, IsWhole};
+    ghost use Rattle.rdl_elab.specs.Grown.{AddsNodes, AreAllWhole, AreGrowing, CanGrowAll, CanGrowBelow, IsGrown, IsHeadOf, IsNodeFor, IsWhole};
     ghost use Rattle.rdl_elab.specs.Nodes.{AreSiblings};
 
     /// The node of a head, and so many levels below it. The uses in its body stand there.
@@ -62,7 +61,7 @@ impl<'s, 'a> Growing<'s, 'a> {
         standing: Standing,
         levels: u8,
     ) -> Result<Node<'a>, NoMemory>
-        requires walking { AreWalking self.old.walk }
+        requires growing { AreGrowing self.old }
         requires some { CanVisit self.old.walk.bodies head.site head.name.place standing levels }
         requires deep { standing.depth + levels ≤ 40 }
         ensures grown { OnOk result (IsGrown self.old self.new) }
@@ -86,7 +85,7 @@ impl<'s, 'a> Growing<'s, 'a> {
         standing: Standing,
         levels: u8,
     ) -> Result<&'a [Node<'a>], NoMemory>
-        requires walking { AreWalking self.old.walk }
+        requires growing { AreGrowing self.old }
         requires some { CanGrowBelow self.old.walk.bodies children.now standing levels }
         requires deep { standing.depth + levels ≤ 40 }
         ensures grown { OnOk result (IsGrown self.old self.new) }
@@ -110,7 +109,7 @@ impl<'s, 'a> Growing<'s, 'a> {
         standing: Standing,
         levels: u8,
     ) -> Result<&'a [Node<'a>], NoMemory>
-        requires walking { AreWalking self.old.walk }
+        requires growing { AreGrowing self.old }
         requires some { CanGrowAll self.old.walk.bodies children.now standing levels }
         requires deep { standing.depth + levels < 40 }
         ensures grown { OnOk result (IsGrown self.old self.new) }
@@ -135,7 +134,7 @@ impl<'s, 'a> Growing<'s, 'a> {
         levels: u8,
         beside: &mut Siblings<'a>,
     ) -> Result<(), NoMemory>
-        requires walking { AreWalking self.old.walk }
+        requires growing { AreGrowing self.old }
         requires some { CanVisitChild self.old.walk.bodies child.now standing levels }
         requires deep { standing.depth + levels < 40 }
         requires siblings { AreSiblings beside.old }
@@ -166,7 +165,7 @@ impl<'s, 'a> Growing<'s, 'a> {
         standing: Standing,
         levels: u8,
     ) -> Result<Node<'a>, NoMemory>
-        requires walking { AreWalking self.old.walk }
+        requires growing { AreGrowing self.old }
         requires some { CanVisitChild self.old.walk.bodies child.now standing levels }
         requires within { number < product child.now.dims.now }
         requires small { number < 65536 }

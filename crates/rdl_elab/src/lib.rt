@@ -2,6 +2,7 @@
 #![tactic(auto)]
 
 mod elaborating;
+mod envs;
 mod growing;
 mod heads;
 mod levels;

@@ -7,10 +7,9 @@ ghost use Rattle.rdl_values.specs.Elaboration.{Elaborates};
 ghost use Rattle.rdl_values.specs.Instances.{Instance, most_names, signals};
 ghost use Rattle.rdl_values.specs.Top.{root};
 ghost use Rattle.rdl_values.specs.Uses.{seen};
-ghost use Rattle.rdl_walk.specs.Walking.{AreWalking};
 ghost use Rattle.rdl_elab.specs.Surveying.{IsSurvey};
 ghost use Rattle.rdl_elab.specs.Topped.{IsRootAt, IsTopNode};
-ghost use Rattle.rdl_elab.specs.Grown.{AreAllWhole, IsGrown, IsWhole};
+ghost use Rattle.rdl_elab.specs.Grown.{AreAllWhole, AreGrowing, IsGrown, IsWhole};
 ghost use Rattle.rdl_elab.specs.Trees.{IsCleanSurvey};
 
 use crate::growing::Growing;
@@ -43,7 +42,7 @@ fn grow_signals<'a>(
     arena: &'a Bump,
     growing: &mut Growing<'_, 'a>,
 ) -> Result<&'a [Node<'a>], NoMemory>
-    requires walking { AreWalking growing.old.walk }
+    requires growing { AreGrowing growing.old }
     requires some { (s : AnySource) × IsRootAt growing.old.walk.bodies s }
     ensures grown { OnOk result (IsGrown growing.old growing.new) }
     ensures nodes { IfOk result (λ rs. (s : AnySource) → IsRootAt growing.old.walk.bodies s → AreAllWhole 0 (seen [] (root s)) → AreTreesOf rs.now growing.old.count rs.now (signals s) growing.new.count) }
@@ -60,7 +59,7 @@ fn grow_top<'a>(
     growing: &mut Growing<'_, 'a>,
     top: TopSite<'a>,
 ) -> Result<&'a Node<'a>, NoMemory>
-    requires walking { AreWalking growing.old.walk }
+    requires growing { AreGrowing growing.old }
     requires some { (n : Instance) × IsTopNode growing.old.walk.bodies top n }
     ensures { IfOk result (λ r. (n : Instance) → IsTopNode growing.old.walk.bodies top.entry n → IsWhole most_names n → IsTreeOf [] growing.old.count r.now n growing.new.count) }
 {
@@ -88,7 +87,11 @@ pub fn tree_of<'a>(
 {
     let Surveyed { walk, top } = surveyed;
     let Some(top) = top else { unreachable!() };
-    let mut growing = Growing { walk, count: 0 };
+    let mut growing = Growing {
+        walk,
+        envs: Vec::new(alloc),
+        count: 0,
+    };
     let signals = grow_signals(alloc, arena, &mut growing)?;
     let top = grow_top(alloc, arena, &mut growing, top)?;
     Ok(Elab {

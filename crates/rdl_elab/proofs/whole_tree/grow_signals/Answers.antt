@@ -1,13 +1,18 @@
 use Rattle.std.proofs.Common.{[], refl}
 use Rattle.rdl_values.specs.Top.{root}
 use Rattle.rdl_bodies.proofs.Growing.{grows_on}
+use Rattle.rdl_elab.proofs.Environments.{envs_stay}
 use Rattle.rdl_elab.proofs.Totals.{at_root_stands, root_parent}
 use Rattle.rdl_elab.proofs.whole_tree.grow_signals.Goals as goal
 
-pub grow_all-requires-clause-walking : goal.grow_all-requires-clause-walking
-grow_all-requires-clause-walking c =
+pub grow_all-requires-clause-growing : goal.grow_all-requires-clause-growing
+grow_all-requires-clause-growing c =
+    let s = c.requires.some.0 in
     let h = c.requires.some.1 in
-    (c.in_ok-children.ensures [] h.body (root c.requires.some.0) h.here h.open_ (root_parent c.args.growing.now.walk.bodies c.requires.some.0 h)).walking
+    let w = c.args.growing.now.walk in
+    let g = c.requires.growing in
+    let asked = c.in_ok-children.ensures [] h.body (root s) h.here h.open_ (root_parent w.bodies s h) in
+    record { walking = asked.walking; envs = envs_stay w.bodies c.children.new.self.bodies w.failures c.args.growing.now.envs.items g.walking.kept asked.grown g.envs }
 
 pub grow_all-requires-clause-some : goal.grow_all-requires-clause-some
 grow_all-requires-clause-some c =
@@ -27,7 +32,7 @@ returns-clause-grown c =
     let h = c.requires.some.1 in
     let asked = c.in_ok-children.ensures [] h.body (root s) h.here h.open_ (root_parent c.args.growing.now.walk.bodies s h) in
     let grown = c.in_ok-nodes.ensures.grown in
-    record { walking = grown.walking; grown = grows_on c.args.growing.now.walk.bodies c.children.new.self.bodies c.grow_all.new.self.walk.bodies asked.grown grown.grown }
+    record { growing = grown.growing; grown = grows_on c.args.growing.now.walk.bodies c.children.new.self.bodies c.grow_all.new.self.walk.bodies asked.grown grown.grown }
 
 pub returns-clause-nodes : goal.returns-clause-nodes
 returns-clause-nodes c = λ s h whole.

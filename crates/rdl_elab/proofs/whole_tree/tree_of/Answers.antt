@@ -1,4 +1,5 @@
 use Rattle.std.proofs.Common.{refl}
+use Rattle.rdl_elab.proofs.Environments.{envs_none}
 use Rattle.rdl_elab.proofs.Staying.{node_stays}
 use Rattle.rdl_elab.proofs.Sources.{elaborates, is_some_top, is_top, never, root_is_whole, top_is_whole, top_node}
 use Rattle.rdl_elab.proofs.whole_tree.tree_of.Goals as goal
@@ -7,6 +8,9 @@ pub unreachable-requires : goal.unreachable-requires
 unreachable-requires c =
     let r = c.requires in
     never c.args.surveyed.top (is_some_top r.wanted c.args.source.now c.args.surveyed r.survey r.clean) c.in_default.is
+
+pub grow_signals-requires-clause-growing : goal.grow_signals-requires-clause-growing
+grow_signals-requires-clause-growing c = record { walking = c.requires.survey.walking; envs = envs_none c.args.surveyed.walk.bodies.list.items c.new.result.items c.new.ensures.items }
 
 pub grow_top-requires-clause-some : goal.grow_top-requires-clause-some
 grow_top-requires-clause-some c =

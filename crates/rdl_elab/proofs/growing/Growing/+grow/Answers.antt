@@ -9,7 +9,7 @@ use Rattle.rdl_walk.proofs.Loops.{element_fits, is_element}
 use Rattle.rdl_elab.specs.Nodes.{IsMadeOf}
 use Rattle.rdl_elab.proofs.Childwise.{can_child, children_end, children_more, children_none}
 use Rattle.rdl_elab.proofs.Elementwise.{can_element, elements_end, elements_more, elements_none}
-use Rattle.rdl_elab.proofs.Nodewise.{all_below, asked_at, can_all, can_below, grown_asked, index_in, made_tree, none_below, shown_at, walking_asked}
+use Rattle.rdl_elab.proofs.Nodewise.{all_below, asked_at, can_all, can_below, envs_asked, grown_asked, index_in, made_tree, none_below, shown_at, walking_asked}
 use Rattle.rdl_elab.proofs.growing.Growing.+grow.Goals as goal
 
 pub grow-grow_below-requires : goal.grow-grow_below-requires
@@ -22,7 +22,10 @@ grow-grow_below-requires t c =
     let o = c.in_ok-opened.opened in (
       less,
       (
-        walking_asked w0 w1 w2 w3 o c.args.head.site c.args.head.name.place c.args.standing c.args.levels c.in_ok-children.children.now c.in_ok-id.ensures.walk c.in_ok-opened.ensures.opened c.in_ok-children.ensures c.requires.some,
+        record {
+          walking = walking_asked w0 w1 w2 w3 o c.args.head.site c.args.head.name.place c.args.standing c.args.levels c.in_ok-children.children.now c.in_ok-id.ensures.walk c.in_ok-opened.ensures.opened c.in_ok-children.ensures c.requires.some;
+          envs = envs_asked w0 w1 w2 w3 o c.args.head.site c.args.head.name.place c.args.standing c.args.levels c.in_ok-children.children.now c.in_ok-id.ensures.walk c.in_ok-opened.ensures.opened c.in_ok-children.ensures c.open.new.self.envs.items c.in_ok-opened.ensures.envs c.requires.some;
+        },
         (can_below w0 w1 w2 w3 o c.args.head.site c.args.head.name.place c.args.standing c.args.levels c.in_ok-children.children.now c.in_ok-id.ensures.walk c.in_ok-opened.ensures.opened c.in_ok-children.ensures c.requires.some, c.requires.deep),
       ),
     )
@@ -36,7 +39,7 @@ grow-returns-clause-grown t c =
     let o = c.in_ok-opened.opened in
     let below = c.in_ok-below.ensures.grown in
     record {
-      walking = below.walking;
+      growing = below.growing;
       grown = grows_on w0.bodies w3.bodies c.grow_below.new.self.walk.bodies
           (grown_asked w0 w1 w2 w3 o c.args.head.site c.args.head.name.place c.args.standing c.args.levels c.in_ok-children.children.now c.in_ok-id.ensures.walk c.in_ok-opened.ensures.opened c.in_ok-children.ensures c.requires.some) below.grown;
     }
@@ -57,13 +60,13 @@ grow-returns-clause-node t c = λ s n e at stands fits whole own beside alias.
     (subst (λ k. AreTreesOf rs k rs (nodes_in n) c.grow_below.new.self.count) (c.in_ok-opened.ensures.count ∙ c.in_ok-id.ensures.next) trees)
 
 pub grow_all-loop-child-init : goal.grow_all-loop-child-init
-grow_all-loop-child-init t c = (children_none c.args.self.now c.args.standing c.args.levels c.args.children.now c.new-beside.result.nodes.items c.requires.walking c.new-beside.ensures.none, c.new-beside.ensures.siblings)
+grow_all-loop-child-init t c = (children_none c.args.self.now c.args.standing c.args.levels c.args.children.now c.new-beside.result.nodes.items c.requires.growing c.new-beside.ensures.none, c.new-beside.ensures.siblings)
 
 pub grow_all-grow_child-requires : goal.grow_all-grow_child-requires
 grow_all-grow_child-requires t c =
     let less : c.args.levels * 5 + 3 < t = omega (arith, c.decreases) in
     let inv = c.loop-child.invariant in
-    (less, (inv.0.grown.walking, (can_child c.args.self.now c.loop-child.self c.args.standing c.args.levels c.args.children.now c.loop-child.child-index _ c.loop-child.beside.nodes.items c.loop-child-test.true inv.0 c.requires.some, (c.requires.deep, inv.1))))
+    (less, (inv.0.grown.growing, (can_child c.args.self.now c.loop-child.self c.args.standing c.args.levels c.args.children.now c.loop-child.child-index _ c.loop-child.beside.nodes.items c.loop-child-test.true inv.0 c.requires.some, (c.requires.deep, inv.1))))
 
 pub grow_all-loop-child-preserved : goal.grow_all-loop-child-preserved
 grow_all-loop-child-preserved t c =
@@ -81,14 +84,14 @@ grow_below-grow_all-requires t c =
     let z = c.if-levels-eq0.false in
     let deep = c.requires.deep in
     let less : (c.args.levels - 1) * 5 + 4 < t = omega (arith, c.decreases, z) in
-    (less, (c.requires.walking, (can_all c.args.self.now.walk.bodies c.args.children.now c.args.standing c.args.levels c.if-levels-eq0.false c.requires.some, omega (arith, z, deep))))
+    (less, (c.requires.growing, (can_all c.args.self.now.walk.bodies c.args.children.now c.args.standing c.args.levels c.if-levels-eq0.false c.requires.some, omega (arith, z, deep))))
 
 pub grow_below-returns-clause-nodes : goal.grow_below-returns-clause-nodes
 grow_below-returns-clause-nodes t c = λ n h stands fits whole.
     all_below c.args.levels n c.args.self.now.count c.grow_all.new.self.count c.args.standing c.args.self.now.walk.bodies c.args.children.now c.in_ok-below.below.now c.if-levels-eq0.false c.in_ok-below.ensures.nodes h stands fits whole
 
 pub grow_child-loop-number-init : goal.grow_child-loop-number-init
-grow_child-loop-number-init t c = (elements_none c.args.self.now c.args.beside.now.nodes.items c.args.standing c.args.levels c.args.child.now c.requires.walking, c.requires.siblings)
+grow_child-loop-number-init t c = (elements_none c.args.self.now c.args.beside.now.nodes.items c.args.standing c.args.levels c.args.child.now c.requires.growing, c.requires.siblings)
 
 pub grow_child-grow_element-requires : goal.grow_child-grow_element-requires
 grow_child-grow_element-requires t c =
@@ -98,7 +101,7 @@ grow_child-grow_element-requires t c =
     let left = min-le_left (product c.args.child.now.dims.now) 65536 in
     let right = min-le_right (product c.args.child.now.dims.now) 65536 in
     let inv = c.loop-number.invariant.0 in
-    (less, (inv.grown.walking, (can_element c.args.self.now c.loop-number.self c.args.beside.now.nodes.items c.loop-number.beside.nodes.items c.args.standing c.args.levels c.args.child.now c.loop-number.number c.requires.walking inv c.requires.some, (omega (arith, at, total, left), (omega (arith, at, total, right), c.requires.deep)))))
+    (less, (inv.grown.growing, (can_element c.args.self.now c.loop-number.self c.args.beside.now.nodes.items c.loop-number.beside.nodes.items c.args.standing c.args.levels c.args.child.now c.loop-number.number c.requires.growing inv c.requires.some, (omega (arith, at, total, left), (omega (arith, at, total, right), c.requires.deep)))))
 
 pub grow_child-loop-number-preserved : goal.grow_child-loop-number-preserved
 grow_child-loop-number-preserved t c =
@@ -106,7 +109,7 @@ grow_child-loop-number-preserved t c =
     let total = c.count_of-total.ensures in
     let left = min-le_left (product c.args.child.now.dims.now) 65536 in
     let inv = c.loop-number.invariant.0 in (
-      elements_more c.args.self.now c.loop-number.self c.grow_element.new.self c.args.beside.now.nodes.items c.loop-number.beside.nodes.items c.args.standing c.args.levels c.args.child.now c.loop-number.number c.number_of-alias.result c.in_ok-node.node c.requires.walking (omega (arith, at, total, left)) c.number_of-alias.ensures inv
+      elements_more c.args.self.now c.loop-number.self c.grow_element.new.self c.args.beside.now.nodes.items c.loop-number.beside.nodes.items c.args.standing c.args.levels c.args.child.now c.loop-number.number c.number_of-alias.result c.in_ok-node.node c.requires.growing (omega (arith, at, total, left)) c.number_of-alias.ensures inv
           c.in_ok-node.ensures.grown c.in_ok-node.ensures.node c.push.new.self.nodes.items c.in_ok-push.ensures.pushed,
       c.in_ok-push.ensures.siblings,
     )
@@ -128,7 +131,7 @@ grow_element-grow-requires t c =
     let e = is_element c.args.self.now.walk.bodies c.args.child.now s h c.args.standing (record { depth = c.args.standing.depth + 1; prefix = c.len_of-len.result + 1 }) c.args.levels c.args.number c.in_ok-index.index.now c.in_ok-index.ensures.row some.stands some.fits refl (ap (λ n. n + 1) (c.len_of-len.ensures.len few)) in (
       less,
       (
-        c.requires.walking,
+        c.requires.growing,
         (
           record {
             site = h.site;
