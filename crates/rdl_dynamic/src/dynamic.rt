@@ -90,7 +90,7 @@ fn note_taken(
 // Puts in what fails of the name and the target.
 fn judge_path<'a>(
     path: &Path<'a>,
-    set: &Set<'a>,
+    set: &'a Set<'a>,
     known: bool,
     nodes: &[u32],
     visible: &Chain<'_, '_, '_, 'a>,
@@ -120,7 +120,7 @@ fn judge_known<'a>(
     again: bool,
     excluded: bool,
     prop: Prop,
-    set: &Set<'a>,
+    set: &'a Set<'a>,
     body: u32,
     visible: &Chain<'_, '_, '_, 'a>,
     marks: &Marks,
@@ -157,7 +157,7 @@ pub(crate) fn judge_dynamic<'a>(
     rows: &[Row<'a>],
     contents: &Contents<'a>,
     target: &Path<'a>,
-    set: &Set<'a>,
+    set: &'a Set<'a>,
     body: u32,
     visible: &Chain<'_, '_, '_, 'a>,
     known: &mut Known<'a>,
