@@ -90,7 +90,7 @@ fn note_taken(
 // Puts in what fails of the name and the target.
 fn judge_path<'a>(
     path: &Path<'a>,
-    set: &'a Set<'a>,
+    set: &Set<'a>,
     known: bool,
     nodes: &[u32],
     visible: &Chain<'_, '_, '_, 'a>,
