@@ -1,20 +1,17 @@
 -- What holds where one body more is open, or one site more is listed.
-use Rattle.std.proofs.Common.{◌≡◌, ◌∙◌, ℕ, ◌+◌, ◌<◌, ◌≤◌, List, [], ◌∷◌, ◌++◌, length, map, take, slice_get, Option, None, Some, option_map, option_to_list, refl, sym, ap, subst, arith, append-nil, ◌⊎◌, inl, inr}
-use Rattle.std.specs.Borrow.{Bor}
+use Rattle.std.proofs.Common.{◌≡◌, ◌∙◌, ℕ, ◌+◌, ◌<◌, ◌≤◌, List, [], ◌∷◌, ◌++◌, length, map, take, slice_get, Option, None, Some, option_to_list, refl, sym, ap, subst, arith, append-nil, ◌⊎◌, inl, inr}
 use Rattle.std.proofs.lemmas.List.{length-append}
 use Rattle.std.proofs.lemmas.Option.{slice_get_within}
 use Rattle.plain_lemmas.proofs.Lists.{get-last as get_next}
 use Rattle.rdl_base.specs.declared.fault.Fault.{Fault}
 use Rattle.rdl_tree.specs.InOrder.{IsInOrder}
 use Rattle.rdl_tree.specs.declared.item.Item.{Item}
-use Rattle.rdl_tree.specs.declared.value.Env.{Env}
 use Rattle.rdl_values.specs.Bodies as values
 use Rattle.rdl_values.specs.Bodies.{around, scope_at}
 use Rattle.rdl_values.specs.Chained.{chained}
 use Rattle.rdl_values.specs.Enums.{names_of, with_item, with_items}
 use Rattle.rdl_values.specs.Instances.{Instance, body}
-use Rattle.rdl_values.specs.Seen.{around_of, bound_of, listed_enum, names_in}
-use Rattle.rdl_values.specs.Tabled.{listed_in}
+use Rattle.rdl_values.specs.Seen.{bound_of, listed_enum, names_in}
 use Rattle.rdl_values.specs.Values.{Around, EnumOf, Names, Val}
 use Rattle.rdl_values.specs.Views as view
 use Rattle.rdl_values.specs.Views.{ItemIs, item_is}
@@ -29,14 +26,14 @@ use Rattle.rdl_scopes.proofs.Closing.{closed_stays}
 use Rattle.rdl_scopes.specs.Scopes.{AreOpen, Shows, items_at, items_in}
 use Rattle.rdl_bodies.specs.Kept.{AreBelow, AreKept, Begins, Grows, HasItems, IsBody, IsOpenFor, IsPlacedIn, IsSite, IsTextIn, of_names}
 use Rattle.rdl_bodies.specs.Opened.{IsOpened, IsText, IsTextFor}
-use Rattle.rdl_bodies.specs.Sited.{HaveEnvs, IsAt, IsOpenAs}
+use Rattle.rdl_bodies.specs.Sited.{HaveNames, IsAt, IsOpenAs, own_names}
 use Rattle.rdl_bodies.specs.declared.bodies.Bodies.{Bodies}
 use Rattle.rdl_bodies.specs.declared.bodies.Body.{Body}
 use Rattle.rdl_bodies.specs.declared.bodies.Site.{Site}
 use Rattle.rdl_bodies.specs.declared.bodies.Text.{Text}
 use Rattle.rdl_bodies.specs.declared.bodies.TextPlace.{TextPlace}
 use Rattle.rdl_bodies.specs.declared.opening.BodyText.{BodyText}
-use Rattle.rdl_bodies.proofs.Growing.{AllSame, at_same, begins_get, begins_length, begins_same, chained_same, below_more, def_same, get_either, get_front, grows_on, grows_same, open_same, round_same, same_below, envs_same, shows_same, turned}
+use Rattle.rdl_bodies.proofs.Growing.{AllSame, at_same, begins_get, begins_length, begins_same, chained_same, below_more, def_same, get_either, get_front, grows_on, grows_same, open_same, round_same, same_below, names_same, shows_same, turned}
 
 -- The names of a body.
 
@@ -66,19 +63,6 @@ round_alike t [] (p ∷ ps) ls h = absurd h
 round_alike t (k ∷ ks) [] ls h = absurd h
 round_alike t (k ∷ ks) (p ∷ ps) [] h = absurd h
 round_alike t (k ∷ ks) (p ∷ ps) (l ∷ ls) h = h.1
-
--- the environment round a text
-pub env_found : (bodies : List Body) (ks : List ℕ) (k : ℕ) (ws : Around) (x : Body) → HaveEnvs bodies (k ∷ ks) ws → slice_get bodies k ≡ Some x → around_of x.env.now ≡ ws
-env_found bodies ks k [] x h e = absurd h
-env_found bodies ks k (a ∷ ws) x h e = let same : h.0.0 ≡ x = cc in subst (λ y. around_of y.env.now ≡ a ∷ ws) same h.0.2
-
-pub env_missing : (bodies : List Body) (ks : List ℕ) (k : ℕ) (ws : Around) → HaveEnvs bodies (k ∷ ks) ws → slice_get bodies k ≡ None → ⊥
-env_missing bodies ks k [] h e = h
-env_missing bodies ks k (a ∷ ws) h e = cc
-
-pub env_none : (bodies : List Body) (ws : Around) → HaveEnvs bodies [] ws → [] ≡ ws
-env_none bodies [] h = refl
-env_none bodies (a ∷ ws) h = absurd h
 
 -- Texts that were there stay what they are.
 
@@ -139,12 +123,10 @@ module _ (t u : Bodies) (grown : Grows t u) (texts : Begins t.texts.items u.text
 
 -- One body more.
 
--- the environment of a body whose names were opened
-pub env_opened : (e : Env) (ws : Around) (x : BodyText) (o : Opened) (outer : Option (Bor Env)) → around_of e ≡ names_in x.bound.now o.enums.now ∷ listed_in outer → listed_in outer ≡ ws → map listed_enum o.enums.now ≡ (names_of ws (map bound_of x.bound.now) x.items.now).enums
-    → around_of e ≡ names_of ws (map bound_of x.bound.now) x.items.now ∷ ws
-env_opened e ws x o outer is round enums =
-    is ∙ ap (λ bs. names_in x.bound.now o.enums.now ∷ bs) round
-    ∙ ap (λ n. n ∷ ws) (same-names (names_of ws (map bound_of x.bound.now) x.items.now) (map bound_of x.bound.now) (map listed_enum o.enums.now) (sym (names_bound ws (map bound_of x.bound.now) x.items.now)) enums)
+-- the names of a body that were opened
+pub names_opened : (r : Body) (ws : Around) (x : BodyText) (o : Opened) → r.bound.now ≡ x.bound.now → r.enums.now ≡ o.enums.now → map listed_enum o.enums.now ≡ (names_of ws (map bound_of x.bound.now) x.items.now).enums → own_names r ≡ names_of ws (map bound_of x.bound.now) x.items.now
+names_opened r ws x o bound enums listed =
+    ap (λ bs. names_in bs r.enums.now) bound ∙ ap (names_in x.bound.now) enums ∙ same-names (names_of ws (map bound_of x.bound.now) x.items.now) (map bound_of x.bound.now) (map listed_enum o.enums.now) (sym (names_bound ws (map bound_of x.bound.now) x.items.now)) listed
 
 -- What is known of a body that is put behind the others.
 pub record IsNext (t u : Bodies) (number : ℕ) (x : BodyText) (r : Body) : Type 0 where
@@ -163,7 +145,7 @@ pub record IsNext (t u : Bodies) (number : ℕ) (x : BodyText) (r : Body) : Type
   pub kind_is : r.kind ≡ x.kind
   pub numbers_are : r.numbers.now ≡ number ∷ x.outer.now
   pub uptos_are : r.uptos.now ≡ x.uptos.now
-  pub env_is : (ws : Around) → HaveEnvs t.list.items x.outer.now ws → IsAlike (chained t.tables.items x.outer.now) ws → around_of r.env.now ≡ names_of ws (map bound_of x.bound.now) x.items.now ∷ ws
+  pub names_are : (ws : Around) → IsAlike (chained t.tables.items x.outer.now) ws → own_names r ≡ names_of ws (map bound_of x.bound.now) x.items.now
   pub alike : (ws : Around) → IsAlike (chained t.tables.items x.outer.now) ws → IsAlike (table ∷ chained t.tables.items x.outer.now) (names_of ws (map bound_of x.bound.now) x.items.now ∷ ws)
 
 module _ (t u : Bodies) (number : ℕ) (x : BodyText) (r : Body) (new : IsNext t u number x r) where
@@ -206,15 +188,16 @@ module _ (t u : Bodies) (number : ℕ) (x : BodyText) (r : Body) (new : IsNext t
           (subst (λ us. Shows u.tables.items u.components.items r.numbers.now (i ∷ us) (scope_at v (take i x.items.now))) (sym new.uptos_are)
           (subst (λ ns. Shows u.tables.items u.components.items ns (i ∷ x.uptos.now) (scope_at v (take i x.items.now))) (sym new.numbers_are) (shown i)))
 
-      env : around_of r.env.now ≡ v.names ∷ around v.outer
-      env = new.env_is (around v.outer) h.round.envs (round_alike t x.outer.now x.uptos.now v.outer h.round.shown) ∙ ap (λ n. n ∷ around v.outer) (sym h.names_are)
+      own : own_names r ≡ v.names
+      own = new.names_are (around v.outer) (round_alike t x.outer.now x.uptos.now v.outer h.round.shown) ∙ sym h.names_are
 
       pub opened_as : IsOpenAs u r v
       opened_as = record {
         items_are = h.items_are ∙ sym new.items_are;
         kind_is = h.kind_is ∙ sym new.kind_is;
         shown = shown-here;
-        envs = subst (λ ns. HaveEnvs u.list.items ns (v.names ∷ around v.outer)) (sym new.numbers_are) ((r, own_body, env), envs_same t u x.outer.now (around v.outer) rounds h.round.envs);
+        names = subst (λ ns. HaveNames u.list.items ns (v.names ∷ around v.outer)) (sym new.numbers_are)
+            (record { body = r; here = own_body; numbers_are = new.numbers_are; behind = subst (λ k. AreBelow k x.outer.now) (sym new.numbered) below; names_are = own }, names_same t u x.outer.now (around v.outer) rounds h.round.names);
       }
 
   -- All is kept where the failures of the names were put in.
@@ -323,23 +306,6 @@ module _ (t u : Bodies) (s : Site) (tables : u.tables ≡ t.tables) (components 
       go : (x : Site) {k : ℕ} → (slice_get t.sites.items k ≡ Some x) ⊎ ((k ≡ length t.sites.items) × (s ≡ x)) → (j : ℕ) → IsSite u x
       go x (inl h) j = site_stays t u grown_listed texts-same before [] inv x (inv.sites _ x h)
       go x (inr h) j = subst (IsSite u) h.1 (site_stays t u grown_listed texts-same before [] inv s new)
-
--- The environment round a text, by the first of the numbers of the bodies round it.
-
-pub env_listed : (bodies : List Body) (ks : List ℕ) (ws : Around) (k : ℕ) → HaveEnvs bodies ks ws → slice_get ks 0 ≡ Some k → listed_in (option_map (λ x. x.env) (slice_get bodies k)) ≡ ws
-env_listed bodies [] ws k h e = cc
-env_listed bodies (j ∷ ks) ws k h e = go (slice_get bodies k) refl
-  where
-    same : j ≡ k
-    same = cc
-
-    go : (o : Option Body) → slice_get bodies k ≡ o → listed_in (option_map (λ x. x.env) o) ≡ ws
-    go None f = absurd (env_missing bodies ks j ws h (ap (λ n. slice_get bodies n) same ∙ f))
-    go (Some x) f = env_found bodies ks j ws x h (ap (λ n. slice_get bodies n) same ∙ f)
-
-pub env_alone : (bodies : List Body) (ks : List ℕ) (ws : Around) → HaveEnvs bodies ks ws → slice_get ks 0 ≡ None → [] ≡ ws
-env_alone bodies [] ws h e = env_none bodies ws h
-env_alone bodies (j ∷ ks) ws h e = cc
 
 -- A body that is open for a site already.
 pub open_again : (t : Bodies) (before : List Fault) (k number : ℕ) (x : Body) (s : Site) (n : Instance) → AreKept t before → slice_get t.list.items k ≡ Some x → x.site ≡ Some number → slice_get t.sites.items number ≡ Some s → IsAt t s n.closure n.bound → IsOpened t t before before k (body n)

@@ -11,7 +11,7 @@ use Rattle.rdl_values.specs.Values.{Around}
 use Rattle.rdl_failures.specs.Shown.{IsAlike}
 use Rattle.rdl_scopes.specs.Scopes.{Shows, items_in}
 use Rattle.rdl_bodies.specs.Kept.{AreBelow, Begins, Grows}
-use Rattle.rdl_bodies.specs.Sited.{AreRound, HaveEnvs, IsAt, IsOpenAs, component_at, def_at}
+use Rattle.rdl_bodies.specs.Sited.{AreRound, HaveNames, IsAt, IsOpenAs, component_at, def_at}
 use Rattle.rdl_bodies.specs.declared.bodies.Bodies.{Bodies}
 use Rattle.rdl_bodies.specs.declared.bodies.Body.{Body}
 use Rattle.rdl_bodies.specs.declared.bodies.Site.{Site}
@@ -104,14 +104,15 @@ shows_same t u (k ∷ ks) (p ∷ ps) [] s h = absurd h
 shows_same t u (k ∷ ks) (p ∷ ps) (l ∷ ls) s h =
     (h.0 ∙ ap (λ o. take p (items_in o)) s.0.component, subst (λ ws. IsAlike ws (around (l ∷ ls))) (chained_same t u (k ∷ ks) s) h.1, shows_same t u ks ps ls s.1 h.2)
 
-pub envs_same : (t u : Bodies) (ks : List ℕ) (ws : Around) → AllSame t u ks → HaveEnvs t.list.items ks ws → HaveEnvs u.list.items ks ws
-envs_same t u [] [] s h = tt
-envs_same t u [] (a ∷ ws) s h = absurd h
-envs_same t u (k ∷ ks) [] s h = absurd h
-envs_same t u (k ∷ ks) (a ∷ ws) s h = ((h.0.0, sym s.0.body ∙ h.0.1, h.0.2), envs_same t u ks ws s.1 h.1)
+pub names_same : (t u : Bodies) (ks : List ℕ) (ws : Around) → AllSame t u ks → HaveNames t.list.items ks ws → HaveNames u.list.items ks ws
+names_same t u [] [] s h = tt
+names_same t u [] (a ∷ ws) s h = absurd h
+names_same t u (k ∷ ks) [] s h = absurd h
+names_same t u (k ∷ ks) (a ∷ ws) s h =
+    (record { body = h.0.body; here = sym s.0.body ∙ h.0.here; numbers_are = h.0.numbers_are; behind = h.0.behind; names_are = h.0.names_are }, names_same t u ks ws s.1 h.1)
 
 pub round_same : (t u : Bodies) (ks ps : List ℕ) (ls : Scope) → AllSame t u ks → AreRound t ks ps ls → AreRound u ks ps ls
-round_same t u ks ps ls s h = record { shown = shows_same t u ks ps ls s h.shown; envs = envs_same t u ks (around ls) s h.envs }
+round_same t u ks ps ls s h = record { shown = shows_same t u ks ps ls s h.shown; names = names_same t u ks (around ls) s h.names }
 
 pub at_same : (t u : Bodies) (x : Site) (c : Closure) (b : Bound) → AllSame t u x.outer.now → IsAt t x c b → IsAt u x c b
 at_same t u x c b s h = record { def = h.def; round = round_same t u x.outer.now x.uptos.now c.scope s h.round; bound_is = h.bound_is }
@@ -121,7 +122,7 @@ open_same t u x b s h = record {
   items_are = h.items_are;
   kind_is = h.kind_is;
   shown = λ i. shows_same t u x.numbers.now (i ∷ x.uptos.now) (scope_at b (take i x.items.now)) s (h.shown i);
-  envs = envs_same t u x.numbers.now (b.names ∷ around b.outer) s h.envs;
+  names = names_same t u x.numbers.now (b.names ∷ around b.outer) s h.names;
 }
 
 pub def_same : (t u : Bodies) (ks ps : List ℕ) → AllSame t u ks → def_at t.components.items ks ps ≡ def_at u.components.items ks ps

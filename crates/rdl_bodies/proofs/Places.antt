@@ -85,7 +85,7 @@ pub root_text : (t : Bodies) (x : BodyText) (s : Source) → x.items.now ≡ s.i
 root_text t x s i k o u b = record {
   items_are = sym i;
   kind_is = sym k;
-  round = subst (λ ks. AreRound t ks x.uptos.now []) (sym o) (subst (λ ps. AreRound t [] ps []) (sym u) (record { shown = tt; envs = tt }));
+  round = subst (λ ks. AreRound t ks x.uptos.now []) (sym o) (subst (λ ps. AreRound t [] ps []) (sym u) (record { shown = tt; names = tt }));
   names_are = ap (λ bs. names_of [] (map bound_of bs) s.items.now) (sym b) ∙ ap (λ is. names_of [] (map bound_of x.bound.now) is) (sym i);
 }
 

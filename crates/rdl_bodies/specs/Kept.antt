@@ -1,6 +1,6 @@
 -- What holds of the open bodies at any time.
-use Rattle.std.specs.Prelude.{◌≡◌, ℕ, ◌<◌, false, List, [], ◌∷◌, ◌++◌, length, map, Option, None, Some, option_map, slice_get, bytes_eq}
-use Rattle.std.specs.List.{AllByRecursion, list_any}
+use Rattle.std.specs.Prelude.{◌≡◌, ℕ, false, List, [], ◌∷◌, ◌++◌, length, map, Option, None, Some, option_map, slice_get, bytes_eq}
+use Rattle.std.specs.List.{list_any}
 use Rattle.rdl_base.specs.declared.fault.Fault.{Fault}
 use Rattle.rdl_tree.specs.InOrder.{IsInOrder}
 use Rattle.rdl_tree.specs.declared.item.Item.{Item}
@@ -13,6 +13,7 @@ use Rattle.rdl_failures.specs.Noted.{Holds}
 use Rattle.rdl_scopes.specs.Closed.{AreClosedOf}
 use Rattle.rdl_scopes.specs.Scopes.{AreOpen, items_at}
 use Rattle.rdl_bodies.specs.Sited.{IsAt, IsOpenAs, component_at, def_at}
+pub use Rattle.rdl_bodies.specs.Sited.{AreBelow}
 use Rattle.rdl_bodies.specs.declared.bodies.Bodies.{Bodies}
 use Rattle.rdl_bodies.specs.declared.bodies.Body.{Body}
 use Rattle.rdl_bodies.specs.declared.bodies.Site.{Site}
@@ -27,10 +28,6 @@ of_names b = twice_defined b ++ of_enums b
 abbrev pub AreDistinct : Bound → Bound → Type 0
 AreDistinct before [] = Unit {0}
 AreDistinct before (b ∷ bs) = (list_any (λ x. bytes_eq x.0 b.0) before ≡ false) × AreDistinct (before ++ (b ∷ [])) bs
-
--- the numbers are those of open bodies
-abbrev pub AreBelow : ℕ → List ℕ → Type 0
-AreBelow n ks = AllByRecursion (λ k. k < n) ks
 
 -- A site is a definition where it says, and no two of its parameters have one name.
 pub record IsSite (t : Bodies) (s : Site) : Type 0 where

@@ -1,15 +1,12 @@
 -- What it means that a body was opened, or a site listed.
 use Rattle.std.specs.Prelude.{◌≡◌, ℕ, List, ◌∷◌, map, Option, None, Some, slice_get}
-use Rattle.std.specs.Borrow.{Bor}
 use Rattle.rdl_base.specs.declared.fault.Fault.{Fault}
-use Rattle.rdl_tree.specs.declared.value.Env.{Env}
 use Rattle.rdl_values.specs.Bodies as values
 use Rattle.rdl_values.specs.Bodies.{Closure, around}
 use Rattle.rdl_values.specs.Enums.{names_of}
 use Rattle.rdl_values.specs.Instances.{Instance, body}
 use Rattle.rdl_values.specs.Parameters.{Bound}
-use Rattle.rdl_values.specs.Seen.{around_of, bound_of, names_in}
-use Rattle.rdl_values.specs.Tabled.{listed_in}
+use Rattle.rdl_values.specs.Seen.{bound_of}
 use Rattle.rdl_failures.specs.Noted.{with_all}
 use Rattle.rdl_scopes.specs.declared.enums.Opened.{Opened}
 use Rattle.rdl_bodies.specs.Kept.{AreKept, Grows, of_names}
@@ -31,15 +28,16 @@ abbrev pub IsTextFor : Bodies → BodyText → Option ℕ → Type 0
 IsTextFor t x None = Unit {0}
 IsTextFor t x (Some number) = (s : Site) × (slice_get t.sites.items number ≡ Some s) × ((n : Instance) → IsAt t s n.closure n.bound → IsText t x (body n))
 
--- The open body has the text, which has this number, its own number, and the names that were opened, in the bodies of an environment.
-pub record IsBodyOf (number of : ℕ) (x : BodyText) (o : Opened) (outer : Option (Bor Env)) (r : Body) : Type 0 where
+-- The open body has the text, which has this number, its own number, and the names that were opened.
+pub record IsBodyOf (number of : ℕ) (x : BodyText) (o : Opened) (r : Body) : Type 0 where
   pub site_is : r.site ≡ x.site
   pub text_is : r.text ≡ of
   pub items_are : r.items.now ≡ x.items.now
   pub kind_is : r.kind ≡ x.kind
   pub numbers_are : r.numbers.now ≡ number ∷ x.outer.now
   pub uptos_are : r.uptos.now ≡ x.uptos.now
-  pub env_is : around_of r.env.now ≡ names_in x.bound.now o.enums.now ∷ listed_in outer
+  pub bound_is : r.bound.now ≡ x.bound.now
+  pub enums_are : r.enums.now ≡ o.enums.now
 
 -- There is a site of this number, and a node of it.
 pub record CanOpen (t : Bodies) (number : ℕ) : Type 0 where

@@ -5,7 +5,7 @@ ghost use Rattle.std.specs.Prelude.{◌≡◌};
 use crate::hints::Hints;
 use bumpalo::Bump;
 use rdl_scopes::{ClosedEnums, Components};
-use rdl_tree::{Bound, Def, Env, Item, Kind};
+use rdl_tree::{Bound, Def, EnumValues, Item, Kind};
 use rdl_values::Table;
 use std::alloc::Global;
 use std::collections::BTreeMap;
@@ -35,7 +35,10 @@ pub struct Body<'s, 'a> {
     pub numbers: &'s [usize],
     /// How many items of the bodies round it stand before its definition.
     pub uptos: &'s [usize],
-    pub env: &'a Env<'a>,
+    /// The values of its definition's parameters.
+    pub bound: &'a [Bound<'a>],
+    /// Its enumerations in order.
+    pub enums: &'a [EnumValues<'a>],
 }
 
 /// The value of a parameter, as part of a key.

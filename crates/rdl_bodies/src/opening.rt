@@ -1,19 +1,17 @@
 //! Bodies that are opened.
 
-ghost use Rattle.std.specs.Prelude.{◌≡◌, ◌∷◌, ◌++◌, [], cond, is_some, map, option_map, IfOk, OnOk, slice_get};
+ghost use Rattle.std.specs.Prelude.{◌≡◌, ◌∷◌, ◌++◌, [], cond, is_some, map, IfOk, OnOk, slice_get};
 ghost use Rattle.rdl_tree.specs.InOrder.{IsInOrder};
 ghost use Rattle.rdl_values.specs.Bodies.{Body as BodyOf, around};
 ghost use Rattle.rdl_values.specs.Chained.{chained};
-ghost use Rattle.rdl_values.specs.Seen.{around_of, bound_of, names_in};
-ghost use Rattle.rdl_values.specs.Tabled.{listed_in};
-ghost use Rattle.rdl_values.specs.Values.{Around, entry_named};
+ghost use Rattle.rdl_values.specs.Seen.{bound_of};
+ghost use Rattle.rdl_values.specs.Values.{entry_named};
 ghost use Rattle.rdl_failures.specs.Noted.{with_all};
 ghost use Rattle.rdl_failures.specs.Shown.{IsAlike};
 ghost use Rattle.rdl_scopes.specs.Closed.{AreClosedOf};
 ghost use Rattle.rdl_scopes.specs.Opened as names;
 ghost use Rattle.rdl_bodies.specs.Kept.{AreDistinct, of_names};
 ghost use Rattle.rdl_bodies.specs.Opened.{IsBodyOf};
-ghost use Rattle.rdl_bodies.specs.Sited.{HaveEnvs};
 
 use crate::bodies::{Bodies, Body, TextPlace};
 use bumpalo::Bump;
@@ -21,7 +19,7 @@ use bumpalo::collections::into_bump_slice;
 use rb_base::NoMemory;
 use rdl_failures::Failures;
 use rdl_scopes::{ClosedEnums, Components, Opened, Outer, judge_names, open_names};
-use rdl_tree::{Bound, Env, Item, Kind};
+use rdl_tree::{Bound, Item, Kind};
 use rdl_values::Table;
 use std::alloc::Global;
 
@@ -90,40 +88,6 @@ pub(crate) fn first_of(numbers: &[usize]) -> Option<usize>
     numbers.first().copied()
 }
 
-// The environment of a body.
-fn env_at<'a>(list: &[Body<'_, 'a>], number: usize) -> Option<&'a Env<'a>>
-    ensures { result ≡ option_map (λ x. x.env) (slice_get list.now number) }
-{
-    list.get(number).map(|body| body.env)
-}
-
-// The environment of the nearest of some bodies.
-fn env_round<'a>(list: &[Body<'_, 'a>], outer: &[usize]) -> Option<&'a Env<'a>>
-    ensures { (bodies : Around) → HaveEnvs list.now outer.now bodies → listed_in result ≡ bodies }
-{
-    match first_of(outer) {
-        Some(nearest) => env_at(list, nearest),
-        None => None,
-    }
-}
-
-// An environment in the arena.
-fn env_in<'a>(
-    arena: &'a Bump,
-    bound: &'a [Bound<'a>],
-    opened: &Opened<'a>,
-    outer: Option<&'a Env<'a>>,
-) -> Result<&'a Env<'a>, NoMemory>
-    ensures { IfOk result (λ e. around_of e.now ≡ names_in bound.now opened.now.enums.now ∷ listed_in outer.entry) }
-{
-    let env = arena.try_alloc(Env {
-        bound,
-        enums: opened.enums,
-        outer,
-    })?;
-    Ok(env)
-}
-
 // The number of a body, and those of the bodies round it.
 fn numbers_in<'s>(
     scratch: &'s Bump,
@@ -143,16 +107,13 @@ fn numbers_in<'s>(
 // The body of a text of this number.
 fn body_of<'s, 'a>(
     scratch: &'s Bump,
-    arena: &'a Bump,
     number: usize,
     of: usize,
     text: &BodyText<'s, 'a>,
     opened: &Opened<'a>,
-    outer: Option<&'a Env<'a>>,
 ) -> Result<Body<'s, 'a>, NoMemory>
-    ensures { IfOk result (IsBodyOf number of text.now opened.now outer.entry) }
+    ensures { IfOk result (IsBodyOf number of text.now opened.now) }
 {
-    let env = env_in(arena, text.bound, opened, outer)?;
     let numbers = numbers_in(scratch, number, text.outer)?;
     Ok(Body {
         site: text.site,
@@ -161,7 +122,8 @@ fn body_of<'s, 'a>(
         kind: text.kind,
         numbers,
         uptos: text.uptos,
-        env,
+        bound: text.bound,
+        enums: opened.enums,
     })
 }
 
@@ -219,9 +181,8 @@ impl<'s, 'a> Bodies<'s, 'a> {
     {
         let closed = &self.texts[of].closed;
         let opened = names_of(alloc, arena, &self.tables, text, closed, failures)?;
-        let outer = env_round(&self.list, text.outer);
         let number = self.tables.len();
-        let body = body_of(self.scratch, arena, number, of, text, &opened, outer)?;
+        let body = body_of(self.scratch, number, of, text, &opened)?;
         let components = Components::of(alloc, text.items)?;
         self.push(opened.table, components, body)?;
         Ok(number)

@@ -7,8 +7,7 @@ use Rattle.rdl_values.specs.Seen.{bound_of}
 use Rattle.rdl_failures.specs.Shown.{IsAlike}
 use Rattle.rdl_scopes.specs.Closed.{AreClosedOf}
 use Rattle.rdl_bodies.specs.Kept.{HasItems}
-use Rattle.rdl_bodies.specs.Sited.{HaveEnvs}
-use Rattle.rdl_bodies.proofs.Adding.{env_opened, is_opened, names_bound, round_alike}
+use Rattle.rdl_bodies.proofs.Adding.{is_opened, names_bound, names_opened, round_alike}
 use Rattle.rdl_bodies.proofs.bodies.Bodies.add_body.Goals as goal
 
 pub names_of-requires-clause-closed : goal.names_of-requires-clause-closed
@@ -44,7 +43,7 @@ returns-clause-opened c = λ b h.
       kind_is = c.in_ok-body.ensures.kind_is;
       numbers_are = c.in_ok-body.ensures.numbers_are;
       uptos_are = c.in_ok-body.ensures.uptos_are;
-      env_is = λ ws e a. env_opened r.env.now ws x o c.env_round-outer.result c.in_ok-body.ensures.env_is (c.env_round-outer.ensures ws (subst (λ xs. HaveEnvs xs x.outer.now ws) (sym c.deref-2.ensures.value) e)) (c.in_ok-opened.ensures.opened.listed ws (subst (λ ts. IsAlike (chained ts x.outer.now) ws) (sym c.deref.ensures.value) a));
+      names_are = λ ws a. names_opened r ws x o c.in_ok-body.ensures.bound_is c.in_ok-body.ensures.enums_are (c.in_ok-opened.ensures.opened.listed ws (subst (λ ts. IsAlike (chained ts x.outer.now) ws) (sym c.deref.ensures.value) a));
       alike = λ ws a. subst (λ ts. IsAlike (o.table ∷ chained ts x.outer.now) (names_of ws (map bound_of x.bound.now) x.items.now ∷ ws)) c.deref.ensures.value (c.in_ok-opened.ensures.opened.alike ws (subst (λ ts. IsAlike (chained ts x.outer.now) ws) (sym c.deref.ensures.value) a));
     }) c.args.failures.now c.names_of.new.failures c.requires.kept c.requires.in_order c.requires.below c.requires.some
     (λ v g. c.in_ok-opened.ensures.noted v g.items_are (ap (λ n. n.bound) g.names_are ∙ names_bound (around v.outer) (map bound_of x.bound.now) x.items.now) (subst (λ ts. IsAlike (chained ts x.outer.now) (around v.outer)) (sym c.deref.ensures.value) (round_alike t x.outer.now x.uptos.now v.outer g.round.shown)))
