@@ -18,7 +18,7 @@ use Rattle.rdl_children.specs.ItemUses.{GivesAll, GivesUses, IsBodyScene, none, 
 use Rattle.rdl_children.specs.declared.item.ItemUses.{ItemUses}
 use Rattle.rdl_children.specs.declared.item.Surroundings.{Surroundings}
 use Rattle.rdl_bodies.specs.Kept.{AreBelow, AreKept, Grows}
-use Rattle.rdl_bodies.specs.Sited.{HaveEnvs, IsOpenAs}
+use Rattle.rdl_bodies.specs.Sited.{HaveNames, IsOpenAs}
 use Rattle.rdl_bodies.specs.declared.bodies.Bodies.{Bodies}
 use Rattle.rdl_bodies.specs.declared.bodies.Body.{Body}
 use Rattle.rdl_bodies.proofs.Growing.{AllSame, at_same, begins_get, def_same, round_same, same_below}
@@ -26,7 +26,7 @@ use Rattle.rdl_children.specs.Children.{AreChildren, IsChild}
 use Rattle.rdl_children.specs.Children as children
 use Rattle.rdl_children.specs.Items.{AreItems, IsItem, IsPlaced, outer_of, uptos_at}
 use Rattle.rdl_children.specs.declared.child.Child.{Child}
-use Rattle.rdl_children.proofs.Reached.{Reached, SeenReaches, below_drop, envs_drop, found_at}
+use Rattle.rdl_children.proofs.Reached.{Reached, SeenReaches, below_drop, found_at, names_drop}
 
 -- Parts of lists.
 
@@ -78,7 +78,7 @@ module _ (t : Bodies) (y : Body) (b : values.Body) (open_ : IsOpenAs t y b) (s :
       let found = found_at t.tables.items t.components.items y.numbers.now (length y.items.now ∷ y.uptos.now) (scope_at b b.items) c f.level f.position (drop f.level y.uptos.now) reached all-shown here in
       record {
         def = at.def;
-        round = record { shown = here; envs = subst (HaveEnvs t.list.items (outer_of y f)) (sym found.round) (envs_drop t.list.items f.level y.numbers.now (b.names ∷ around b.outer) open_.envs) };
+        round = record { shown = here; names = subst (HaveNames t.list.items (outer_of y f)) (sym found.round) (names_drop t.list.items f.level y.numbers.now (b.names ∷ around b.outer) open_.names) };
         defined = found.defined;
       }
 

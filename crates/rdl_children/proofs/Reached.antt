@@ -19,7 +19,7 @@ use Rattle.plain_lemmas.proofs.Lists.{each-append, each-flat_map, each-imp}
 use Rattle.rdl_scopes.specs.declared.components.Components.{Components}
 use Rattle.rdl_scopes.specs.Scopes.{Shows, items_at}
 use Rattle.rdl_bodies.specs.Kept.{AreBelow}
-use Rattle.rdl_bodies.specs.Sited.{HaveEnvs, def_at}
+use Rattle.rdl_bodies.specs.Sited.{HaveNames, def_at}
 use Rattle.rdl_bodies.specs.declared.bodies.Body.{Body}
 
 -- The definition stands among these items, behind those.
@@ -231,13 +231,13 @@ found_at ts cs (k ∷ ks) (p ∷ ps) _ c zero q rs (above {l = l} {outer = outer
     absurd (omega (arith, a, b, d))
 found_at ts cs (k ∷ ks) (p ∷ ps) _ c (suc level) q rs (above {l = l} {outer = outer} r) all own = found_at ts cs ks ps outer c level q rs r all.2 own
 
--- the environments and the numbers from a level on
-pub envs_drop : (bodies : List Body) (level : ℕ) (ks : List ℕ) (ws : Around) → HaveEnvs bodies ks ws → HaveEnvs bodies (drop level ks) (drop level ws)
-envs_drop bodies zero ks ws h = h
-envs_drop bodies (suc level) [] [] h = tt
-envs_drop bodies (suc level) [] (a ∷ ws) h = absurd h
-envs_drop bodies (suc level) (k ∷ ks) [] h = absurd h
-envs_drop bodies (suc level) (k ∷ ks) (a ∷ ws) h = envs_drop bodies level ks ws h.1
+-- the names and the numbers from a level on
+pub names_drop : (bodies : List Body) (level : ℕ) (ks : List ℕ) (ws : Around) → HaveNames bodies ks ws → HaveNames bodies (drop level ks) (drop level ws)
+names_drop bodies zero ks ws h = h
+names_drop bodies (suc level) [] [] h = tt
+names_drop bodies (suc level) [] (a ∷ ws) h = absurd h
+names_drop bodies (suc level) (k ∷ ks) [] h = absurd h
+names_drop bodies (suc level) (k ∷ ks) (a ∷ ws) h = names_drop bodies level ks ws h.1
 
 pub below_drop : (n level : ℕ) (ks : List ℕ) → AreBelow n ks → AreBelow n (drop level ks)
 below_drop n zero ks h = h
