@@ -41,8 +41,7 @@ pub fn bind<'a>(
         return Err(PhaseError::NoMemory);
     };
     let numbers = made.numbers;
-    Ok((
-        Refs::of_tables(*elab, numbers.items, made.targets),
-        Dependencies::of_tables(*elab, made.edges, numbers.places),
-    ))
+    let refs = Refs::of_tables(*elab, numbers.items, made.targets);
+    let dependencies = Dependencies::of_tables(*elab, made.edges, numbers.places);
+    Ok((refs, dependencies))
 }
