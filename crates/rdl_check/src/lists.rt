@@ -16,7 +16,7 @@ use rdl_field_list::fields;
 use rdl_layers::Props;
 use rdl_nodes::Row;
 use rdl_ref_items::{InterruptOutputs, marks};
-use rdl_refs::order;
+use rdl_refs::{Dependencies, order};
 use rdl_rules::Fact;
 use rdl_sound_laws::clean_is_faultless;
 use rdl_tree::Elab;
@@ -93,16 +93,19 @@ pub(crate) fn lists_of<'a>(
 pub(crate) fn order_of(
     alloc: Global,
     known: NumberedTree<'_, '_>,
+    dependencies: Dependencies<'_>,
     marks: &[InterruptOutputs],
 ) -> Result<Order, NoMemory>
     requires known { IsNumberedTree known }
+    requires dependencies { dependencies ≡ known.props.now }
     requires marks { AreInterruptOutputs known.props.now marks.now }
     ensures { IfOk result (AreInTurn known.entry.props.now) }
 {
     // No circle is left where no rule fails.
-    let Ok(numbers) = order(alloc, known.refs) else {
+    let Ok(numbers) = order(alloc, &dependencies) else {
         return Err(NoMemory);
     };
+    drop(dependencies);
     let listed = Listed {
         props: known.props,
         refs: known.refs,
