@@ -7,11 +7,11 @@ ghost use Rattle.rdl_ref_items.specs.InterruptOutputs.{AreInterruptOutputs};
 ghost use Rattle.rdl_block_fields.specs.Known.{IsNumberedTree};
 ghost use Rattle.rdl_check.specs.Trees.{AreInTurn, AreLists, AreTables, IsClear};
 
-use rb_base::{NoMemory, Text};
+use rb_base::NoMemory;
 use rb_model::{Fields, Order, Regs, Signals, Views};
 use rdl_block_fields::NumberedTree;
 use rdl_block_lists::{Listed, block_order, regs, signals, views};
-use rdl_block_numbers::{NodeNumbers, node_numbers, path_texts};
+use rdl_block_numbers::{NodeNumbers, PathTexts, node_numbers, path_texts};
 use rdl_field_list::fields;
 use rdl_layers::Props;
 use rdl_nodes::Row;
@@ -25,7 +25,7 @@ use std::alloc::Global;
 /// The path texts of nodes, their numbers in the lists of their kinds, and what registers have for others to refer to.
 #[derive(Drop)]
 pub(crate) struct TreeTables {
-    pub texts: Vec<Text>,
+    pub texts: PathTexts,
     pub numbers: NodeNumbers,
     pub marks: Vec<InterruptOutputs>,
 }
