@@ -16,8 +16,8 @@ meaning_in scope (set.Str s) = text s.now
 meaning_in scope (set.Word w) = named w
 meaning_in scope (set.Intr e) = intr e
 meaning_in scope (set.Hard b) = hard b
-meaning_in scope (set.EnumOf n k) = enum_of n scope
-meaning_in scope (set.Ref p item k at) = reference p item scope at
+meaning_in scope (set.EnumOf n k) = enum_of n.now scope
+meaning_in scope (set.Ref p item k at) = reference p.now item.now scope at
 
 -- the same of a setting, or a failure in place of one
 abbrev pub outcome_in : Scope → Result Setting Fault → Outcome Meaning

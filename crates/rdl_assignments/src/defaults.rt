@@ -58,7 +58,7 @@ impl<'a> Defaults<'a> {
 // Reads what an item is by default.
 fn read_default<'a>(
     layer: &mut Layer<'a>,
-    item: &Item<'a>,
+    item: &'a Item<'a>,
     body: u32,
     visible: &Chain<'_, '_, '_, 'a>,
     failures: &mut Failures,
@@ -97,7 +97,7 @@ fn counted<'a>(alloc: Global, given: Vec<ValidAssignment<'a>>, counts: Vec<usize
 /// gives those that fail none. The body has the number, and its names and those round it are visible (SystemRDL 2.0, 5.1.3).
 pub fn judge_defaults<'a>(
     alloc: Global,
-    items: &[Item<'a>],
+    items: &'a [Item<'a>],
     body: u32,
     visible: &Chain<'_, '_, '_, 'a>,
     failures: &mut Failures,

@@ -18,7 +18,7 @@ use std::alloc::Global;
 /// Puts in all failures of the assignments of an enumeration's entry, on which a name and a description are legal.
 pub fn judge_entry<'a>(
     alloc: Global,
-    sets: &[Set<'a>],
+    sets: &'a [Set<'a>],
     visible: &Chain<'_, '_, '_, 'a>,
     failures: &mut Failures,
 ) -> Result<(), NoMemory>

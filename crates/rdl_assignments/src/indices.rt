@@ -1,6 +1,6 @@
 //! Names and indices of paths.
 
-ghost use Rattle.std.specs.Prelude.{◌≡◌, flat_map};
+ghost use Rattle.std.specs.Prelude.{◌≡◌, flat_map, option_copied};
 ghost use Rattle.std.specs.Result.{result_err};
 ghost use Rattle.rdl_values.specs.Uses.{values};
 ghost use Rattle.rdl_values.specs.Values.{Around};
@@ -15,11 +15,11 @@ use rdl_values::Chain;
 
 /// The name that a path of one bare name is, where no item follows.
 #[tactic(auto, using(crate::proofs::Steps::steps_of_code))]
-pub fn bare_name<'a>(path: &Path<'a>, item: &Option<Name<'a>>) -> Option<Name<'a>>
-    ensures { result ≡ spec.bare_name path.now item.now }
+pub fn bare_name<'a>(path: &Path<'a>, item: &Option<Name<'a>>) -> Option<&'a Name<'a>>
+    ensures { option_copied result ≡ spec.bare_name path.now item.now }
 {
     match (path.steps, item) {
-        ([step], None) if step.index.is_empty() => Some(step.name),
+        ([step], None) if step.index.is_empty() => Some(&step.name),
         _ => None,
     }
 }

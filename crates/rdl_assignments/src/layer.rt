@@ -67,7 +67,7 @@ impl<'a> Layer<'a> {
     /// Reads an assignment in the body of this number behind the others: puts in its failures, V rules in its value, P1 to P6 and P8.
     pub fn read(
         &mut self,
-        set: &Set<'a>,
+        set: &'a Set<'a>,
         allowed: Allowed,
         body: u32,
         visible: &Chain<'_, '_, '_, 'a>,

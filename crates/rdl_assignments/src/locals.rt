@@ -24,7 +24,7 @@ use std::alloc::Global;
 // Reads what an item assigns to the node.
 fn read_local<'a>(
     layer: &mut Layer<'a>,
-    item: &Item<'a>,
+    item: &'a Item<'a>,
     kind: Kind,
     body: u32,
     visible: &Chain<'_, '_, '_, 'a>,
@@ -51,7 +51,7 @@ fn count_locals(items: &[Item<'_>]) -> usize {
 /// those that fail none, in text order. The body has the number, and its names and those round it are visible.
 pub fn judge_locals<'a>(
     alloc: Global,
-    items: &[Item<'a>],
+    items: &'a [Item<'a>],
     kind: Kind,
     body: u32,
     visible: &Chain<'_, '_, '_, 'a>,

@@ -25,8 +25,8 @@ use rdl_values::Chain;
 // A path, whose indices have values.
 fn ref_in<'a>(
     form: Form,
-    path: &Path<'a>,
-    item: &Option<Name<'a>>,
+    path: &'a Path<'a>,
+    item: &'a Option<Name<'a>>,
     place: Place,
     body: u32,
     visible: &Chain<'_, '_, '_, 'a>,
@@ -59,7 +59,7 @@ fn constant_in<'a>(
 // An expression.
 fn expr_in<'a>(
     form: Form,
-    expr: &Expr<'a>,
+    expr: &'a Expr<'a>,
     place: Place,
     body: u32,
     visible: &Chain<'_, '_, '_, 'a>,
@@ -76,7 +76,7 @@ fn expr_in<'a>(
 // What is written.
 fn written_in<'a>(
     form: Form,
-    value: &Assigned<'a>,
+    value: &'a Assigned<'a>,
     place: Place,
     body: u32,
     visible: &Chain<'_, '_, '_, 'a>,
@@ -93,7 +93,7 @@ fn written_in<'a>(
 // What is given, which is true where nothing is written.
 fn given_in<'a>(
     form: Form,
-    value: &Option<Assigned<'a>>,
+    value: &'a Option<Assigned<'a>>,
     place: Place,
     body: u32,
     visible: &Chain<'_, '_, '_, 'a>,
@@ -128,7 +128,7 @@ fn trigger_in<'a>(
 /// P8 stand at the assignment. It takes no memory.
 pub fn meaning_of<'a>(
     prop: Prop,
-    set: &Set<'a>,
+    set: &'a Set<'a>,
     body: u32,
     visible: &Chain<'_, '_, '_, 'a>,
 ) -> Result<Setting<'a>, Fault>

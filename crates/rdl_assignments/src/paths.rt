@@ -41,7 +41,7 @@ fn side_of<'a>(path: &Path<'a>, item: &Option<Name<'a>>) -> Option<Setting<'a>>
     ensures stands { (body : ℕ) → IfSome result (StandsIn body) }
 {
     match bare_name(path, item) {
-        Some(name) => side(&name),
+        Some(name) => side(name),
         None => None,
     }
 }
@@ -93,15 +93,15 @@ pub(crate) fn or_bad_value<'a>(
 
 // The enumeration of the name, or P8 at the place where none is visible.
 fn enum_named<'a>(
-    name: Name<'a>,
+    name: &'a Name<'a>,
     place: Place,
     body: u32,
     visible: &Chain<'_, '_, '_, 'a>,
 ) -> Result<Setting<'a>, Fault>
-    ensures outcome { (scope : Scope) → IsShown visible.now (around scope) → outcome_in scope result ≡ meanings.enum_named scope place name.entry }
+    ensures outcome { (scope : Scope) → IsShown visible.now (around scope) → outcome_in scope result ≡ meanings.enum_named scope place name.now }
     ensures stands { IfOk result (StandsIn body) }
 {
-    if is_enum(&name, visible) {
+    if is_enum(name, visible) {
         Ok(Setting::EnumOf { name, scope: body })
     } else {
         Err(Fault {
@@ -113,8 +113,8 @@ fn enum_named<'a>(
 
 // The enumeration that a path names.
 fn enum_of<'a>(
-    path: &Path<'a>,
-    item: &Option<Name<'a>>,
+    path: &'a Path<'a>,
+    item: &'a Option<Name<'a>>,
     place: Place,
     body: u32,
     visible: &Chain<'_, '_, '_, 'a>,
@@ -141,8 +141,8 @@ fn takes_reference(form: Form) -> bool
 // A reference, or P6 at the place where none is taken.
 fn reference<'a>(
     form: Form,
-    path: &Path<'a>,
-    item: &Option<Name<'a>>,
+    path: &'a Path<'a>,
+    item: &'a Option<Name<'a>>,
     place: Place,
     body: u32,
 ) -> Result<Setting<'a>, Fault>
@@ -151,8 +151,8 @@ fn reference<'a>(
 {
     if takes_reference(form) {
         Ok(Setting::Ref {
-            path: *path,
-            item: *item,
+            path,
+            item,
             scope: body,
             place,
         })
@@ -164,8 +164,8 @@ fn reference<'a>(
 // The value of the parameter that a path names, else a reference.
 fn parameter_or_reference<'a>(
     form: Form,
-    path: &Path<'a>,
-    item: &Option<Name<'a>>,
+    path: &'a Path<'a>,
+    item: &'a Option<Name<'a>>,
     place: Place,
     body: u32,
     visible: &Chain<'_, '_, '_, 'a>,
@@ -184,8 +184,8 @@ fn parameter_or_reference<'a>(
 /// and else P6 where the form doesn't take it. Both stand at the assignment's place.
 pub(crate) fn path_in<'a>(
     form: Form,
-    path: &Path<'a>,
-    item: &Option<Name<'a>>,
+    path: &'a Path<'a>,
+    item: &'a Option<Name<'a>>,
     place: Place,
     body: u32,
     visible: &Chain<'_, '_, '_, 'a>,

@@ -51,7 +51,7 @@ fn kept<'a>(clean: bool, setting: Option<Setting<'a>>) -> Option<Setting<'a>>
 // Puts in the failures of an assignment of this property, and answers what it gives where there are none.
 fn judge_known<'a>(
     prop: Prop,
-    set: &Set<'a>,
+    set: &'a Set<'a>,
     allowed: Allowed,
     body: u32,
     visible: &Chain<'_, '_, '_, 'a>,
@@ -83,7 +83,7 @@ fn given_by<'a>(prop: Prop, setting: Option<Setting<'a>>) -> Option<ValidAssignm
 /// Puts in the failures of an assignment behind those of its layer, and answers what it gives where there are none: V rules in its
 /// value, P1 to P6 and P8. Its property is taken from then on, whatever it fails.
 pub(crate) fn judge_set<'a>(
-    set: &Set<'a>,
+    set: &'a Set<'a>,
     allowed: Allowed,
     body: u32,
     visible: &Chain<'_, '_, '_, 'a>,

@@ -9,13 +9,17 @@ use crate::tables::{named, tables_of};
 use rdl_failures::{PhaseError, listed};
 use rdl_layers::Props;
 use rdl_nodes::rows;
-use rdl_refs::Refs;
+use rdl_refs::{Dependencies, Refs};
 use rdl_tree::Elab;
 use std::alloc::Global;
 
-/// What the references of a tree whose settings these are lead to (SystemRDL 2.0, 5.1.4), or all failures of rules R1 and R2.
-/// `NoMemory` comes for want of memory alone.
-pub fn bind<'a>(alloc: Global, elab: &Elab<'a>, props: &Props<'a>) -> Result<Refs<'a>, PhaseError>
+/// What the references of a tree whose settings these are lead to (SystemRDL 2.0, 5.1.4), and what its items refer to by them, or all
+/// failures of rules R1 and R2. `NoMemory` comes for want of memory alone.
+pub fn bind<'a>(
+    alloc: Global,
+    elab: &Elab<'a>,
+    props: &Props<'a>,
+) -> Result<(Refs<'a>, Dependencies<'a>), PhaseError>
     requires clean { IsClean elab.now }
     requires settled { IsSettled elab.now }
     requires tree { props.now ≡ elab.now }
@@ -37,11 +41,7 @@ pub fn bind<'a>(alloc: Global, elab: &Elab<'a>, props: &Props<'a>) -> Result<Ref
         return Err(PhaseError::NoMemory);
     };
     let numbers = made.numbers;
-    Ok(Refs::of_tables(
-        *elab,
-        numbers.items,
-        made.edges,
-        numbers.places,
-        made.targets,
-    ))
+    let refs = Refs::of_tables(*elab, numbers.items, made.targets);
+    let dependencies = Dependencies::of_tables(*elab, made.edges, numbers.places);
+    Ok((refs, dependencies))
 }

@@ -5,6 +5,7 @@ mod items;
 mod reference;
 mod register;
 mod register_list;
+mod room;
 mod signal_list;
 mod view_list;
 

@@ -13,9 +13,10 @@ ghost use Rattle.rdl_rules.specs.Fields as fields;
 ghost use Rattle.rdl_block_fields.specs.Known.{IsNumberedTree};
 ghost use Rattle.rdl_block_lists.specs.Standing.{IsRowOf};
 
-use rb_base::{NoMemory, Text, copy_of};
+use rb_base::{NoMemory, Text};
 use rb_model::View;
 use rdl_block_fields::{NumberedTree, view};
+use rdl_block_numbers::PathTexts;
 use rdl_fields::primary;
 use rdl_nodes::Row;
 use rdl_tree::Node;
@@ -26,7 +27,7 @@ fn add_view(
     alloc: Global,
     known: NumberedTree<'_, '_>,
     viewed: &[u32],
-    texts: &[Text],
+    texts: &PathTexts,
     node: &Node<'_>,
     is_alias: bool,
     list: &mut Vec<View>,
@@ -42,7 +43,8 @@ fn add_view(
         return Ok(());
     }
     let at = node.id as usize;
-    let path = copy_of(alloc, &texts[at])?;
+    let bytes = Vec::from_slice(alloc, texts.text(at))?;
+    let path = Text { bytes };
     list.push(view(known, node.id, path, viewed[at], is_alias))?;
     Ok(())
 }
@@ -52,7 +54,7 @@ pub(crate) fn add_views(
     alloc: Global,
     known: NumberedTree<'_, '_>,
     viewed: &[u32],
-    texts: &[Text],
+    texts: &PathTexts,
     row: &Row<'_>,
     list: &mut Vec<View>,
 ) -> Result<(), NoMemory>

@@ -13,8 +13,10 @@ ghost use Rattle.rdl_rules.specs.Numbers.{registers};
 ghost use Rattle.rdl_block_numbers.specs.Texts.{AreTexts};
 ghost use Rattle.rdl_block_lists.specs.Halting.{DoHalt};
 
-use rb_base::{NoMemory, Text, copy_of};
+use crate::room::count_of;
+use rb_base::{NoMemory, Text};
 use rb_model::{Reg, Regs};
+use rdl_block_numbers::PathTexts;
 use rdl_fields::primary;
 use rdl_nodes::Row;
 use rdl_ref_items::InterruptOutputs;
@@ -27,7 +29,7 @@ fn add_register(
     kind: Kind,
     is_alias: bool,
     mark: InterruptOutputs,
-    text: &Text,
+    text: &[u8],
     list: &mut Vec<Reg>,
 ) -> Result<(), NoMemory>
     ensures { OnOk result (list.new.items ≡ list.old.items ++ cond (same_kind kinds.Reg kind) (record { path = text.now; alias = is_alias; intr = not is_alias && mark.interrupts; halt = not is_alias && mark.halts } ∷ []) []) }
@@ -35,11 +37,11 @@ fn add_register(
     if !kind.is_register() {
         return Ok(());
     }
-    let path = copy_of(alloc, text)?;
+    let bytes = Vec::from_slice(alloc, text)?;
     let intr = !is_alias & mark.interrupts;
     let halt = !is_alias & mark.halts;
     list.push(Reg {
-        path,
+        path: Text { bytes },
         alias: is_alias,
         intr,
         halt,
@@ -53,7 +55,7 @@ pub fn regs(
     elab: &Elab<'_>,
     rows: &[Row<'_>],
     marks: &[InterruptOutputs],
-    texts: &[Text],
+    texts: &PathTexts,
 ) -> Result<Regs, NoMemory>
     requires clean { IsClean elab.now }
     requires rows { AreRows elab.now rows.now }
@@ -62,11 +64,11 @@ pub fn regs(
     requires halts { DoHalt elab.now }
     ensures { IfOk result (λ list. list ≡ map blocks.reg_of (registers (nodes_of elab.now))) }
 {
-    let mut items = Vec::new(alloc);
+    let mut items = Vec::with_capacity(alloc, count_of(rows, Kind::Reg))?;
     for at in 0..rows.len() {
         let row = &rows[at];
         let is_alias = primary(row).is_some();
-        let text = &texts[at];
+        let text = texts.text(at);
         add_register(alloc, row.node.kind, is_alias, marks[at], text, &mut items)?;
     }
     Ok(Regs { items })

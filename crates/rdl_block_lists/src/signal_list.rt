@@ -12,8 +12,9 @@ ghost use Rattle.rdl_rules.specs.Block as blocks;
 ghost use Rattle.rdl_rules.specs.Numbers.{all_signals};
 ghost use Rattle.rdl_block_numbers.specs.Texts.{AreTexts};
 
-use rb_base::{NoMemory, Text, copy_of};
+use rb_base::{NoMemory, Text};
 use rb_model::{Signal, Signals};
+use rdl_block_numbers::PathTexts;
 use rdl_nodes::Row;
 use rdl_rules::Fact;
 use rdl_tree::Elab;
@@ -32,7 +33,7 @@ fn add_signal(
     alloc: Global,
     row: &Row<'_>,
     width: u8,
-    text: &Text,
+    text: &[u8],
     list: &mut Vec<Signal>,
 ) -> Result<(), NoMemory>
     ensures { OnOk result (list.new.items ≡ list.old.items ++ cond (same_kind kinds.Signal (out-Node row.now.node.now).kind) (record { path = text.now; width = width; root = is_none row.now.parent } ∷ []) []) }
@@ -40,7 +41,8 @@ fn add_signal(
     if !row.node.kind.is_signal() {
         return Ok(());
     }
-    let path = copy_of(alloc, text)?;
+    let bytes = Vec::from_slice(alloc, text)?;
+    let path = Text { bytes };
     let root = row.parent.is_none();
     list.push(Signal { path, width, root })?;
     Ok(())
@@ -52,7 +54,7 @@ pub fn signals(
     elab: &Elab<'_>,
     rows: &[Row<'_>],
     facts: &[Fact],
-    texts: &[Text],
+    texts: &PathTexts,
 ) -> Result<Signals, NoMemory>
     requires clean { IsClean elab.now }
     requires rows { AreRows elab.now rows.now }
@@ -65,7 +67,7 @@ pub fn signals(
         let row = &rows[at];
         let fact = &facts[at];
         let width = narrow(fact.width);
-        let text = &texts[at];
+        let text = texts.text(at);
         add_signal(alloc, row, width, text, &mut items)?;
     }
     Ok(Signals { items })

@@ -12,10 +12,13 @@ ghost use Rattle.rdl_block_fields.specs.Known.{IsNumberedTree};
 ghost use Rattle.rdl_block_lists.specs.Standing.{IsRowOf};
 
 use crate::register::add_views;
-use rb_base::{NoMemory, Text};
+use crate::room::count_of;
+use rb_base::NoMemory;
 use rb_model::View;
 use rdl_block_fields::NumberedTree;
+use rdl_block_numbers::PathTexts;
 use rdl_nodes::Row;
+use rdl_tree::Kind;
 use std::alloc::Global;
 
 /// Adds the fields of a node, where it is a register. The only error is want of memory.
@@ -23,7 +26,7 @@ fn add_register(
     alloc: Global,
     known: NumberedTree<'_, '_>,
     viewed: &[u32],
-    texts: &[Text],
+    texts: &PathTexts,
     row: &Row<'_>,
     list: &mut Vec<View>,
 ) -> Result<(), NoMemory>
@@ -46,14 +49,14 @@ pub fn views(
     alloc: Global,
     known: NumberedTree<'_, '_>,
     viewed: &[u32],
-    texts: &[Text],
+    texts: &PathTexts,
 ) -> Result<Vec<View>, NoMemory>
     requires known { IsNumberedTree known }
     requires viewed { AreViewed known.props.now viewed.now }
     requires texts { AreTexts known.props.now texts.now }
     ensures { IfOk result (λ vs. vs.items ≡ blocks.views (lineages_of known.entry.props.now)) }
 {
-    let mut list = Vec::new(alloc);
+    let mut list = Vec::with_capacity(alloc, count_of(known.rows, Kind::Field))?;
     for at in 0..known.rows.len() {
         let row = &known.rows[at];
         add_register(alloc, known, viewed, texts, row, &mut list)?;

@@ -1,3 +1,4 @@
+mod Cuts
 pub mod InOrder
 mod Joining
 mod Keyed

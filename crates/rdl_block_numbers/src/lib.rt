@@ -10,8 +10,10 @@ mod numbers;
 mod ranks;
 mod step;
 mod table;
+mod texts;
 
 pub use item::ref_item;
 pub use laws::fields_in_order;
 pub use numbers::{NodeNumbers, node_numbers};
 pub use table::path_texts;
+pub use texts::PathTexts;

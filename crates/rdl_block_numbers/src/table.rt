@@ -10,6 +10,7 @@ ghost use Rattle.rdl_nodes.specs.Rows.{AreRows, IsRow};
 ghost use Rattle.rdl_block_numbers.specs.Texts.{AreTexts, AreTextsTo, front_in};
 
 use crate::step::text_below;
+use crate::texts::PathTexts;
 use rb_base::{NoMemory, Text};
 use rdl_nodes::Row;
 use rdl_tree::Elab;
@@ -23,7 +24,7 @@ fn row_of<'a>(rows: &[Row<'a>], node: u32) -> Option<Row<'a>>
 }
 
 /// The text that the steps of nodes in the one of this number stand behind: none under the top.
-fn front_of<'t>(rows: &[Row<'_>], texts: &'t [Text], node: u32) -> Option<&'t [u8]>
+fn front_of<'t>(rows: &[Row<'_>], texts: &'t PathTexts, node: u32) -> Option<&'t [u8]>
     ensures { option_copied result ≡ front_in rows.now texts.now node }
 {
     let Some(row) = row_of(rows, node) else {
@@ -32,10 +33,7 @@ fn front_of<'t>(rows: &[Row<'_>], texts: &'t [Text], node: u32) -> Option<&'t [u
     if row.parent.is_none() {
         return None;
     }
-    match texts.get(node as usize) {
-        Some(text) => Some(&text.bytes),
-        None => None,
-    }
+    texts.get(node as usize)
 }
 
 /// The text of a node that stands in no other: of a signal its own step, and none of the top.
@@ -52,7 +50,12 @@ fn text_alone(alloc: Global, row: &Row<'_>) -> Result<Text, NoMemory>
 }
 
 /// The text of a node, behind that of the one that it stands in.
-fn text_of(alloc: Global, rows: &[Row<'_>], texts: &[Text], row: &Row<'_>) -> Result<Text, NoMemory>
+fn text_of(
+    alloc: Global,
+    rows: &[Row<'_>],
+    texts: &PathTexts,
+    row: &Row<'_>,
+) -> Result<Text, NoMemory>
     ensures { IfOk result (λ t. (e : AnyElab) (k : ℕ) (l : Lineage) → AreRows e rows.now → slice_get (lineages_of e) k ≡ Some l → IsRow e (lineages_of e) k row.now l → AreTextsTo e k texts.now → t ≡ path_text l.node.path) }
 {
     let Some(parent) = row.parent else {
@@ -66,16 +69,16 @@ fn text_of(alloc: Global, rows: &[Row<'_>], texts: &[Text], row: &Row<'_>) -> Re
 }
 
 /// The path text of each node of a tree, of which these are the rows. The only error is want of memory.
-pub fn path_texts(alloc: Global, elab: &Elab<'_>, rows: &[Row<'_>]) -> Result<Vec<Text>, NoMemory>
+pub fn path_texts(alloc: Global, elab: &Elab<'_>, rows: &[Row<'_>]) -> Result<PathTexts, NoMemory>
     requires clean { IsClean elab.now }
     requires rows { AreRows elab.now rows.now }
-    ensures { IfOk result (λ ts. AreTexts elab.now ts.items) }
+    ensures { IfOk result (AreTexts elab.now) }
 {
-    let mut texts = Vec::new(alloc);
+    let mut texts = PathTexts::new(alloc);
     for at in 0..rows.len() {
         let row = &rows[at];
         let text = text_of(alloc, rows, &texts, row)?;
-        texts.push(text)?;
+        texts.add(&text.bytes)?;
     }
     Ok(texts)
 }

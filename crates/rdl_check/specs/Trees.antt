@@ -34,7 +34,7 @@ pub record IsClear (e : Elab) : Type 0 where
 
 -- The path texts, the numbers and the marks of its nodes.
 pub record AreTables (e : Elab) (t : TreeTables) : Type 0 where
-  pub texts_ : AreTexts e t.texts.items
+  pub texts_ : AreTexts e t.texts
   pub numbers_ : AreNodeNumbers e t.numbers
   pub marks_ : AreInterruptOutputs e t.marks.items
 

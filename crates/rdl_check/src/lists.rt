@@ -7,16 +7,16 @@ ghost use Rattle.rdl_ref_items.specs.InterruptOutputs.{AreInterruptOutputs};
 ghost use Rattle.rdl_block_fields.specs.Known.{IsNumberedTree};
 ghost use Rattle.rdl_check.specs.Trees.{AreInTurn, AreLists, AreTables, IsClear};
 
-use rb_base::{NoMemory, Text};
+use rb_base::NoMemory;
 use rb_model::{Fields, Order, Regs, Signals, Views};
 use rdl_block_fields::NumberedTree;
 use rdl_block_lists::{Listed, block_order, regs, signals, views};
-use rdl_block_numbers::{NodeNumbers, node_numbers, path_texts};
+use rdl_block_numbers::{NodeNumbers, PathTexts, node_numbers, path_texts};
 use rdl_field_list::fields;
 use rdl_layers::Props;
 use rdl_nodes::Row;
 use rdl_ref_items::{InterruptOutputs, marks};
-use rdl_refs::order;
+use rdl_refs::{Dependencies, order};
 use rdl_rules::Fact;
 use rdl_sound_laws::clean_is_faultless;
 use rdl_tree::Elab;
@@ -25,7 +25,7 @@ use std::alloc::Global;
 /// The path texts of nodes, their numbers in the lists of their kinds, and what registers have for others to refer to.
 #[derive(Drop)]
 pub(crate) struct TreeTables {
-    pub texts: Vec<Text>,
+    pub texts: PathTexts,
     pub numbers: NodeNumbers,
     pub marks: Vec<InterruptOutputs>,
 }
@@ -93,16 +93,19 @@ pub(crate) fn lists_of<'a>(
 pub(crate) fn order_of(
     alloc: Global,
     known: NumberedTree<'_, '_>,
+    dependencies: Dependencies<'_>,
     marks: &[InterruptOutputs],
 ) -> Result<Order, NoMemory>
     requires known { IsNumberedTree known }
+    requires dependencies { dependencies ≡ known.props.now }
     requires marks { AreInterruptOutputs known.props.now marks.now }
     ensures { IfOk result (AreInTurn known.entry.props.now) }
 {
     // No circle is left where no rule fails.
-    let Ok(numbers) = order(alloc, known.refs) else {
+    let Ok(numbers) = order(alloc, &dependencies) else {
         return Err(NoMemory);
     };
+    drop(dependencies);
     let listed = Listed {
         props: known.props,
         refs: known.refs,

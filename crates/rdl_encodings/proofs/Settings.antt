@@ -1,5 +1,6 @@
 -- Enumerations that settings name.
 use Rattle.std.proofs.Common.{◌≡◌, ◌∙◌, ℕ, zero, suc, ◌+◌, ◌<◌, ◌≤◌, ◌⊎◌, inl, inr, false, List, [], ◌∷◌, length, Option, None, Some, Vec, slice_get, refl, sym, ap, arith}
+use Rattle.std.specs.Borrow.{Bor}
 use Rattle.std.specs.Global.{Global}
 use Rattle.rdl_props.specs.declared.prop.Prop.TheVariants as prop
 use Rattle.rdl_tree.specs.declared.expr.Name.{Name}
@@ -33,16 +34,16 @@ pub record IsNamed (all : List Instance) (name : Name) (k : ℕ) (m : Meaning) :
   pub is : m ≡ enum_of name scope
   pub number : IsScopeNumber all scope k
 
-pub enum_said : (all : List Instance) (name : Name) (k : ℕ) (m : Meaning) → Says all (set.EnumOf name k) m → IsNamed all name k m
+pub enum_said : (all : List Instance) (name : Bor Name) (k : ℕ) (m : Meaning) → Says all (set.EnumOf name k) m → IsNamed all name.now k m
 enum_said all name k (enum_of n scope) h = record { scope = scope; is = ap (λ x. enum_of x scope) (sym h.0); number = h.1 }
 enum_said all name k m h = absurd h
 
-none-said : (all : List Instance) (s : Setting) (m : Meaning) → ((name : Name) (k : ℕ) → s ≡ set.EnumOf name k → ⊥) → Says all s m → named-by m ≡ None
+none-said : (all : List Instance) (s : Setting) (m : Meaning) → ((name : Bor Name) (k : ℕ) → s ≡ set.EnumOf name k → ⊥) → Says all s m → named-by m ≡ None
 none-said all (set.EnumOf name k) m other h = absurd (other name k refl)
 none-said all s (enum_of name scope) other h = absurd h
 none-said all s m other h = refl
 
-pub no_enum : (all : List Instance) (n : Instance) (s : Setting) → ((name : Name) (k : ℕ) → s ≡ set.EnumOf name k → ⊥) → Says all s (setting n prop.Encode) → encoded_by n ≡ None
+pub no_enum : (all : List Instance) (n : Instance) (s : Setting) → ((name : Bor Name) (k : ℕ) → s ≡ set.EnumOf name k → ⊥) → Says all s (setting n prop.Encode) → encoded_by n ≡ None
 no_enum all n s other h = sym (by-setting n) ∙ none-said all s (setting n prop.Encode) other h
 
 -- The entries of the node of a number.

@@ -105,7 +105,7 @@ pub(crate) fn enum_of<'a>(
 {
     entries_say();
     match setting_of(entries, Prop::Encode) {
-        Setting::EnumOf { name, scope } => meant_from(tree, enums, &name, scope),
+        Setting::EnumOf { name, scope } => meant_from(tree, enums, name, scope),
         _ => None,
     }
 }

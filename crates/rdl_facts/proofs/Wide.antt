@@ -1,5 +1,6 @@
 -- Entries that a field can't hold.
 use Rattle.std.proofs.Common.{◌≡◌, ◌∙◌, ℕ, ◌^◌, Bool, true, false, ◌||◌, List, flat_map, nat_le, Option, None, Some, option_to_list, refl, sym, ap, append-nil}
+use Rattle.std.specs.Borrow.{Bor}
 use Rattle.std.specs.List.{list_any}
 use Rattle.rdl_props.specs.declared.prop.Prop.TheVariants as prop
 use Rattle.rdl_tree.specs.declared.expr.Name.{Name}
@@ -43,14 +44,14 @@ pub record IsNamed (all : List Instance) (name : Name) (k : ℕ) (m : Meaning) :
   pub is : m ≡ enum_of name scope
   pub number : IsScopeNumber all scope k
 
-pub enum_said : (all : List Instance) (name : Name) (k : ℕ) (m : Meaning) → Says all (set.EnumOf name k) m → IsNamed all name k m
+pub enum_said : (all : List Instance) (name : Bor Name) (k : ℕ) (m : Meaning) → Says all (set.EnumOf name k) m → IsNamed all name.now k m
 enum_said all name k (enum_of n scope) h = record { scope = scope; is = ap (λ x. enum_of x scope) (sym h.0); number = h.1 }
 enum_said all name k m h = absurd h
 
-none-said : (all : List Instance) (n : Instance) (s : Setting) (m : Meaning) → ((name : Name) (k : ℕ) → s ≡ set.EnumOf name k → ⊥) → Says all s m → false ≡ wide-in n m
+none-said : (all : List Instance) (n : Instance) (s : Setting) (m : Meaning) → ((name : Bor Name) (k : ℕ) → s ≡ set.EnumOf name k → ⊥) → Says all s m → false ≡ wide-in n m
 none-said all n (set.EnumOf name k) m other h = absurd (other name k refl)
 none-said all n s (enum_of name scope) other h = absurd h
 none-said all n s m other h = refl
 
-pub no_enum : (all : List Instance) (n : Instance) (s : Setting) → ((name : Name) (k : ℕ) → s ≡ set.EnumOf name k → ⊥) → Says all s (setting n prop.Encode) → false ≡ encode_too_wide n
+pub no_enum : (all : List Instance) (n : Instance) (s : Setting) → ((name : Bor Name) (k : ℕ) → s ≡ set.EnumOf name k → ⊥) → Says all s (setting n prop.Encode) → false ≡ encode_too_wide n
 no_enum all n s other h = none-said all n s (setting n prop.Encode) other h ∙ by-setting n

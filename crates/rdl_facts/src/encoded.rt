@@ -84,7 +84,7 @@ pub(crate) fn has_wide_entry<'a>(
     entries_say();
     match setting_of(entries, Prop::Encode) {
         Setting::EnumOf { name, scope } => match body_round(tree, scope) {
-            Some(body) => is_wide(enums.greatest(body.numbers, &name), width),
+            Some(body) => is_wide(enums.greatest(body.numbers, name), width),
             None => false,
         },
         _ => false,

@@ -15,7 +15,7 @@ ghost use Rattle.rdl_field_list.specs.Own.{IsOwn};
 ghost use Rattle.rdl_field_list.specs.Tables.{AreTables};
 
 use crate::tables::FieldTables;
-use rb_base::{NoMemory, copy_of};
+use rb_base::{NoMemory, Text};
 use rb_model::{Field, Shows};
 use rdl_block_fields::{FieldFacts, NumberedTree, field};
 use rdl_field_kinds::shown;
@@ -49,7 +49,7 @@ fn facts_of(
     ensures facts { IfOk result (λ x. (r : Numbered Lineage) (f : Instance) → IsOwn known.entry.props.now register node r.register f → is_a kinds.Field f ≡ true → number ≡ r.number → AreFieldFacts known.entry.props.now r f x) }
 {
     let at = node as usize;
-    let path = copy_of(alloc, &tables.texts[at])?;
+    let bytes = Vec::from_slice(alloc, tables.texts.text(at))?;
     let shown = shown(alloc, known.props, node)?;
     let fact = &tables.facts[at];
     let width = narrow(fact.width);
@@ -62,7 +62,7 @@ fn facts_of(
         register,
     );
     Ok(FieldFacts {
-        path,
+        path: Text { bytes },
         register: number,
         width,
         reset_by,

@@ -25,9 +25,10 @@ ghost use Rattle.rdl_field_list.specs.Tables.{AreTables};
 use crate::laws::faultless_is_narrow;
 use crate::register::add_fields;
 use crate::tables::{FieldTables, once_fields, touched_fields};
-use rb_base::{NoMemory, Text};
+use rb_base::NoMemory;
 use rb_model::Field;
 use rdl_block_fields::NumberedTree;
+use rdl_block_numbers::PathTexts;
 use rdl_fields::primary;
 use rdl_nodes::Row;
 use rdl_reset_rules::nearest_resets;
@@ -122,7 +123,7 @@ pub fn fields<'a>(
     elab: &Elab<'a>,
     known: NumberedTree<'_, 'a>,
     facts: &[Fact],
-    texts: &[Text],
+    texts: &PathTexts,
 ) -> Result<Vec<Field>, NoMemory>
     requires elab { known.props.now ≡ elab.now }
     requires known { IsNumberedTree known }

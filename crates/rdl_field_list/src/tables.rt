@@ -7,8 +7,9 @@ ghost use Rattle.rdl_members.specs.Covered.{AreOverViews};
 ghost use Rattle.rdl_block_fields.specs.Known.{IsNumberedTree};
 ghost use Rattle.rdl_field_list.specs.Tables.{AreOnceTo};
 
-use rb_base::{NoMemory, Text};
+use rb_base::NoMemory;
 use rdl_block_fields::NumberedTree;
+use rdl_block_numbers::PathTexts;
 use rdl_fields::{is_once, own_touches};
 use rdl_layers::Props;
 use rdl_members::any_view;
@@ -21,7 +22,7 @@ use std::alloc::Global;
 #[derive(Clone, Copy)]
 pub(crate) struct FieldTables<'t> {
     pub facts: &'t [Fact],
-    pub texts: &'t [Text],
+    pub texts: &'t PathTexts,
     pub nearest: &'t [Option<u32>],
     pub touched: &'t [bool],
     pub once: &'t [bool],

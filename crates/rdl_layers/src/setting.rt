@@ -23,15 +23,15 @@ pub enum Setting<'a> {
     Hard(bool),
     /// The enum of this name that is visible there.
     EnumOf {
-        name: Name<'a>,
+        name: &'a Name<'a>,
         /// The number of the node in whose body the assignment's text stands; the count of nodes where it stands at the
         /// root.
         scope: u32,
     },
     /// A reference: to a node, or to an item of it.
     Ref {
-        path: Path<'a>,
-        item: Option<Name<'a>>,
+        path: &'a Path<'a>,
+        item: &'a Option<Name<'a>>,
         /// As that of an enum.
         scope: u32,
         /// The place of the assignment.

@@ -26,7 +26,7 @@ use rdl_field_rules::registers_agree;
 use rdl_layers::Props;
 use rdl_nodes::{Row, rows};
 use rdl_ref_items::{InterruptOutputs, marks};
-use rdl_refs::{Refs, circling};
+use rdl_refs::{Dependencies, Refs, circling};
 use rdl_rules::Fact;
 use rdl_sound_laws::references_stand_on_fields;
 use rdl_tree::Elab;
@@ -101,6 +101,7 @@ pub fn meaning_failures(
     props: &Props<'_>,
     map: &Map<'_>,
     refs: &Refs<'_>,
+    dependencies: &Dependencies<'_>,
     facts: &[Fact],
     elab: &Elab<'_>,
 ) -> Result<Vec<Fault>, NoMemory>
@@ -110,6 +111,7 @@ pub fn meaning_failures(
     requires props { props.now ≡ elab.now }
     requires map { map.now ≡ elab.now }
     requires refs { refs.now ≡ elab.now }
+    requires dependencies { dependencies.now ≡ elab.now }
     requires facts { AreFacts elab.now facts.now }
     ensures { IfOk result (λ list. IsListOf (meaning_fails elab.now) list.items) }
 {
@@ -118,7 +120,7 @@ pub fn meaning_failures(
     collected_once();
     let rows = rows(alloc, elab)?;
     let marks = marks(alloc, props, &rows)?;
-    let circles = circling(alloc, refs)?;
+    let circles = circling(alloc, dependencies)?;
     let mut failures = Failures::new(alloc);
     judge_nodes(alloc, props, map, &rows, facts, elab, &mut failures)?;
     judge_settings(props, refs, &rows, facts, &marks, &mut failures)?;

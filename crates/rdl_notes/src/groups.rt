@@ -16,19 +16,19 @@ ghost use Rattle.rdl_notes.specs.Seen.{IsSeenOf};
 use crate::note::note_at;
 use crate::seen::{Seen, add_group};
 use block_effects::Group;
-use rb_base::{NoMemory, Text};
-use rdl_block_numbers::path_texts;
+use rb_base::NoMemory;
+use rdl_block_numbers::{PathTexts, path_texts};
 use rdl_layers::Props;
 use rdl_nodes::Row;
 use rdl_tree::{Elab, Node};
 use std::alloc::Global;
 
 /// The path of the node of this number.
-fn path_at(texts: &[Text], node: u32) -> &[u8]
+fn path_at(texts: &PathTexts, node: u32) -> &[u8]
     ensures { (path : List ℕ) → slice_get texts.now node ≡ Some path → result.now ≡ path }
 {
     match texts.get(node as usize) {
-        Some(text) => &text.bytes,
+        Some(text) => text,
         None => b"",
     }
 }
@@ -60,7 +60,7 @@ fn add_node<'a>(
     alloc: Global,
     props: &Props<'a>,
     node: &Node<'a>,
-    texts: &[Text],
+    texts: &PathTexts,
     seen: &mut Seen<'a>,
     list: &mut Vec<Group<'a>>,
 ) -> Result<(), NoMemory>
@@ -84,7 +84,7 @@ fn groups_with<'a>(
     alloc: Global,
     props: &Props<'a>,
     rows: &[Row<'a>],
-    texts: &[Text],
+    texts: &PathTexts,
 ) -> Result<Vec<Group<'a>>, NoMemory>
     requires clean { IsClean props.now }
     requires rows { AreRows props.now rows.now }

@@ -31,7 +31,7 @@ pub struct Layers<'a> {
 // The assignments of a body to its nodes, of which the root has none.
 fn locals_of<'a>(
     alloc: Global,
-    items: &[Item<'a>],
+    items: &'a [Item<'a>],
     kind: Option<Kind>,
     visible: &Chain<'_, '_, '_, 'a>,
     failures: &mut Failures,

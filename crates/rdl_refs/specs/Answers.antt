@@ -26,10 +26,10 @@ references_fail e = fails_r (Some (top_name e)) e.source.now
 abbrev pub IsBound : Elab → Type 0
 IsBound e = IsListOf (references_fail e) []
 
--- `bind`: the references of the tree where each leads to an item, else the list of all failures. Want of memory may be answered
--- anywhere. References are seen as the tree that they are of.
-abbrev pub AnswersR : Elab → Result Elab PhaseError → Type 0
-AnswersR e (Ok of) = IsBound e × (of ≡ e)
+-- `bind`: the references of the tree and the dependencies of its items where each reference leads to an item, else the list of all
+-- failures. Want of memory may be answered anywhere. Both are seen as the tree that they are of.
+abbrev pub AnswersR : Elab → Result (Elab × Elab) PhaseError → Type 0
+AnswersR e (Ok of) = IsBound e × (of.0 ≡ e) × (of.1 ≡ e)
 AnswersR e (Err (error.Faults list)) = IsRefusal (references_fail e) list.items
 AnswersR e (Err error.NoMemory) = Unit {0}
 

@@ -1,4 +1,5 @@
 pub mod Answers
+pub mod Dependencies
 pub mod Follows
 pub mod Graph
 pub mod Items

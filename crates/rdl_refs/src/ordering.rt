@@ -5,8 +5,8 @@ ghost use Rattle.rdl_refs.specs.Answers.{AreCircling, Orders};
 ghost use Rattle.rdl_refs.specs.Walk.{AreUnordered};
 
 use crate::circle::OrderError;
+use crate::dependencies::Dependencies;
 use crate::graph::{circle_from, unranked};
-use crate::refs::Refs;
 use rb_base::{NoMemory, Place};
 use rdl_base::{Fault, Rule};
 use rdl_failures::listed;
@@ -33,15 +33,15 @@ fn unordered(alloc: Global, ranks: &[Rank], places: &[Place]) -> Result<Vec<Faul
 /// The numbers of all items, each behind those that it refers to. `Loop` comes exactly where references can be followed for
 /// ever, with a circle of items; `NoMemory` for want of memory alone. Takes time in proportion to the number of references
 /// between items.
-pub fn order(alloc: Global, refs: &Refs<'_>) -> Result<Vec<u32>, OrderError>
-    ensures { MatchResult result (λ order. Orders refs.now (Ok order.items)) (λ error. Orders refs.now (Err error)) }
+pub fn order(alloc: Global, dependencies: &Dependencies<'_>) -> Result<Vec<u32>, OrderError>
+    ensures { MatchResult result (λ order. Orders dependencies.now (Ok order.items)) (λ error. Orders dependencies.now (Err error)) }
 {
-    let levels = levelize(alloc, refs.edges())?;
+    let levels = levelize(alloc, dependencies.edges())?;
     match unranked(&levels.ranks) {
         None => Ok(levels.order),
         Some(start) => Err(OrderError::Loop(circle_from(
             alloc,
-            refs.edges(),
+            dependencies.edges(),
             &levels,
             start as u32,
         )?)),
@@ -50,9 +50,9 @@ pub fn order(alloc: Global, refs: &Refs<'_>) -> Result<Vec<u32>, OrderError>
 
 /// The failures of rule R7, by place: it stands at the instance of each field and register from an item of which references
 /// can be followed for ever. `NoMemory` comes for want of memory alone.
-pub fn circling(alloc: Global, refs: &Refs<'_>) -> Result<Vec<Fault>, NoMemory>
-    ensures { IfOk result (λ list. AreCircling refs.now list.items) }
+pub fn circling(alloc: Global, dependencies: &Dependencies<'_>) -> Result<Vec<Fault>, NoMemory>
+    ensures { IfOk result (λ list. AreCircling dependencies.now list.items) }
 {
-    let levels = levelize(alloc, refs.edges())?;
-    listed(unordered(alloc, &levels.ranks, refs.places())?)
+    let levels = levelize(alloc, dependencies.edges())?;
+    listed(unordered(alloc, &levels.ranks, dependencies.places())?)
 }

@@ -1,21 +1,14 @@
 //! The references of a tree.
 
-ghost use Rattle.std.specs.Prelude.{◌<◌, ◌≡◌, ◌^◌, ℕ, length, map};
+ghost use Rattle.std.specs.Prelude.{◌<◌, ◌≡◌, ℕ, length};
 ghost use Rattle.rdl_props.specs.declared.prop.Prop.{Prop as AnyProp};
-ghost use Rattle.topological_order.specs.Levels.{AreWithin};
-ghost use Rattle.rdl_values.specs.Lineages.{lineages_of};
 ghost use Rattle.rdl_refs.specs.Answers.{AreItems, TargetAt};
-ghost use Rattle.rdl_refs.specs.Follows.{edges_of};
-ghost use Rattle.rdl_refs.specs.Items.{items};
-ghost use Rattle.rdl_refs.specs.Items.{items as items_of};
 ghost use Rattle.rdl_refs.specs.Tables.{item_at, list_at};
 
 use crate::item::ItemOf;
-use rb_base::Place;
 use rdl_props::Prop;
 use rdl_tree::Elab;
 use std::marker::Model;
-use topological_order::Lists;
 
 /// The item that a property's setting names.
 #[derive(Clone, Copy)]
@@ -30,10 +23,6 @@ pub struct Refs<'a> {
     elab: Elab<'a>,
     /// All items, in the order of their numbers.
     items: Vec<ItemOf>,
-    /// For each item the numbers of those that it refers to.
-    edges: Lists,
-    /// For each item the place of its node.
-    places: Vec<Place>,
     /// For each node the items that its settings name.
     targets: Vec<Vec<Target>>,
 }
@@ -71,20 +60,9 @@ fn item_of(targets: &[Target], prop: Prop) -> Option<u32>
 }
 
 impl<'a> Refs<'a> {
-    /// The references of a tree from its tables: all items, for each one the numbers of those that it refers to and the place of its
-    /// node, and for each node the items that its settings name.
-    pub fn of_tables(
-        elab: Elab<'a>,
-        items: Vec<ItemOf>,
-        edges: Lists,
-        places: Vec<Place>,
-        targets: Vec<Vec<Target>>,
-    ) -> Refs<'a>
+    /// The references of a tree from its tables: all items, and for each node the items that its settings name.
+    pub fn of_tables(elab: Elab<'a>, items: Vec<ItemOf>, targets: Vec<Vec<Target>>) -> Refs<'a>
         requires listed { AreItems elab items.items }
-        requires refer { edges ≡ edges_of (lineages_of elab) }
-        requires within { AreWithin edges }
-        requires few { length edges < 2 ^ 32 }
-        requires placed { places.items ≡ map (λ i. i.node.use_.name.place) (items_of (lineages_of elab)) }
         requires sized { length targets.items ≡ elab.count }
         requires named { (k : ℕ) (p : AnyProp) → k < elab.count → TargetAt elab k p (item_at p (list_at targets.items k)) }
         ensures { result ≡ elab.entry }
@@ -92,8 +70,6 @@ impl<'a> Refs<'a> {
         Refs {
             elab,
             items,
-            edges,
-            places,
             targets,
         }
     }
@@ -114,21 +90,5 @@ impl Refs<'_> {
         ensures { TargetAt self.now node prop result }
     {
         item_of(&self.targets[node as usize], prop)
-    }
-
-    /// For each item the numbers of those that it refers to.
-    pub(crate) fn edges(&self) -> &Lists
-        ensures edges { result.now ≡ edges_of (lineages_of self.now) }
-        ensures within { AreWithin result.now }
-        ensures few { length result.now < 2 ^ 32 }
-    {
-        &self.edges
-    }
-
-    /// For each item the place of its node.
-    pub(crate) fn places(&self) -> &[Place]
-        ensures { result.now ≡ map (λ i. i.node.use_.name.place) (items (lineages_of self.now)) }
-    {
-        &self.places
     }
 }

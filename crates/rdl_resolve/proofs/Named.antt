@@ -1,5 +1,6 @@
 -- What a reference names where it leads.
 use Rattle.std.proofs.Common.{◌≡◌, ◌∙◌, ℕ, zero, suc, ◌<◌, ◌||◌, Bool, true, false, not, ◌&&◌, List, [], ◌∷◌, ◌++◌, flat_map, length, map, option_to_list, Option, None, Some, is_some, slice_get, refl, sym, ap, subst, arith}
+use Rattle.std.specs.Borrow.{Bor}
 use Rattle.std.specs.List.{list_any}
 use Rattle.plain_lemmas.proofs.Lists.{append-none as nothing-behind}
 use Rattle.rb_base.specs.declared.place.Place.{Place}
@@ -89,6 +90,6 @@ always-row e clean rows are k ls led none = has rows k (let low = led.stands k r
     has (x ∷ xs) (suc k) l q = has xs k (omega (arith, l)) q
 
 -- a setting that refers says that its meaning does
-pub says-ref : (ns : List Instance) (path : code.Path) (item : Option Name) (k : ℕ) (place : Place) (m : Meaning) → Says ns (set.Ref path item k place) m → (scope : Scope) × (m ≡ reference path item scope place) × IsScopeNumber ns scope k
+pub says-ref : (ns : List Instance) (path : Bor code.Path) (item : Bor (Option Name)) (k : ℕ) (place : Place) (m : Meaning) → Says ns (set.Ref path item k place) m → (scope : Scope) × (m ≡ reference path.now item.now scope place) × IsScopeNumber ns scope k
 says-ref ns path item k place (reference p i scope at) h = (scope, (λ j. reference (sym h.0 j) (sym h.1 j) scope (sym h.3 j)), h.2)
 says-ref ns path item k place _ h = absurd h

@@ -149,16 +149,16 @@ pub fn aim_of<'a>(
         item,
         scope,
         place,
-    } = setting
+    } = *setting
     else {
         return Ok(Aim {
             target: None,
             fault: None,
         });
     };
-    let Some(view) = view_from(known.elab, known.rows, known.outers, *scope) else {
+    let Some(view) = view_from(known.elab, known.rows, known.outers, scope) else {
         return Err(NoMemory);
     };
     let node = lead(alloc, known.members, view, path)?;
-    Ok(aimed(known.rows, node, prop, *item, *place))
+    Ok(aimed(known.rows, node, prop, *item, place))
 }

@@ -18,7 +18,6 @@ use Rattle.rdl_rules.specs.Phase5.{fails5}
 use Rattle.rdl_verdict.specs.Verdict.{meanings, places, settings}
 use Rattle.rdl_verdict.specs.declared.error.JudgeError.{JudgeError}
 use Rattle.rdl_verdict.specs.declared.error.JudgeError.TheVariants as error
-use Rattle.rdl_verdict.specs.declared.phases.Stood.{Stood}
 
 -- the error has this one failure
 abbrev pub HasOne : Fault → JudgeError → Type 0
@@ -33,13 +32,6 @@ HasAll P error.NoMemory = Unit {0}
 -- the failures of layout and targets, of a tree of instances
 abbrev pub stands_fail : Elab → Fails
 stands_fail e = fails5 (Some (top_name e)) e.source.now
-
--- The places and the references are those of a tree in which each stands and leads where it may.
-pub record IsStood (e : Elab) (x : Stood) : Type 0 where
-  pub map_ : x.map ≡ e
-  pub refs_ : x.refs ≡ e
-  pub placed : IsPlaced e
-  pub bound : IsBound e
 
 -- The tree of a text whose instances break no rule.
 pub record IsGrown (wanted : Option (List ℕ)) (text : List ℕ) (e : Elab) : Type 0 where

@@ -4,17 +4,20 @@ ghost use Rattle.std.specs.Prelude.{◌≡◌, ◌<◌, ◌^◌, ◌-◌, [], If
 ghost use Rattle.rdl_values.specs.Elaboration.{IsClean};
 ghost use Rattle.rdl_values.specs.Verdict.{IsListOf};
 ghost use Rattle.rdl_layers.specs.Answers.{IsSettled};
+ghost use Rattle.rdl_refs.specs.Answers.{IsBound};
 ghost use Rattle.rdl_rules.specs.Facts.{AreFacts};
 ghost use Rattle.rdl_rules.specs.Answers.{meaning_fails};
 ghost use Rattle.rdl_verdict.specs.Answers.{Decides};
-ghost use Rattle.rdl_verdict.specs.Steps.{FailsLate, HasAll, IsFaultless, IsStood};
+ghost use Rattle.rdl_verdict.specs.Steps.{FailsLate, HasAll, IsFaultless};
 
 use crate::error::JudgeError;
 use crate::judging::tree_of;
-use crate::phases::{Stood, set, stand};
+use crate::phases::{lead, set, stand};
 use bumpalo::Bump;
+use rdl_addr::Map;
 use rdl_check::meaning;
 use rdl_failures::PhaseError;
+use rdl_refs::{Dependencies, Refs};
 use rdl_rules::Settled;
 use rdl_tree::Elab;
 use std::alloc::Global;
@@ -24,17 +27,22 @@ fn pass<'a>(
     alloc: Global,
     elab: &Elab<'a>,
     settled: &Settled<'a>,
-    stood: Stood<'a>,
+    map: &Map<'a>,
+    refs: &Refs<'a>,
+    dependencies: &Dependencies<'a>,
 ) -> Result<(), JudgeError>
     requires clean { IsClean elab.now }
     requires settled { IsSettled elab.now }
+    requires bound { IsBound elab.now }
     requires props { settled.now.props ≡ elab.now }
     requires facts { AreFacts elab.now settled.now.facts.items }
-    requires stood { IsStood elab.now stood }
+    requires map { map.now ≡ elab.now }
+    requires refs { refs.now ≡ elab.now }
+    requires dependencies { dependencies.now ≡ elab.now }
     ensures none { OnOk result (IsListOf (meaning_fails elab.now) []) }
     ensures error { IfErr result (HasAll (meaning_fails elab.now)) }
 {
-    match meaning(alloc, elab, settled, &stood.map, &stood.refs) {
+    match meaning(alloc, elab, settled, map, refs, dependencies) {
         Ok(()) => Ok(()),
         Err(PhaseError::Faults(list)) => Err(JudgeError::Faults(list)),
         Err(PhaseError::NoMemory) => Err(JudgeError::NoMemory),
@@ -50,8 +58,9 @@ fn pass_on<'a>(alloc: Global, elab: &Elab<'a>, settled: &Settled<'a>) -> Result<
     ensures none { OnOk result (IsFaultless elab.now) }
     ensures error { IfErr result (FailsLate elab.now) }
 {
-    let stood = stand(alloc, elab, &settled.props)?;
-    pass(alloc, elab, settled, stood)?;
+    let map = stand(alloc, elab, &settled.props)?;
+    let (refs, dependencies) = lead(alloc, elab, &settled.props)?;
+    pass(alloc, elab, settled, &map, &refs, &dependencies)?;
     Ok(())
 }
 

@@ -4,6 +4,8 @@ ghost use Rattle.std.specs.Prelude.{◌≡◌, ◌<◌, ◌^◌, ◌-◌, ℕ, I
 ghost use Rattle.rdl_values.specs.Elaborated.{HasWords, nodes_of, top_name};
 ghost use Rattle.rdl_values.specs.Elaboration.{IsClean};
 ghost use Rattle.rdl_layers.specs.Answers.{IsSettled};
+ghost use Rattle.rdl_addr.specs.Answers.{IsPlaced};
+ghost use Rattle.rdl_refs.specs.Answers.{IsBound};
 ghost use Rattle.rb_model.specs.Apart.{IsApart};
 ghost use Rattle.rdl_rules.specs.Facts.{AreFacts};
 ghost use Rattle.rdl_rules.specs.Answers.{IsBlockFor, meaning_fails};
@@ -11,20 +13,22 @@ ghost use Rattle.rdl_rules.specs.Numbers.{all_fields};
 ghost use Rattle.rdl_encodings.specs.Encoded.{encodings_of};
 ghost use Rattle.rdl_check.specs.Trees.{HaveOneForm};
 ghost use Rattle.rdl_verdict.specs.Answers.{IsJudged, Judges, Refuses};
-ghost use Rattle.rdl_verdict.specs.Steps.{FailsLate, HasAll, IsClear, IsGrown, IsStood};
+ghost use Rattle.rdl_verdict.specs.Steps.{FailsLate, HasAll, IsClear, IsGrown};
 ghost use Rattle.rdl_verdict.specs.Verdict.{accesses};
 
 use crate::error::JudgeError;
-use crate::phases::{Stood, grow, read, set, stand};
+use crate::phases::{grow, lead, read, set, stand};
 use bumpalo::Bump;
 use rb_base::NoMemory;
 use rb_model::Block;
+use rdl_addr::Map;
 use rdl_base::Fault;
 use rdl_check::check;
 use rdl_failures::PhaseError;
 use rdl_lexer::spelled_in_order;
 use rdl_meaning_rules::access_failures;
 use rdl_nodes::{derived_forms_are_single, forms_are_single, names_are_words};
+use rdl_refs::{Dependencies, Refs};
 use rdl_rules::Settled;
 use rdl_tree::{Elab, derived_in_order};
 use rdl_values::name_decides_the_top;
@@ -44,20 +48,26 @@ fn mean<'a>(
     alloc: Global,
     elab: &Elab<'a>,
     settled: &Settled<'a>,
-    stood: &Stood<'a>,
+    map: &Map<'a>,
+    refs: Refs<'a>,
+    dependencies: Dependencies<'a>,
 ) -> Result<Block, JudgeError>
     requires clean { IsClean elab.now }
     requires words { HasWords (Some (top_name elab.now)) elab.now.source.now }
     requires forms { HaveOneForm elab.now }
     requires settled { IsSettled elab.now }
+    requires placed { IsPlaced elab.now }
+    requires bound { IsBound elab.now }
     requires props { settled.now.props ≡ elab.now }
     requires facts { AreFacts elab.now settled.now.facts.items }
-    requires stood { IsStood elab.now stood.now }
+    requires map { map.now ≡ elab.now }
+    requires refs { refs ≡ elab.now }
+    requires dependencies { dependencies ≡ elab.now }
     ensures block { IfOk result (IsBlockFor elab.now) }
     ensures apart { IfOk result IsApart }
     ensures error { IfErr result (HasAll (meaning_fails elab.now)) }
 {
-    match check(alloc, elab, settled, &stood.map, &stood.refs) {
+    match check(alloc, elab, settled, map, refs, dependencies) {
         Ok(block) => Ok(block),
         Err(PhaseError::Faults(list)) => Err(JudgeError::Faults(list)),
         Err(PhaseError::NoMemory) => Err(JudgeError::NoMemory),
@@ -76,8 +86,9 @@ fn describe<'a>(alloc: Global, arena: &'a Bump, elab: Elab<'a>) -> Result<Judged
     ensures error { IfErr result (FailsLate elab.entry) }
 {
     let settled = set(alloc, arena, &elab)?;
-    let stood = stand(alloc, &elab, &settled.props)?;
-    let block = mean(alloc, &elab, &settled, &stood)?;
+    let map = stand(alloc, &elab, &settled.props)?;
+    let (refs, dependencies) = lead(alloc, &elab, &settled.props)?;
+    let block = mean(alloc, &elab, &settled, &map, refs, dependencies)?;
     Ok(Judged {
         elab,
         settled,

@@ -13,8 +13,9 @@ ghost use Rattle.rdl_rules.specs.Facts.{AreFacts};
 ghost use Rattle.rdl_rules.specs.Numbers.{all_fields};
 ghost use Rattle.rdl_encodings.specs.Encoded.{encodings_of};
 ghost use Rattle.rdl_addr.specs.Answers.{IsPlaced, places_fail};
+ghost use Rattle.rdl_refs.specs.Answers.{IsBound};
 ghost use Rattle.rdl_verdict.specs.Answers.{Refuses};
-ghost use Rattle.rdl_verdict.specs.Steps.{HasAll, HasOne, IsStood, stands_fail};
+ghost use Rattle.rdl_verdict.specs.Steps.{HasAll, HasOne, stands_fail};
 
 use crate::error::JudgeError;
 use bumpalo::Bump;
@@ -27,18 +28,11 @@ use rdl_failures::{PhaseError, listed};
 use rdl_layers::Props;
 use rdl_parser::{ParseError, parse};
 use rdl_place::place;
-use rdl_refs::Refs;
+use rdl_refs::{Dependencies, Refs};
 use rdl_rules::Settled;
 use rdl_settle::settle;
 use rdl_tree::{Elab, Source};
 use std::alloc::Global;
-
-/// Where all stands, and what references lead to.
-#[derive(Drop)]
-pub(crate) struct Stood<'a> {
-    pub map: Map<'a>,
-    pub refs: Refs<'a>,
-}
 
 // A failure that stands alone.
 fn alone(alloc: Global, fault: Fault) -> JudgeError
@@ -155,43 +149,44 @@ fn with_targets<'a>(
     }
 }
 
-// What references lead to, where all stands.
-fn lead<'a>(
-    alloc: Global,
-    elab: &Elab<'a>,
-    props: &Props<'a>,
-    map: Map<'a>,
-) -> Result<Stood<'a>, JudgeError>
-    requires clean { IsClean elab.now }
-    requires settled { IsSettled elab.now }
-    requires placed { IsPlaced elab.now }
-    requires tree { props.now ≡ elab.now }
-    requires map { map ≡ elab.now }
-    ensures stood { IfOk result (IsStood elab.now) }
-    ensures error { IfErr result (HasAll (stands_fail elab.now)) }
-{
-    match bind(alloc, elab, props) {
-        Ok(refs) => Ok(Stood { map, refs }),
-        Err(PhaseError::Faults(list)) => Err(JudgeError::Faults(list)),
-        Err(PhaseError::NoMemory) => Err(JudgeError::NoMemory),
-    }
-}
-
-/// Where all of a tree stands and what its references lead to, or all failures of the phase.
+/// Where all of a tree stands, or all failures of the phase.
 pub(crate) fn stand<'a>(
     alloc: Global,
     elab: &Elab<'a>,
     props: &Props<'a>,
-) -> Result<Stood<'a>, JudgeError>
+) -> Result<Map<'a>, JudgeError>
     requires clean { IsClean elab.now }
     requires settled { IsSettled elab.now }
     requires tree { props.now ≡ elab.now }
-    ensures stood { IfOk result (IsStood elab.now) }
+    ensures map { IfOk result (λ map. map ≡ elab.now) }
+    ensures placed { IfOk result (λ map. IsPlaced elab.now) }
     ensures error { IfErr result (HasAll (stands_fail elab.now)) }
 {
     match place(alloc, elab, props) {
-        Ok(map) => lead(alloc, elab, props, map),
+        Ok(map) => Ok(map),
         Err(PhaseError::Faults(list)) => Err(with_targets(alloc, elab, props, list)),
+        Err(PhaseError::NoMemory) => Err(JudgeError::NoMemory),
+    }
+}
+
+/// What the references of a tree in which all stands lead to, and what its items refer to by them, or all failures of the phase.
+pub(crate) fn lead<'a>(
+    alloc: Global,
+    elab: &Elab<'a>,
+    props: &Props<'a>,
+) -> Result<(Refs<'a>, Dependencies<'a>), JudgeError>
+    requires clean { IsClean elab.now }
+    requires settled { IsSettled elab.now }
+    requires placed { IsPlaced elab.now }
+    requires tree { props.now ≡ elab.now }
+    ensures refs { IfOk result (λ found. found.0 ≡ elab.now) }
+    ensures dependencies { IfOk result (λ found. found.1 ≡ elab.now) }
+    ensures bound { IfOk result (λ found. IsBound elab.now) }
+    ensures error { IfErr result (HasAll (stands_fail elab.now)) }
+{
+    match bind(alloc, elab, props) {
+        Ok(found) => Ok(found),
+        Err(PhaseError::Faults(list)) => Err(JudgeError::Faults(list)),
         Err(PhaseError::NoMemory) => Err(JudgeError::NoMemory),
     }
 }

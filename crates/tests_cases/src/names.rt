@@ -10,7 +10,7 @@ use rdl_base::Fault;
 use rdl_bind::bind;
 use rdl_failures::PhaseError;
 use rdl_props::Prop;
-use rdl_refs::{ItemOf, OrderError, Refs, circling, order};
+use rdl_refs::{Dependencies, ItemOf, OrderError, Refs, circling, order};
 use rdl_settle::settle;
 use rdl_tree::Elab;
 use std::alloc::Global;
@@ -66,16 +66,21 @@ fn names_of(alloc: Global, refs: &Refs<'_>, count: u32) -> Result<Vec<Named>, No
 }
 
 // What is known of references that lead to items.
-fn found(alloc: Global, refs: &Refs<'_>, count: u32) -> Result<Bound, NoMemory>
+fn found(
+    alloc: Global,
+    refs: &Refs<'_>,
+    dependencies: &Dependencies<'_>,
+    count: u32,
+) -> Result<Bound, NoMemory>
     requires { count ≡ refs.now.count }
 {
     let names = names_of(alloc, refs, count)?;
-    let circle = match order(alloc, refs) {
+    let circle = match order(alloc, dependencies) {
         Ok(_order) => None,
         Err(OrderError::Loop(items)) => Some(items.len()),
         Err(OrderError::NoMemory) => return Err(NoMemory),
     };
-    let faults = circling(alloc, refs)?;
+    let faults = circling(alloc, dependencies)?;
     Ok(Bound {
         names,
         items: refs.items().len(),
@@ -94,7 +99,7 @@ fn bound_of<'a>(alloc: Global, arena: &'a Bump, elab: &Elab<'a>) -> Result<Optio
         Err(PhaseError::NoMemory) => return Err(NoMemory),
     };
     match bind(alloc, elab, &settled.props) {
-        Ok(refs) => Ok(Some(found(alloc, &refs, elab.count)?)),
+        Ok((refs, dependencies)) => Ok(Some(found(alloc, &refs, &dependencies, elab.count)?)),
         Err(PhaseError::Faults(_)) => Ok(None),
         Err(PhaseError::NoMemory) => Err(NoMemory),
     }

@@ -1,4 +1,4 @@
-use Rattle.std.proofs.Common.{◌≡◌, ◌∙◌, ◌&&◌, not, true, filter, map, sym, ap, arith}
+use Rattle.std.proofs.Common.{◌≡◌, ◌∙◌, ◌&&◌, Some, not, true, filter, map, sym, ap, arith}
 use Rattle.std.proofs.lemmas.List.{take_all}
 use Rattle.rdl_tree.specs.declared.item.Kind.TheVariants as kinds
 use Rattle.rdl_tree.specs.declared.node.Node.{out-Node}
@@ -6,7 +6,6 @@ use Rattle.rdl_tree.specs.Kinds.{same_kind}
 use Rattle.rdl_values.specs.Elaborated.{nodes_of}
 use Rattle.rdl_values.specs.Uses.{path_text}
 use Rattle.rdl_layers.specs.Fields.{is_a, is_alias}
-use Rattle.rdl_nodes.proofs.Members.{get-read}
 use Rattle.rdl_sizes.proofs.Facts.{count-is, node-at, nodes-many, row-at, rows-many}
 use Rattle.rdl_sizes.proofs.Turns.{read-at}
 use Rattle.rdl_ref_items.specs.InterruptOutputs.{mark_at}
@@ -14,8 +13,8 @@ use Rattle.rdl_rules.specs.Block.{reg_of}
 use Rattle.rdl_block_lists.proofs.Marking.{halting, one-register, only-own, tells-alias}
 use Rattle.rdl_block_lists.proofs.register_list.regs.Goals as goal
 
-pub bounds-texts-at : goal.bounds-texts-at
-bounds-texts-at c = let many = rows-many c.args.elab.now c.args.rows.now c.requires.rows in let count = count-is c.args.elab.now c.requires.clean in omega (arith, many, count, c.requires.texts.many, c.loop-at-test.true)
+pub text-text-requires : goal.text-text-requires
+text-text-requires c = let many = rows-many c.args.elab.now c.args.rows.now c.requires.rows in let count = count-is c.args.elab.now c.requires.clean in omega (arith, many, count, c.requires.texts.many, c.loop-at-test.true)
 
 pub bounds-marks-at : goal.bounds-marks-at
 bounds-marks-at c = let many = rows-many c.args.elab.now c.args.rows.now c.requires.rows in let all = nodes-many c.args.elab.now in omega (arith, many, all, c.requires.marks.many, c.loop-at-test.true)
@@ -32,11 +31,12 @@ loop-at-preserved c =
     let count = count-is e c.requires.clean in
     let all = nodes-many e in
     let is = ap (same_kind kinds.Reg) r.2.says.kind in
-    let text = c.index-texts-at.is ∙ get-read c.args.texts.now at c.index-texts-at.result (path_text n.path) (c.requires.texts.each at n (omega (arith, many, count, c.loop-at-test.true)) here) in
+    let read : Some c.text-text.result.now ≡ Some (path_text n.path) = sym c.text-text.ensures ∙ c.requires.texts.each at n (omega (arith, many, count, c.loop-at-test.true)) here in
+    let text : c.text-text.result.now ≡ path_text n.path = cc read in
     let alias : c.is_some-is_alias.result ≡ is_alias n = c.is_some-is_alias.ensures ∙ tells-alias e n c.primary.result (c.primary.ensures e at r.0 c.requires.clean r.1 r.2) in
     let mark = c.requires.marks.each at n (omega (arith, many, all, c.loop-at-test.true)) here in
     one-register (nodes_of e) at n here (same_kind kinds.Reg (out-Node x.node.now).kind) is
-    (record { path = c.index-texts-at.result; alias = c.is_some-is_alias.result; intr = not c.is_some-is_alias.result && (mark_at c.args.marks.now at).interrupts; halt = not c.is_some-is_alias.result && (mark_at c.args.marks.now at).halts })
+    (record { path = c.text-text.result.now; alias = c.is_some-is_alias.result; intr = not c.is_some-is_alias.result && (mark_at c.args.marks.now at).interrupts; halt = not c.is_some-is_alias.result && (mark_at c.args.marks.now at).halts })
     (λ t. let reg : is_a kinds.Reg n ≡ true = sym is ∙ t in
     let halt = only-own (is_alias n) _ _ (λ q. mark.halts_ ∙ sym (halting e c.requires.halts at n here reg q)) in
     (λ i. record { path = text i; alias = alias i; intr = not (alias i) && mark.interrupts_ i; halt = not (alias i) && (mark_at c.args.marks.now at).halts }) ∙ (λ i. record { path = path_text n.path; alias = is_alias n; intr = (reg_of n).intr; halt = halt i }))

@@ -1,4 +1,4 @@
-use Rattle.std.proofs.Common.{◌≡◌, ◌∙◌, true, filter, is_none, map, sym, ap, arith}
+use Rattle.std.proofs.Common.{◌≡◌, ◌∙◌, Some, true, filter, is_none, map, sym, ap, arith}
 use Rattle.std.proofs.lemmas.List.{take_all}
 use Rattle.rdl_tree.specs.declared.item.Kind.TheVariants as kinds
 use Rattle.rdl_tree.specs.declared.node.Node.{out-Node}
@@ -7,7 +7,6 @@ use Rattle.rdl_values.specs.Elaborated.{nodes_of}
 use Rattle.rdl_values.specs.Instances.{kind_of}
 use Rattle.rdl_values.specs.Uses.{path_text}
 use Rattle.rdl_layers.specs.Fields.{is_a}
-use Rattle.rdl_nodes.proofs.Members.{get-read}
 use Rattle.rdl_sizes.proofs.Facts.{count-is, node-at, nodes-many, row-at, rows-many}
 use Rattle.rdl_sizes.proofs.Turns.{read-at}
 use Rattle.rdl_rules.specs.Block.{signal_of}
@@ -17,8 +16,8 @@ use Rattle.rdl_block_lists.proofs.signal_list.signals.Goals as goal
 pub bounds-facts-at : goal.bounds-facts-at
 bounds-facts-at c = let many = rows-many c.args.elab.now c.args.rows.now c.requires.rows in let count = count-is c.args.elab.now c.requires.clean in omega (arith, many, count, c.requires.facts.all_nodes, c.loop-at-test.true)
 
-pub bounds-texts-at : goal.bounds-texts-at
-bounds-texts-at c = let many = rows-many c.args.elab.now c.args.rows.now c.requires.rows in let count = count-is c.args.elab.now c.requires.clean in omega (arith, many, count, c.requires.texts.many, c.loop-at-test.true)
+pub text-text-requires : goal.text-text-requires
+text-text-requires c = let many = rows-many c.args.elab.now c.args.rows.now c.requires.rows in let count = count-is c.args.elab.now c.requires.clean in omega (arith, many, count, c.requires.texts.many, c.loop-at-test.true)
 
 pub narrow-width-requires : goal.narrow-width-requires
 narrow-width-requires c =
@@ -37,8 +36,9 @@ loop-at-preserved c =
     let many = rows-many e c.args.rows.now c.requires.rows in
     let count = count-is e c.requires.clean in
     let is = ap (same_kind kinds.Signal) r.2.says.kind in
-    let text = c.index-texts-at.is ∙ get-read c.args.texts.now at c.index-texts-at.result (path_text n.path) (c.requires.texts.each at n (omega (arith, many, count, c.loop-at-test.true)) here) in
-    one-signal (nodes_of e) at n here (same_kind kinds.Signal (out-Node x.node.now).kind) is (record { path = c.index-texts-at.result; width = c.narrow-width.result; root = is_none x.parent })
+    let read : Some c.text-text.result.now ≡ Some (path_text n.path) = sym c.text-text.ensures ∙ c.requires.texts.each at n (omega (arith, many, count, c.loop-at-test.true)) here in
+    let text : c.text-text.result.now ≡ path_text n.path = cc read in
+    one-signal (nodes_of e) at n here (same_kind kinds.Signal (out-Node x.node.now).kind) is (record { path = c.text-text.result.now; width = c.narrow-width.result; root = is_none x.parent })
     (λ t. let signal : same_kind kinds.Signal (kind_of n) ≡ true = sym is ∙ t in
     let width = c.narrow-width.ensures ∙ (c.requires.facts.of_each at n here (unit-signal (kind_of n) signal)).width_ in
     let root = rooted e at r.0 r.1 signal x.parent r.2.parent in

@@ -12,7 +12,7 @@ returns-in-EnumOf c = λ e n clean open_ there entries serves.
     let name = c.in-EnumOf.name in
     let says = subst (λ s. Says (nodes_of e) s (setting n prop.Encode)) (sym c.in-EnumOf.ensures) (c.entries_say.ensures.settings (nodes_of e) n c.args.entries.now entries prop.Encode) in
     let named = enum_said (nodes_of e) name c.in-EnumOf.scope (setting n prop.Encode) says in
-    encoded-as n name named.scope named.is
+    encoded-as n name.now named.scope named.is
     ∙ c.meant_from.ensures e named.scope (record { clean = clean; open_ = open_; node = n; there = there; prop = prop.Encode; named = named.is; seen_from = named.number }) (serves (ap names_enum (sym c.in-EnumOf.ensures)))
 
 pub returns-in_default : goal.returns-in_default

@@ -16,18 +16,18 @@ returns-in-Some c = λ e n clean open_ numbers there entries width.
     let name = c.in-EnumOf.name in
     let says = subst (λ s. Says (nodes_of e) s (setting n prop.Encode)) (sym c.in-EnumOf.ensures) (c.entries_say.ensures.settings (nodes_of e) n c.args.entries.now entries prop.Encode) in
     let named = enum_said (nodes_of e) name c.in-EnumOf.scope (setting n prop.Encode) says in
-    let shown = c.body_round.ensures e name named.scope (record { clean = clean; open_ = open_; node = n; there = there; prop = prop.Encode; named = named.is; seen_from = named.number }) in
+    let shown = c.body_round.ensures e name.now named.scope (record { clean = clean; open_ = open_; node = n; there = there; prop = prop.Encode; named = named.is; seen_from = named.number }) in
     let both : Some shown.0 ≡ Some x = sym shown.1 ∙ c.in-Some.is in
     let same : shown.0 ≡ x = cc in
     let envs = subst (λ (y : Body). HaveEnvs t.bodies.list.items y.numbers.now (around named.scope)) same shown.2 in
-    c.is_wide.ensures ∙ of_enum n c.args.width c.greatest.result name named.scope named.is width (c.greatest.ensures t.bodies (around named.scope) numbers envs)
+    c.is_wide.ensures ∙ of_enum n c.args.width c.greatest.result name.now named.scope named.is width (c.greatest.ensures t.bodies (around named.scope) numbers envs)
 
 pub returns-in-None : goal.returns-in-None
 returns-in-None c = λ e n clean open_ numbers there entries width.
     let name = c.in-EnumOf.name in
     let says = subst (λ s. Says (nodes_of e) s (setting n prop.Encode)) (sym c.in-EnumOf.ensures) (c.entries_say.ensures.settings (nodes_of e) n c.args.entries.now entries prop.Encode) in
     let named = enum_said (nodes_of e) name c.in-EnumOf.scope (setting n prop.Encode) says in
-    let shown = c.body_round.ensures e name named.scope (record { clean = clean; open_ = open_; node = n; there = there; prop = prop.Encode; named = named.is; seen_from = named.number }) in
+    let shown = c.body_round.ensures e name.now named.scope (record { clean = clean; open_ = open_; node = n; there = there; prop = prop.Encode; named = named.is; seen_from = named.number }) in
     let both : Some shown.0 ≡ None = sym shown.1 ∙ c.in-None.is in
     cc
 

@@ -62,7 +62,7 @@ returns c =
     let t1 = c.judge_nodes.new.failures in
     let t2 = c.judge_settings.new.failures in
     let t3 = c.judge_rest.new.failures in
-    let circling : AreCircling e circles = subst (λ (m : Elab). AreCircling m circles) c.requires.refs c.in_ok-circles.ensures in
+    let circling : AreCircling e circles = subst (λ (m : Elab). AreCircling m circles) c.requires.dependencies c.in_ok-circles.ensures in
     let nodes : t1 ≡ with_all (of_registers e ++ of_containers e ++ of_count e) [] =
     subst (λ (m : Elab). t1 ≡ with_all (of_registers m ++ of_containers m ++ of_count m) []) c.requires.props (c.in_ok-judge_nodes.ensures ∙ ap (with_all (of_registers c.args.props.now ++ of_containers c.args.props.now ++ of_count c.args.props.now)) c.new-failures.ensures) in
     let settings : t2 ≡ with_all (of_fields e ++ of_resets e) t1 = subst (λ (m : Elab). t2 ≡ with_all (of_fields m ++ of_resets m) t1) c.requires.props c.in_ok-judge_settings.ensures in

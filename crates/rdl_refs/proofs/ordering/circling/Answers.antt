@@ -11,7 +11,7 @@ use Rattle.rdl_refs.proofs.ordering.circling.Goals as goal
 
 pub unordered-requires : goal.unordered-requires
 unordered-requires c =
-    let all = lineages_of c.args.refs.now in
+    let all = lineages_of c.args.dependencies.now in
     let a = ap length c.deref.ensures.value in
     let b = c.in_ok-levels.ensures.sized in
     let e = ap length c.edges.ensures.edges in
@@ -22,9 +22,9 @@ unordered-requires c =
 
 pub returns : goal.returns
 returns c =
-    let all = lineages_of c.args.refs.now in
+    let all = lineages_of c.args.dependencies.now in
     let levels = subst (λ e. AreLevels e c.in_ok-levels.levels.ranks.items c.in_ok-levels.levels.order.items) c.edges.ensures.edges c.in_ok-levels.ensures in
     let within = subst AreWithin c.edges.ensures.edges c.edges.ensures.within in
     let found = subst (λ r. AreUnordered r c.places.result.now (length c.places.result.now) c.in_ok-unordered.field-0.items) c.deref.ensures.value c.in_ok-unordered.ensures in
-    if-ok c.listed.result _ (λ list. AreCircling c.args.refs.now list.items)
+    if-ok c.listed.result _ (λ list. AreCircling c.args.dependencies.now list.items)
     (λ list h. reported all c.in_ok-levels.levels.ranks.items c.in_ok-levels.levels.order.items c.places.result.now levels within c.places.ensures c.in_ok-unordered.field-0.items found list.items h) c.listed.ensures
