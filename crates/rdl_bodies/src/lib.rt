@@ -3,6 +3,7 @@
 #![tactic(auto)]
 
 mod bodies;
+mod growing;
 mod hints;
 mod opening;
 mod root;
@@ -11,5 +12,6 @@ mod sites;
 mod texts;
 
 pub use bodies::{Bodies, Body, Site};
+pub use growing::push_sparing;
 pub use opening::table_of;
 pub use root::open_root;

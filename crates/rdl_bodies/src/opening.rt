@@ -14,6 +14,7 @@ ghost use Rattle.rdl_bodies.specs.Kept.{AreDistinct, of_names};
 ghost use Rattle.rdl_bodies.specs.Opened.{IsBodyOf};
 
 use crate::bodies::{Bodies, Body, TextPlace};
+use crate::growing::push_sparing;
 use bumpalo::Bump;
 use bumpalo::collections::into_bump_slice;
 use rb_base::NoMemory;
@@ -154,9 +155,9 @@ impl<'s, 'a> Bodies<'s, 'a> {
         ensures sites { self.new.sites.items ≡ self.old.sites.items }
         ensures texts { self.new.texts.items ≡ self.old.texts.items }
     {
-        self.tables.push(table)?;
-        self.components.push(components)?;
-        self.list.push(body)?;
+        push_sparing(&mut self.tables, table)?;
+        push_sparing(&mut self.components, components)?;
+        push_sparing(&mut self.list, body)?;
         Ok(())
     }
 

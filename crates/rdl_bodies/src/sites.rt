@@ -4,6 +4,7 @@ ghost use Rattle.std.specs.Prelude.{◌≡◌, ℕ, List, Some, map, IfOk, IfSom
 ghost use Rattle.rdl_base.specs.declared.fault.Fault.{Fault as AnyFault};
 
 use crate::bodies::{Bodies, ParameterKey, Site, SiteKey};
+use crate::growing::push_sparing;
 use crate::same::{are_equal, are_same};
 use bumpalo::Bump;
 use rb_base::NoMemory;
@@ -124,7 +125,7 @@ impl<'s, 'a> Bodies<'s, 'a> {
         ensures texts { self.new.texts ≡ self.old.texts }
     {
         let number = self.sites.len();
-        self.sites.push(site)?;
+        push_sparing(&mut self.sites, site)?;
         self.note_site(key, number)
     }
 

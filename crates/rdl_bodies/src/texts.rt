@@ -3,6 +3,7 @@
 ghost use Rattle.std.specs.Prelude.{◌≡◌, Some, true};
 
 use crate::bodies::{Bodies, Text, TextPlace};
+use crate::growing::push_sparing;
 use crate::opening::first_of;
 use bumpalo::Bump;
 use rb_base::NoMemory;
@@ -93,7 +94,7 @@ impl<'s, 'a> Bodies<'s, 'a> {
     {
         let number = self.texts.len();
         self.note_text(&text.place, number)?;
-        self.texts.push(text)?;
+        push_sparing(&mut self.texts, text)?;
         Ok(number)
     }
 

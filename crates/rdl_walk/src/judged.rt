@@ -6,6 +6,7 @@ ghost use Rattle.rdl_walk.specs.Walking.{holder_for};
 use crate::walk::{Judgement, JudgementKey, Walk};
 use bumpalo::Bump;
 use rb_base::NoMemory;
+use rdl_bodies::push_sparing;
 use rdl_children::{Child, judge_children};
 use rdl_tree::Kind;
 use rdl_uses::{Holder, Parent, Standing};
@@ -70,7 +71,7 @@ impl<'s, 'n, 'a> Walk<'s, 'n, 'a> {
             prefix: judgement.standing.prefix,
         };
         let at = self.judgements.len();
-        self.judgements.push(judgement)?;
+        push_sparing(&mut self.judgements, judgement)?;
         self.known.insert(spot, at)?;
         Ok(())
     }
