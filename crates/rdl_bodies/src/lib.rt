@@ -3,15 +3,15 @@
 #![tactic(auto)]
 
 mod bodies;
-mod growing;
 mod hints;
 mod opening;
 mod root;
 mod same;
 mod sites;
+mod sparing;
 mod texts;
 
 pub use bodies::{Bodies, Body, Site};
-pub use growing::push_sparing;
 pub use opening::table_of;
 pub use root::open_root;
+pub use sparing::push_sparing;

@@ -14,7 +14,7 @@ ghost use Rattle.rdl_bodies.specs.Kept.{AreDistinct, of_names};
 ghost use Rattle.rdl_bodies.specs.Opened.{IsBodyOf};
 
 use crate::bodies::{Bodies, Body, TextPlace};
-use crate::growing::push_sparing;
+use crate::sparing::push_sparing;
 use bumpalo::Bump;
 use bumpalo::collections::into_bump_slice;
 use rb_base::NoMemory;

@@ -4,8 +4,8 @@ ghost use Rattle.std.specs.Prelude.{◌≡◌, ℕ, List, Some, map, IfOk, IfSom
 ghost use Rattle.rdl_base.specs.declared.fault.Fault.{Fault as AnyFault};
 
 use crate::bodies::{Bodies, ParameterKey, Site, SiteKey};
-use crate::growing::push_sparing;
 use crate::same::{are_equal, are_same};
+use crate::sparing::push_sparing;
 use bumpalo::Bump;
 use rb_base::NoMemory;
 use rdl_tree::{Bound, Def, Value};

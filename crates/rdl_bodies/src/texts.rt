@@ -3,8 +3,8 @@
 ghost use Rattle.std.specs.Prelude.{◌≡◌, Some, true};
 
 use crate::bodies::{Bodies, Text, TextPlace};
-use crate::growing::push_sparing;
 use crate::opening::first_of;
+use crate::sparing::push_sparing;
 use bumpalo::Bump;
 use rb_base::NoMemory;
 use rdl_failures::Failures;
