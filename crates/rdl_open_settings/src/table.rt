@@ -77,10 +77,10 @@ pub fn judge_layers<'a>(
     requires { (e : Elab) × IsOpenTree e tree.now }
     ensures { IfOk result (λ r. (e : Elab) → IsOpenTree e tree.now → AreLayersOf e tree.now r failures.old failures.new) }
 {
-    let mut table = LayerTable {
-        list: IndexMap::new(alloc),
-    };
     let bodies = &tree.bodies;
+    let mut table = LayerTable {
+        list: IndexMap::with_capacity(alloc, bodies.tables().len())?,
+    };
     table.judge(alloc, arena, bodies, 0, failures)?;
     for spot in &tree.spots {
         table.judge(alloc, arena, bodies, spot.body, failures)?;
