@@ -3,21 +3,12 @@ use Rattle.std.proofs.Common.{◌≡◌, ◌∙◌, ℕ, Bool, true, false, ◌&
 use Rattle.std.specs.Cmp.Lexicographic.{bytes_decides}
 use Rattle.rdl_tree.specs.declared.expr.Name.{Name}
 use Rattle.rdl_tree.specs.declared.value.EnumValues.{EnumValues}
-use Rattle.rdl_tree.specs.declared.value.Env.{Env, Env', out-Env}
 use Rattle.rdl_values.specs.Bodies.{standing_from}
-use Rattle.rdl_values.specs.Seen.{around_of, entry_of, listed_enum}
-use Rattle.rdl_values.specs.Values.{Around, EnumOf, Names}
+use Rattle.rdl_values.specs.Seen.{entry_of, listed_enum}
+use Rattle.rdl_values.specs.Values.{EnumOf, Names}
 use Rattle.rdl_facts.specs.Places.{ArePlaces, stands}
 use Rattle.rdl_encodings.specs.Body.{AreEnumsOf, under}
 use Rattle.rdl_encodings.specs.declared.body.BodyEnums.{BodyEnums}
-
-abbrev first-enums : Around → List EnumOf
-first-enums [] = []
-first-enums (names ∷ rest) = names.enums
-
-enums-in : (env : Env) (names : Names) (rest : Around) → around_of env ≡ names ∷ rest → map listed_enum (out-Env env).enums.now ≡ names.enums
-unfolding out-Env denote.Hole.Carrier.out
-enums-in (Env' bs es outer) names rest e = ap (λ ws. first-enums ws) e
 
 -- what stands behind some others
 behind : (before : List EnumValues) (m : EnumValues) (ms : List EnumValues) → slice_get (before ++ (m ∷ ms)) (length before) ≡ Some m
@@ -54,10 +45,9 @@ module _ (n : Name) where
       go true t k = here t (nat_lt m.name.place.0 n.place.0) k
       go false t k = k
 
-pub of_names : (b : BodyEnums) (env : Env) → ArePlaces b.places (out-Env env).enums.now → b.list.now ≡ (out-Env env).enums.now → (names : Names) (rest : Around) → around_of env ≡ names ∷ rest → AreEnumsOf b names
-of_names b env places list names rest e = record {
+pub of_names : (b : BodyEnums) (es : List EnumValues) → ArePlaces b.places es → b.list.now ≡ es → (names : Names) → names.enums ≡ map listed_enum es → AreEnumsOf b names
+of_names b es places list names are = record {
   found = λ n.
-      let es = (out-Env env).enums.now in
-      ap (λ xs. find (λ e. bytes_eq e.name n.text.now && nat_lt e.place n.place.0) xs) (sym (enums-in env names rest e)) ∙ found n b.list.now [] es list
+      ap (λ xs. find (λ e. bytes_eq e.name n.text.now && nat_lt e.place n.place.0) xs) are ∙ found n b.list.now [] es list
       ∙ ap (λ ss. at n b.list.now (option_map (λ s. s.number) (find (λ s. nat_lt s.place n.place.0) ss))) (sym (places.each n.text.now));
 }

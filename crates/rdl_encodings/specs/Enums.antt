@@ -1,8 +1,8 @@
 -- The enumerations of all open bodies.
-use Rattle.std.specs.Prelude.{◌≡◌, ℕ, List, ◌∷◌, Option, None, Some, slice_get}
+use Rattle.std.specs.Prelude.{◌≡◌, ℕ, List, Option, None, Some, slice_get}
 use Rattle.rdl_tree.specs.declared.value.EnumValues.{EnumValues}
-use Rattle.rdl_values.specs.Seen.{around_of}
-use Rattle.rdl_values.specs.Values.{Around, EnumOf, Names}
+use Rattle.rdl_values.specs.Values.{EnumOf, Names}
+use Rattle.rdl_bodies.specs.Sited.{own_names}
 use Rattle.rdl_bodies.specs.declared.bodies.Bodies.{Bodies}
 use Rattle.rdl_bodies.specs.declared.bodies.Body.{Body}
 use Rattle.rdl_encodings.specs.Body.{AreEnumsOf, under}
@@ -24,4 +24,4 @@ HasEnums t k names = (b : BodyEnums) × (slice_get t.bodies.items k ≡ Some b) 
 
 -- Each open body has those of its own names.
 pub record AreEnumsOfBodies (t : Enums) (bodies : Bodies) : Type 0 where
-  pub each : (k : ℕ) (x : Body) (names : Names) (rest : Around) → slice_get bodies.list.items k ≡ Some x → around_of x.env.now ≡ names ∷ rest → HasEnums t k names
+  pub each : (k : ℕ) (x : Body) → slice_get bodies.list.items k ≡ Some x → HasEnums t k (own_names x)

@@ -2,7 +2,7 @@
 
 use rb_base::NoMemory;
 use rdl_facts::Places;
-use rdl_tree::{EnumValues, Env, Name};
+use rdl_tree::{EnumValues, Name};
 use std::alloc::Global;
 
 /// The enumerations of a body, by their names and in order.
@@ -13,19 +13,19 @@ pub(crate) struct BodyEnums<'a> {
 }
 
 impl<'a> BodyEnums<'a> {
-    ghost use Rattle.std.specs.Prelude.{◌≡◌, ◌∷◌, IfOk, slice_get};
-    ghost use Rattle.rdl_values.specs.Seen.{around_of};
-    ghost use Rattle.rdl_values.specs.Values.{Around, Names};
+    ghost use Rattle.std.specs.Prelude.{◌≡◌, IfOk, map, slice_get};
+    ghost use Rattle.rdl_values.specs.Seen.{listed_enum};
+    ghost use Rattle.rdl_values.specs.Values.{Names};
     ghost use Rattle.rdl_encodings.specs.Body.{AreEnumsOf, number_in};
 
-    /// The enumerations that an environment lists first.
-    pub fn of(alloc: Global, env: &Env<'a>) -> Result<Self, NoMemory>
-        ensures { IfOk result (λ b. (names : Names) (rest : Around) → around_of env.now ≡ names ∷ rest → AreEnumsOf b names) }
+    /// These enumerations.
+    pub fn of(alloc: Global, enums: &'a [EnumValues<'a>]) -> Result<Self, NoMemory>
+        ensures { IfOk result (λ b. (names : Names) → names.enums ≡ map listed_enum enums.now → AreEnumsOf b names) }
     {
-        let places = Places::of(alloc, env.enums)?;
+        let places = Places::of(alloc, enums)?;
         Ok(BodyEnums {
             places,
-            list: env.enums,
+            list: enums,
         })
     }
 

@@ -16,7 +16,7 @@ pub(crate) struct Enums<'a> {
 impl<'a> Enums<'a> {
     ghost use Rattle.std.specs.Prelude.{◌≡◌, ℕ, List, IfOk, option_copied, option_map, slice_get};
     ghost use Rattle.rdl_values.specs.Values.{Around, visible_enum};
-    ghost use Rattle.rdl_bodies.specs.Sited.{HaveEnvs};
+    ghost use Rattle.rdl_bodies.specs.Sited.{HaveNames};
     ghost use Rattle.rdl_bodies.specs.declared.bodies.Bodies.{Bodies as AnyBodies};
     ghost use Rattle.rdl_encodings.specs.Enums.{AreEnumsOfBodies, enum_at, enum_found};
     ghost use Rattle.rdl_encodings.specs.Keyed.{enum_of_key};
@@ -34,7 +34,7 @@ impl<'a> Enums<'a> {
     {
         let mut list = Vec::new(alloc);
         'bodies: while let Some(body) = bodies.body(list.len()) {
-            let enums = BodyEnums::of(alloc, body.env)?;
+            let enums = BodyEnums::of(alloc, body.enums)?;
             list.push(enums)?;
         }
         Ok(Enums { bodies: list })
@@ -50,7 +50,7 @@ impl<'a> Enums<'a> {
     /// The enumeration that a name means in the bodies of these numbers, the nearest first (SystemRDL 2.0, 5.1.4): the number of the
     /// body that has it, and its number there.
     pub fn find(&self, numbers: &[usize], name: &Name<'a>) -> Option<(usize, usize)>
-        ensures { (bodies : AnyBodies) (around : Around) → AreEnumsOfBodies self.now bodies → HaveEnvs bodies.list.items numbers.now around → visible_enum around name.now ≡ option_map (enum_found self.now name.now.text.now) result }
+        ensures { (bodies : AnyBodies) (around : Around) → AreEnumsOfBodies self.now bodies → HaveNames bodies.list.items numbers.now around → visible_enum around name.now ≡ option_map (enum_found self.now name.now.text.now) result }
     {
         for number in numbers {
             let Some(body) = self.body(*number) else {

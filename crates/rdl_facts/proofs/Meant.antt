@@ -3,22 +3,13 @@ use Rattle.std.proofs.Common.{◌≡◌, ◌∙◌, ℕ, suc, ◌==◌, Bool, tr
 use Rattle.std.proofs.lemmas.Bool.Decides.{nat_tests}
 use Rattle.rdl_tree.specs.declared.expr.Name.{Name}
 use Rattle.rdl_tree.specs.declared.value.EnumValues.{EnumValues}
-use Rattle.rdl_tree.specs.declared.value.Env.{Env, Env', out-Env}
 use Rattle.rdl_values.specs.Bodies.{standing, standing_from}
-use Rattle.rdl_values.specs.Seen.{around_of, entry_of, listed_enum}
-use Rattle.rdl_values.specs.Values.{Around, EnumOf, Names}
+use Rattle.rdl_values.specs.Seen.{entry_of, listed_enum}
+use Rattle.rdl_values.specs.Values.{EnumOf, Names}
 use Rattle.rdl_facts.specs.Body.{AreEnumsOf, IsFound}
 use Rattle.rdl_facts.specs.Greatest.{AreEach, AreGreatest, IsGreatest, if_there}
 use Rattle.rdl_facts.specs.Places.{ArePlaces, stands}
 use Rattle.rdl_facts.specs.declared.body.BodyEnums.{BodyEnums}
-
-abbrev first-enums : Around → List EnumOf
-first-enums [] = []
-first-enums (names ∷ rest) = names.enums
-
-enums-in : (env : Env) (names : Names) (rest : Around) → around_of env ≡ names ∷ rest → map listed_enum (out-Env env).enums.now ≡ names.enums
-unfolding out-Env denote.Hole.Carrier.out
-enums-in (Env' bs es outer) names rest e = ap (λ ws. first-enums ws) e
 
 -- the greatest number of the enumeration behind some others
 each-at : (gs : List (Option ℕ)) (before : List EnumValues) (m : EnumValues) (ms : List EnumValues) → AreEach gs (before ++ (m ∷ ms)) → IsGreatest (if_there (slice_get gs (length before))) (map entry_of m.entries.now)
@@ -50,12 +41,12 @@ module _ (b : BodyEnums) (n : Name) where
       go true k = here (nat_lt m.name.place.0 n.place.0) k
       go false k = k
 
-pub of_names : (b : BodyEnums) (env : Env) → ArePlaces b.places (out-Env env).enums.now → AreGreatest b.greatest (out-Env env).enums.now → (names : Names) (rest : Around) → around_of env ≡ names ∷ rest → AreEnumsOf b names
-of_names b env places greatest names rest e = record {
+pub of_names : (b : BodyEnums) (es : List EnumValues) → ArePlaces b.places es → AreGreatest b.greatest es → (names : Names) → names.enums ≡ map listed_enum es → AreEnumsOf b names
+of_names b es places greatest names are = record {
   found = λ n.
-      let all = found b n [] (out-Env env).enums.now greatest in
-      let by : IsFound b (first b n (standing (out-Env env).enums.now)) (find (λ e. bytes_eq e.name n.text.now && nat_lt e.place n.place.0) names.enums) =
-      subst (λ xs. IsFound b (first b n (standing (out-Env env).enums.now)) (find (λ e. bytes_eq e.name n.text.now && nat_lt e.place n.place.0) xs)) (enums-in env names rest e) all in
+      let all = found b n [] es greatest in
+      let by : IsFound b (first b n (standing es)) (find (λ e. bytes_eq e.name n.text.now && nat_lt e.place n.place.0) names.enums) =
+      subst (λ xs. IsFound b (first b n (standing es)) (find (λ e. bytes_eq e.name n.text.now && nat_lt e.place n.place.0) xs)) (sym are) all in
       subst (λ ss. IsFound b (option_map (λ s. s.number) (find (λ s. nat_lt s.place n.place.0) ss)) (find (λ e. bytes_eq e.name n.text.now && nat_lt e.place n.place.0) names.enums)) (sym (places.each n.text.now)) by;
 }
 
@@ -66,5 +57,5 @@ none-in (x ∷ es) e = absurd (some (length es) e)
     some : (k : ℕ) → (suc k == 0) ≡ true → ⊥
     some k q = grind (arith, nat_tests)
 
-pub none_kept : (env : Env) → (length (out-Env env).enums.now == 0) ≡ true → (names : Names) (rest : Around) → around_of env ≡ names ∷ rest → names.enums ≡ []
-none_kept env none names rest e = sym (enums-in env names rest e) ∙ none-in (out-Env env).enums.now none
+pub none_kept : (es : List EnumValues) → (length es == 0) ≡ true → (names : Names) → names.enums ≡ map listed_enum es → names.enums ≡ []
+none_kept es none names are = are ∙ none-in es none

@@ -12,7 +12,7 @@ use Rattle.rdl_values.specs.Scopes.{IsAmong}
 use Rattle.rdl_layers.specs.Says.{IsBodyNumber, IsScopeNumber}
 use Rattle.rdl_layers.specs.Settings.{setting}
 use Rattle.rdl_nodes.proofs.Members.{In, each-in, get-within, in-from, in-place}
-use Rattle.rdl_bodies.specs.Sited.{HaveEnvs}
+use Rattle.rdl_bodies.specs.Sited.{HaveNames}
 use Rattle.rdl_bodies.specs.declared.bodies.Bodies.{Bodies}
 use Rattle.rdl_open_bodies.specs.Spots.{AreSpots, IsOpenAt, IsOpenTree, IsSpot}
 use Rattle.rdl_open_bodies.specs.declared.spots.OpenTree.{OpenTree}
@@ -85,7 +85,7 @@ scope-open e tree open_ n there (l ∷ outer) k within number =
     let first = within.1.0 in
     let own : IsBodyNumber (nodes_of e) first.body.node k = subst (λ s. IsScopeNumber (nodes_of e) s k) first.same number in
     let x = among-open e tree open_ first.body k own n there first.among (slice_get tree.spots.items k) refl in
-    (x.open_, x.here, subst (HaveEnvs tree.bodies.list.items x.open_.numbers.now) (sym (ap around first.same)) x.is.envs)
+    (x.open_, x.here, subst (HaveNames tree.bodies.list.items x.open_.numbers.now) (sym (ap around first.same)) x.is.names)
 
 pub shown : Law → (e : Elab) (tree : OpenTree) (name : Name) (k : ℕ) (scope : Scope) → NamesEnum e tree name k scope → Shows tree (slice_get tree.bodies.list.items (body_or (slice_get tree.spots.items k))) (around scope)
 shown law e tree name k scope h =

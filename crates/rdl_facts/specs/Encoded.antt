@@ -10,7 +10,7 @@ use Rattle.rdl_values.specs.Instances.{Instance}
 use Rattle.rdl_values.specs.Values.{Around}
 use Rattle.rdl_layers.specs.Says.{IsScopeNumber}
 use Rattle.rdl_layers.specs.Settings.{enum_of, setting}
-use Rattle.rdl_bodies.specs.Sited.{HaveEnvs}
+use Rattle.rdl_bodies.specs.Sited.{HaveNames}
 use Rattle.rdl_bodies.specs.declared.bodies.Body.{Body}
 use Rattle.rdl_open_bodies.specs.Spots.{IsOpenTree}
 use Rattle.rdl_open_bodies.specs.declared.spots.OpenTree.{OpenTree}
@@ -21,9 +21,9 @@ abbrev pub body_or : Option Spot → ℕ
 body_or None = 0
 body_or (Some o) = o.body
 
--- the body is open, and the bodies of its numbers are these
+-- the body is open, and the bodies of its numbers have these names
 abbrev pub Shows : OpenTree → Option Body → Around → Type 0
-Shows tree o names = (x : Body) × (o ≡ Some x) × HaveEnvs tree.bodies.list.items x.numbers.now names
+Shows tree o names = (x : Body) × (o ≡ Some x) × HaveNames tree.bodies.list.items x.numbers.now names
 
 -- A property of a node of the tree is set to the enumeration of this name, which is looked up from the body of this number.
 pub record NamesEnum (e : Elab) (tree : OpenTree) (name : Name) (number : ℕ) (scope : Scope) : Type 0 where

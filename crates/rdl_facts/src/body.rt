@@ -3,7 +3,7 @@
 use crate::greatest::Greatest;
 use crate::places::Places;
 use rb_base::NoMemory;
-use rdl_tree::{Env, Name};
+use rdl_tree::{EnumValues, Name};
 use std::alloc::Global;
 
 /// The enumerations of a body by their names, and the greatest number of each.
@@ -14,29 +14,29 @@ pub(crate) struct BodyEnums<'a> {
 }
 
 impl<'a> BodyEnums<'a> {
-    ghost use Rattle.std.specs.Prelude.{◌≡◌, ◌∷◌, Some, IfOk};
-    ghost use Rattle.rdl_values.specs.Seen.{around_of};
-    ghost use Rattle.rdl_values.specs.Values.{Around, Names};
+    ghost use Rattle.std.specs.Prelude.{◌≡◌, Some, IfOk, map};
+    ghost use Rattle.rdl_values.specs.Seen.{listed_enum};
+    ghost use Rattle.rdl_values.specs.Values.{Names};
     ghost use Rattle.rdl_facts.specs.Body.{AreEnumsOf, AreKept, kept_of, number_in};
     ghost use Rattle.rdl_facts.specs.Greatest.{greatest_at};
 
-    /// The enumerations that an environment lists first.
-    pub fn of(alloc: Global, env: &Env<'a>) -> Result<Self, NoMemory>
-        ensures { IfOk result (λ b. (names : Names) (rest : Around) → around_of env.now ≡ names ∷ rest → AreEnumsOf b names) }
+    /// These enumerations.
+    pub fn of(alloc: Global, enums: &[EnumValues<'a>]) -> Result<Self, NoMemory>
+        ensures { IfOk result (λ b. (names : Names) → names.enums ≡ map listed_enum enums.now → AreEnumsOf b names) }
     {
-        let places = Places::of(alloc, env.enums)?;
-        let greatest = Greatest::of(alloc, env.enums)?;
+        let places = Places::of(alloc, enums)?;
+        let greatest = Greatest::of(alloc, enums)?;
         Ok(BodyEnums { places, greatest })
     }
 
-    /// The enumerations that an environment lists first, if there are any.
-    pub fn kept(alloc: Global, env: &Env<'a>) -> Result<Option<Box<Self>>, NoMemory>
-        ensures { IfOk result (λ b. (names : Names) (rest : Around) → around_of env.now ≡ names ∷ rest → AreKept (kept_of (Some b)) names) }
+    /// These enumerations, if there are any.
+    pub fn kept(alloc: Global, enums: &[EnumValues<'a>]) -> Result<Option<Box<Self>>, NoMemory>
+        ensures { IfOk result (λ b. (names : Names) → names.enums ≡ map listed_enum enums.now → AreKept (kept_of (Some b)) names) }
     {
-        if env.enums.is_empty() {
+        if enums.is_empty() {
             return Ok(None);
         }
-        let enums = BodyEnums::of(alloc, env)?;
+        let enums = BodyEnums::of(alloc, enums)?;
         Ok(Some(Box::new(alloc, enums)?))
     }
 

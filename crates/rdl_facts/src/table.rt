@@ -16,7 +16,7 @@ impl<'a> EnumNumbers<'a> {
     ghost use Rattle.std.specs.Prelude.{◌≡◌, IfOk};
     ghost use Rattle.std.specs.Option.{option_copied};
     ghost use Rattle.rdl_values.specs.Values.{Around};
-    ghost use Rattle.rdl_bodies.specs.Sited.{HaveEnvs};
+    ghost use Rattle.rdl_bodies.specs.Sited.{HaveNames};
     ghost use Rattle.rdl_bodies.specs.declared.bodies.Bodies.{Bodies as AnyBodies};
     ghost use Rattle.rdl_facts.specs.Table.{AreNumbersOf, entries_meant, enums_at};
     ghost use Rattle.rdl_facts.specs.Greatest.{IsGreatest};
@@ -27,7 +27,7 @@ impl<'a> EnumNumbers<'a> {
     {
         let mut list = Vec::new(alloc);
         'bodies: while let Some(body) = bodies.body(list.len()) {
-            let enums = BodyEnums::kept(alloc, body.env)?;
+            let enums = BodyEnums::kept(alloc, body.enums)?;
             list.push(enums)?;
         }
         Ok(EnumNumbers { bodies: list })
@@ -46,7 +46,7 @@ impl<'a> EnumNumbers<'a> {
     /// The greatest number of the entries of the enumeration that a name means in the bodies of these numbers, the nearest first
     /// (SystemRDL 2.0, 5.1.4). None where the name means none, or one without entries.
     pub fn greatest(&self, numbers: &[usize], name: &Name<'a>) -> Option<u64>
-        ensures { (bodies : AnyBodies) (around : Around) → AreNumbersOf self.now bodies → HaveEnvs bodies.list.items numbers.now around → IsGreatest result (entries_meant around name.now) }
+        ensures { (bodies : AnyBodies) (around : Around) → AreNumbersOf self.now bodies → HaveNames bodies.list.items numbers.now around → IsGreatest result (entries_meant around name.now) }
     {
         for number in numbers {
             let Some(body) = self.body(*number) else {

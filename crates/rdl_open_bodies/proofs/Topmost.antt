@@ -33,7 +33,7 @@ use Rattle.rdl_values.proofs.Numbered.{At, Deep, bottom}
 use Rattle.rdl_uses.specs.Parts.{StandsAt}
 use Rattle.rdl_bodies.specs.Kept.{AreDistinct, AreKept}
 use Rattle.rdl_bodies.specs.Opened.{IsListed}
-use Rattle.rdl_bodies.specs.Sited.{AreRound, HaveEnvs, IsOpenAs, def_at}
+use Rattle.rdl_bodies.specs.Sited.{AreRound, HaveNames, IsOpenAs, def_at}
 use Rattle.rdl_bodies.specs.declared.bodies.Bodies.{Bodies}
 use Rattle.rdl_bodies.specs.declared.bodies.Body.{Body}
 use Rattle.rdl_bodies.proofs.Adding.{names_bound}
@@ -295,7 +295,7 @@ module _ (e : Elab) (clean : IsClean e) (t : Top) (means : top_use_of (Some (top
     pub top_round : AreRound b x.numbers.now uptos n.closure.scope
     top_round = subst (λ us. AreRound b x.numbers.now us n.closure.scope) (sym ups) (record {
       shown = shown-top;
-      envs = subst (λ c. HaveEnvs b.list.items x.numbers.now (around c.scope)) closure_is open_.envs;
+      names = subst (λ c. HaveNames b.list.items x.numbers.now (around c.scope)) closure_is open_.names;
     })
 
     pub top_defined : def_at b.components.items x.numbers.now uptos ≡ Some t.def.now

@@ -14,20 +14,18 @@ use Rattle.rdl_values.specs.Top.{root, top_seen, top_use_of}
 use Rattle.rdl_failures.specs.Noted.{Holds, with_all}
 use Rattle.rdl_failures.proofs.Sets.{again, held, kept, with_all-append}
 use Rattle.rdl_bodies.specs.Kept.{AreDistinct}
-use Rattle.rdl_bodies.specs.Sited.{HaveEnvs, IsOpenAs}
+use Rattle.rdl_bodies.specs.Sited.{HaveNames, IsOpenAs, own_names}
 use Rattle.rdl_bodies.proofs.Adding.{names_bound, round_alike}
 use Rattle.rdl_children.proofs.Bounds.{bound_distinct}
 use Rattle.rdl_scopes.specs.Scopes.{Shows}
 use Rattle.rdl_failures.specs.Shown.{IsAlike}
 use Rattle.rdl_tree.specs.declared.item.Source.{Source}
-use Rattle.rdl_tree.specs.declared.value.Env.{Env, Env', out-Env}
 use Rattle.rdl_values.specs.Bodies.{around, scope_at}
 use Rattle.rdl_values.specs.Chained.{chained}
 use Rattle.rdl_values.specs.Given.{IsGivenBy}
 use Rattle.rdl_values.specs.Parameters.{bound_of}
-use Rattle.rdl_values.specs.Seen.{around_of, bound_of as pair_bound}
+use Rattle.rdl_values.specs.Seen.{bound_of as pair_bound}
 use Rattle.rdl_values.specs.Uses.{Seen, Use}
-use Rattle.rdl_values.specs.Values.{Around, Val}
 use Rattle.rdl_values.proofs.Given.{IsAtRoot, IsChildOf, children-given, given-all, signals-given}
 use Rattle.plain_lemmas.proofs.Lists.{each-append, each-flat_map, each-imp}
 use Rattle.rdl_bodies.specs.declared.bodies.Bodies.{Bodies}
@@ -241,14 +239,6 @@ can_read t k x can at =
 
 -- The names of a body, and those round it.
 
-bound-first : Around → List (List ℕ × Val)
-bound-first [] = []
-bound-first (n ∷ ws) = n.bound
-
-env-bound : (env : Env) → map pair_bound (out-Env env).bound.now ≡ bound-first (around_of env)
-unfolding bound-first out-Env denote.Hole.Carrier.out
-env-bound (Env' bs es outer) = refl
-
 module _ (t : Bodies) (x : Body) (b : values.Body) (first : ℕ) (rest : List ℕ) (split : x.numbers.now ≡ first ∷ rest) (h : IsOpenAs t x b) where
   shown-split : Shows t.tables.items t.components.items (first ∷ rest) (0 ∷ x.uptos.now) (scope_at b (take 0 x.items.now))
   shown-split = subst (λ ks. Shows t.tables.items t.components.items ks (0 ∷ x.uptos.now) (scope_at b (take 0 x.items.now))) split (h.shown 0)
@@ -256,15 +246,14 @@ module _ (t : Bodies) (x : Body) (b : values.Body) (first : ℕ) (rest : List �
   pub outer_alike : IsAlike (chained t.tables.items rest) (around b.outer)
   outer_alike = round_alike t rest x.uptos.now b.outer shown-split.2
 
-  env-here : HaveEnvs t.list.items (first ∷ rest) (b.names ∷ around b.outer)
-  env-here = subst (λ ks. HaveEnvs t.list.items ks (b.names ∷ around b.outer)) split h.envs
+  names-here : HaveNames t.list.items (first ∷ rest) (b.names ∷ around b.outer)
+  names-here = subst (λ ks. HaveNames t.list.items ks (b.names ∷ around b.outer)) split h.names
 
-  pub own_bound : (own : Body) → slice_get t.list.items first ≡ Some own → map pair_bound (out-Env own.env.now).bound.now ≡ b.names.bound
-  unfolding bound-first
+  pub own_bound : (own : Body) → slice_get t.list.items first ≡ Some own → map pair_bound own.bound.now ≡ b.names.bound
   own_bound own at =
-      let both : Some env-here.0.0 ≡ Some own = sym env-here.0.1 ∙ at in
-      let same : env-here.0.0 ≡ own = cc in
-      env-bound own.env.now ∙ ap bound-first (subst (λ y. around_of y.env.now ≡ b.names ∷ around b.outer) same env-here.0.2)
+      let both : Some names-here.0.body ≡ Some own = sym names-here.0.here ∙ at in
+      let same : names-here.0.body ≡ own = cc in
+      ap (λ n. n.bound) (subst (λ y. own_names y ≡ b.names) same names-here.0.names_are)
 
 pub first_split : (ks : List ℕ) (k : ℕ) → slice_get ks 0 ≡ Some k → ks ≡ k ∷ drop 1 ks
 first_split [] k e = cc
@@ -279,6 +268,6 @@ first_missing t x b h none = go x.numbers.now none (h.shown 0)
 
 pub own_missing : (t : Bodies) (x : Body) (b : values.Body) (first : ℕ) (rest : List ℕ) → x.numbers.now ≡ first ∷ rest → IsOpenAs t x b → slice_get t.list.items first ≡ None → ⊥
 own_missing t x b first rest split h none =
-    let env = subst (λ ks. HaveEnvs t.list.items ks (b.names ∷ around b.outer)) split h.envs in
-    let both : Some env.0.0 ≡ None = sym env.0.1 ∙ none in
+    let have = subst (λ ks. HaveNames t.list.items ks (b.names ∷ around b.outer)) split h.names in
+    let both : Some have.0.body ≡ None = sym have.0.here ∙ none in
     cc

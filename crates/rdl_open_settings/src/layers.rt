@@ -80,7 +80,7 @@ fn enums_of<'a>(
     let Some(own) = bodies.body(first) else {
         return Ok(());
     };
-    let table = table_of(alloc, own.env.bound)?;
+    let table = table_of(alloc, own.bound)?;
     let outer = Outer {
         tables: bodies.tables(),
         numbers: rest_of(body.numbers),

@@ -4,7 +4,7 @@ use Rattle.rdl_values.specs.Bodies.{around}
 use Rattle.rdl_values.specs.Elaborated.{nodes_of}
 use Rattle.rdl_layers.specs.Says.{Says}
 use Rattle.rdl_layers.specs.Settings.{setting}
-use Rattle.rdl_bodies.specs.Sited.{HaveEnvs}
+use Rattle.rdl_bodies.specs.Sited.{HaveNames}
 use Rattle.rdl_bodies.specs.declared.bodies.Body.{Body}
 use Rattle.rdl_facts.proofs.Wide.{enum_said, no_enum, of_enum}
 use Rattle.rdl_facts.proofs.encoded.has_wide_entry.Goals as goal
@@ -19,8 +19,8 @@ returns-in-Some c = λ e n clean open_ numbers there entries width.
     let shown = c.body_round.ensures e name.now named.scope (record { clean = clean; open_ = open_; node = n; there = there; prop = prop.Encode; named = named.is; seen_from = named.number }) in
     let both : Some shown.0 ≡ Some x = sym shown.1 ∙ c.in-Some.is in
     let same : shown.0 ≡ x = cc in
-    let envs = subst (λ (y : Body). HaveEnvs t.bodies.list.items y.numbers.now (around named.scope)) same shown.2 in
-    c.is_wide.ensures ∙ of_enum n c.args.width c.greatest.result name.now named.scope named.is width (c.greatest.ensures t.bodies (around named.scope) numbers envs)
+    let have = subst (λ (y : Body). HaveNames t.bodies.list.items y.numbers.now (around named.scope)) same shown.2 in
+    c.is_wide.ensures ∙ of_enum n c.args.width c.greatest.result name.now named.scope named.is width (c.greatest.ensures t.bodies (around named.scope) numbers have)
 
 pub returns-in-None : goal.returns-in-None
 returns-in-None c = λ e n clean open_ numbers there entries width.
