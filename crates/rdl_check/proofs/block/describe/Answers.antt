@@ -5,7 +5,7 @@ use Rattle.rdl_check.proofs.block.describe.Goals as goal
 pub returns : goal.returns
 returns c =
     let e = c.args.elab.now in
-    let made_ = c.in_ok-ordered_lists.ensures in
+    let made_ = c.in_ok-lists.ensures in
     let lists = made_.lists in
     let words = c.in_ok-words.ensures in
     made e _ c.requires.clear lists.signals_ lists.fields_ lists.views_ lists.regs_ words.reads words.writes c.in_ok-name.ensures refl
