@@ -37,7 +37,7 @@ use Rattle.rdl_refs.specs.Leads.{led_to}
 use Rattle.rdl_rules.specs.Numbers as numbers
 use Rattle.rdl_rules.specs.RegisterRules.{of_alias}
 use Rattle.rdl_verdict_laws.proofs.FurtherSources.{quoted_name, far_registers, alias_of_no_node, wire_of_a_signal}
-use Rattle.rdl_verdict_laws.proofs.WorkedTrees.{at, name, component, step_to, path_of}
+use Rattle.rdl_verdict_laws.proofs.WorkedTrees.{lend, at, name, component, step_to, path_of}
 
 -- a string has the bytes between its quotes, each backslash one of them
 quoted_name_bytes : map (λ n. setting n prop.Name) (nodes None quoted_name) ≡ text (92 ∷ 34 ∷ 113 ∷ 92 ∷ 34 ∷ []) ∷ []
@@ -88,7 +88,7 @@ unfolding nodes lineages setting items led_to layout all_groups failures3 failur
 width_is_said = refl
 
 -- a reference, by the number of the register in whose body its assignment stands
-reference_is_said : Says (nodes None wire_of_a_signal) (set.Ref (path_of (step_to (name (codes "s") 66) [] ∷ [])) None 2 (at 56)) (setting (node_at 3) prop.Next)
+reference_is_said : Says (nodes None wire_of_a_signal) (set.Ref (lend (path_of (step_to (name (codes "s") 66) [] ∷ []))) (lend None) 2 (at 56)) (setting (node_at 3) prop.Next)
 unfolding nodes lineages setting items led_to layout all_groups failures3 failures4 failures_ab failures_r edges_of digits props reference_props left_out_names roll-Path denote.Hole.Carrier.roll Rattle.rdl_tree.specs.declared.expr.Expr.TheBlock.hidden-the_row-Step-1 denote.Hole.Carrier.hidden Rattle.rdl_tree.specs.declared.item.Item.TheBlock.hidden-the_row-Item-0
 reference_is_said = (refl, refl, (node_at 2, refl, refl), refl)
 
