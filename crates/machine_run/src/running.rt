@@ -29,11 +29,13 @@ pub(crate) fn machine_text(
         × (text.items ≡ printed_run (output_pins block.now) results)) }
 {
     let mut machine = Machine::new(alloc, block)?;
+    let mut pins = vec![in alloc; 0u128; table.width()]?;
     let mut outs = vec![in alloc; 0u128; outputs.len()]?;
     let mut text = Vec::new(alloc);
     push_names(&mut text, outputs)?;
     for at in 0..table.rows() {
-        machine.step(table.row(at), &mut outs);
+        table.row_into(at, &mut pins);
+        machine.step(&pins, &mut outs);
         push_numbers(&mut text, &outs)?;
     }
     Ok(text)

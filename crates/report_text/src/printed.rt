@@ -1,6 +1,6 @@
 //! Lines of cells.
 
-ghost use Rattle.std.specs.Prelude.{◌≡◌, ◌≤◌, ◌<◌, ◌*◌, ◌/◌, ◌^◌, ◌++◌, false, OnOk, map};
+ghost use Rattle.std.specs.Prelude.{◌≡◌, ◌≤◌, ◌<◌, ◌*◌, ◌/◌, ◌^◌, ◌++◌, ◌∷◌, false, OnOk, map};
 ghost use Rattle.std.specs.Fmt.{digits, digit_glyph};
 ghost use Rattle.report_text.specs.Printed.{line, cell};
 
@@ -113,15 +113,51 @@ pub fn push_number(text: &mut Vec<u8>, number: u128) -> Result<(), NoMemory>
     }
 }
 
+/// Adds a number of one digit as a cell behind a comma, all at once.
+fn push_next_digit(text: &mut Vec<u8>, number: u64) -> Result<(), NoMemory>
+    requires { number < 16 }
+    ensures { OnOk result (text.new.items ≡ text.old.items ++ 44 ∷ cell number) }
+{
+    text.extend_from_slice(&[b',', b'0', b'x', hex_digit(number)])?;
+    Ok(())
+}
+
+/// Adds a number of two digits as a cell behind a comma, all at once.
+fn push_next_two_digits(text: &mut Vec<u8>, number: u64) -> Result<(), NoMemory>
+    requires two { 16 ≤ number }
+    requires no_more { number < 256 }
+    ensures { OnOk result (text.new.items ≡ text.old.items ++ 44 ∷ cell number) }
+{
+    let first = hex_digit(number / 16);
+    let second = hex_digit(number % 16);
+    text.extend_from_slice(&[b',', b'0', b'x', first, second])?;
+    Ok(())
+}
+
+/// Adds a number as a cell behind a comma.
+fn push_next(text: &mut Vec<u8>, number: u128) -> Result<(), NoMemory>
+    ensures { OnOk result (text.new.items ≡ text.old.items ++ 44 ∷ cell number) }
+{
+    if number < 16 {
+        return push_next_digit(text, number as u64);
+    }
+    if number < 256 {
+        return push_next_two_digits(text, number as u64);
+    }
+    text.push(b',')?;
+    push_number(text, number)
+}
+
 /// Adds numbers in hexadecimal digits as a line, with commas between.
 pub fn push_numbers(text: &mut Vec<u8>, numbers: &[u128]) -> Result<(), NoMemory>
     ensures { OnOk result (text.new.items ≡ text.old.items ++ line (map cell numbers.now)) }
 {
     for (index, number) in numbers.iter().enumerate() {
         if index > 0 {
-            text.push(b',')?;
+            push_next(text, *number)?;
+        } else {
+            push_number(text, *number)?;
         }
-        push_number(text, *number)?;
     }
     text.push(b'\n')?;
     Ok(())

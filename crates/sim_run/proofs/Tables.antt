@@ -1,17 +1,15 @@
 -- The pins of a module that was read, for a table.
-use Rattle.std.specs.List.{AllByRecursion, AllPairs, AllZip}
+use Rattle.std.specs.List.{AllByRecursion, AllPairs}
 use Rattle.std.specs.Str.{bytes_eq}
-use Rattle.std.proofs.Common.{◌≡◌, ◌≢◌, ◌⊎◌, ℕ, zero, suc, ◌+◌, ◌<◌, ◌≤◌, ◌^◌, Bool, true, false, not, ◌&&◌, ◌||◌, Ok, Err, List, [], ◌∷◌, ◌++◌, length, map, filter, replicate, refl, ap, sym, ◌∙◌, subst, arith, inl, inr}
+use Rattle.std.proofs.Common.{◌≡◌, ◌≢◌, ◌⊎◌, ℕ, suc, ◌≤◌, Bool, true, false, not, Ok, Err, List, [], ◌∷◌, ◌++◌, length, map, replicate, refl, ap, sym, subst, arith, inl, inr}
 use Rattle.std.proofs.lemmas.List.Elements.{All-from_recursion}
 use Rattle.std.proofs.lemmas.List.Kept.{AllPairs-cons}
 use Rattle.std.proofs.lemmas.Nat.{pow_pos}
 use Rattle.rb_base.specs.declared.ports.Pin.{Pin}
 use Rattle.rb_base.specs.declared.ports.Port.{Port}
 use Rattle.v_design.specs.declared.design.Design.{Design}
-use Rattle.v_design.specs.Expr.{Values}
 use Rattle.v_design.specs.Lexemes.{among}
-use Rattle.v_design.specs.Tree.{Tree}
-use Rattle.v_design.specs.Design.{Module, module_of, inputs, outputs, inputs_among, outputs_among, is_data_input, is_output, port_pin}
+use Rattle.v_design.specs.Design.{inputs, outputs, inputs_among, outputs_among, is_data_input, is_output, port_pin}
 use Rattle.v_design.specs.WellFormed.{IsWellFormed, distinct, names, nets, port_net, decl_net}
 use Rattle.v_design.specs.WellFormed as formed
 use Rattle.v_design.specs.Run.{values_at}

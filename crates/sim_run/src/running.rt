@@ -26,11 +26,13 @@ pub(crate) fn module_run(
 {
     let start = vec![in alloc; 0u128; design.registers().len()]?;
     let mut sim = Sim::new(alloc, design, &start)?;
+    let mut pins = vec![in alloc; 0u128; table.width()]?;
     let mut outs = vec![in alloc; 0u128; design.outputs().len()]?;
     let mut text = Vec::new(alloc);
     push_names(&mut text, design.outputs())?;
     for at in 0..table.rows() {
-        sim.step(table.row(at), &mut outs);
+        table.row_into(at, &mut pins);
+        sim.step(&pins, &mut outs);
         push_numbers(&mut text, &outs)?;
     }
     Ok(text)

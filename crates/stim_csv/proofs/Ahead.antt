@@ -5,7 +5,7 @@ use Rattle.std.specs.List.{AllByRecursion, list_all, starts_with}
 use Rattle.std.specs.Str.Parse.{digits_value}
 use Rattle.std.proofs.Math.Seq.{drop-cons}
 use Rattle.std.proofs.lemmas.Bool.Decides.{nat_tests}
-use Rattle.std.proofs.lemmas.List.{take_all, length-drop, take-append-drop, drop-drop}
+use Rattle.std.proofs.lemmas.List.{take_all, length-drop, take-append-drop, drop-drop, get_or-drop}
 use Rattle.stim_csv.specs.Numeral.{cell_value, numeral_value, fits}
 use Rattle.stim_csv.specs.Plain.{is_plain, Leads, IsCellAhead, IsCellBefore}
 
@@ -117,3 +117,29 @@ before text at n k separator width low cell is fit =
 
 pub before_within : (text : List ℕ) (at n k : ℕ) → at ≤ length text → IsCellAhead (drop at text) n k → at + k < length text
 before_within text at n k low cell = omega (arith, length-drop at text, cell.within, low)
+
+one_value : (text : List ℕ) → 2 < length text → is_digit (get_or text 2 0) 16 ≡ true → numeral_value 16 (take 1 (drop 2 text)) ≡ Some (digit_value (get_or text 2 0))
+one_value text low digit = ap (λ r. numeral_value 16 (take 1 r)) (drop-cons text 2 0 low) ∙ rw digit (ap Some (plain_sum (digit_value (get_or text 2 0))))
+  where
+    plain_sum : (d : ℕ) → 0 + d ≡ d
+    plain_sum d = omega arith
+
+marked : (text : List ℕ) → 3 < length text → get_or text 0 0 ≡ 48 → get_or text 1 0 ≡ 120 → starts_with nat_eq text (codes "0x") ≡ true
+marked [] low a b = absurd (omega (arith, low))
+marked (x ∷ []) low a b = absurd (omega (arith, low))
+marked (x ∷ y ∷ text) low a b = rw (a, b) refl
+
+-- a cell of one hexadecimal digit
+pub one : (text : List ℕ) (n : ℕ) → 3 < length text → get_or text 0 0 ≡ 48 → get_or text 1 0 ≡ 120 → is_digit (get_or text 2 0) 16 ≡ true → n ≡ digit_value (get_or text 2 0) → IsCellAhead text n 3
+one text n low a b digit is =
+    hexadecimal text n 1 (marked text low a b) (record { within = omega (arith, low, length-drop 2 text); value = one_value text (omega (arith, low)) digit ∙ ap Some (sym is) })
+
+-- a cell of one hexadecimal digit at a place, and the byte behind it
+pub one_before : (text : List ℕ) (at n separator width : ℕ) → at + 4 ≤ length text → get_or text at 0 ≡ 48 → get_or text (at + 1) 0 ≡ 120 → get_or text (at + 3) 0 ≡ separator
+    → is_digit (get_or text (at + 2) 0) 16 ≡ true → n ≡ digit_value (get_or text (at + 2) 0) → fits width n ≡ true → IsCellBefore separator width (drop at text) (drop (at + 4) text) n
+one_before text at n separator width low a b end digit is fit =
+    let next : at + 3 + 1 ≡ at + 4 = omega arith in
+    let none : at + 0 ≡ at = omega arith in
+    let there : (i : ℕ) → get_or (drop at text) i 0 ≡ get_or text (at + i) 0 = λ i. get_or-drop at text i 0 in
+    let cell = one (drop at text) n (omega (arith, low, length-drop at text)) (there 0 ∙ (ap (λ k. get_or text k 0) none ∙ a)) (there 1 ∙ b) (ap (λ d. is_digit d 16) (there 2) ∙ digit) (is ∙ ap digit_value (sym (there 2))) in
+    subst (λ m. IsCellBefore separator width (drop at text) (drop m text) n) next (before text at n 3 separator width (omega (arith, low)) cell end fit)

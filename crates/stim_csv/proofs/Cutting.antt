@@ -1,6 +1,6 @@
 -- Lists of one length, one behind the other.
 use Rattle.std.proofs.Common.{◌≡◌, ℕ, zero, suc, ◌+◌, ◌*◌, ◌<◌, ◌≤◌, List, [], ◌∷◌, ◌++◌, length, get_or, take, drop, refl, ap, sym, ◌∙◌, arith}
-use Rattle.std.proofs.lemmas.List.{take-append-le, drop-append-le, drop-drop, take_all, length-drop}
+use Rattle.std.proofs.lemmas.List.{take-append-le, drop-append-le, drop-drop, take_all, length-drop, length-take, get_or-take, get_or-drop}
 use Rattle.stim_csv.specs.Vectors.{cut}
 
 pub length-cut : (w n : ℕ) (xs : List ℕ) → length (cut w n xs) ≡ n
@@ -37,3 +37,23 @@ cut-push w (suc n) xs ys p q =
 -- a list at a place lies within
 pub within : (at rows w : ℕ) → at < rows → at * w + w ≤ rows * w
 within at rows w h = grind arith
+
+-- a number of a list at a place
+pub get_or-row : (w n k i : ℕ) (xs : List ℕ) → k < n → i < w → get_or (get_or (cut w n xs) k []) i 0 ≡ get_or xs (k * w + i) 0
+get_or-row w n k i xs low p = ap (λ l. get_or l i 0) (get_or-cut w n xs k low) ∙ (get_or-take w (drop (k * w) xs) i 0 p ∙ get_or-drop (k * w) xs i 0)
+
+-- a list that is there: where it stands, what it is, and how long
+pub row_of : (w n : ℕ) (xs : List ℕ) (seen : List (List ℕ)) (at : ℕ) → cut w n xs ≡ seen → at < length seen → length xs ≡ n * w
+    → (at * w + w ≤ length xs) × (get_or seen at [] ≡ take w (drop (at * w) xs)) × (length (get_or seen at []) ≡ w)
+row_of w n xs seen at is low whole =
+    let below : at < n = omega (arith, ap length is, length-cut w n xs, low) in
+    let row : get_or seen at [] ≡ take w (drop (at * w) xs) = ap (λ rs. get_or rs at []) (sym is) ∙ get_or-cut w n xs at below in
+    let fits : at * w + w ≤ length xs = omega (arith, within at n w below, whole) in
+    (fits, row, ap length row ∙ omega (arith, length-take w (drop (at * w) xs), length-drop (at * w) xs, fits))
+
+pub number_there : (w n : ℕ) (xs : List ℕ) (seen : List (List ℕ)) (at i : ℕ) → cut w n xs ≡ seen → at < length seen → length xs ≡ n * w → i < length (get_or seen at [])
+    → (at * w + i < length xs) × (get_or xs (at * w + i) 0 ≡ get_or (get_or seen at []) i 0)
+number_there w n xs seen at i is low whole p =
+    let row = row_of w n xs seen at is low whole in
+    let below : at < n = omega (arith, ap length is, length-cut w n xs, low) in
+    (omega (arith, row.0, row.2, p), sym (get_or-row w n at i xs below (omega (arith, p, row.2))) ∙ ap (λ rs. get_or (get_or rs at []) i 0) is)

@@ -5,6 +5,8 @@ pub mod Fitting
 mod Headers
 mod Keeping
 mod Lines
+mod NumberCells
+mod Picking
 mod PlainRows
 mod PlainTables
 mod Positions

@@ -3,10 +3,10 @@ use Rattle.std.proofs.Common.{◌≡◌, ℕ, ◌+◌, ◌*◌, ◌<◌, ◌≤�
 use Rattle.std.specs.List.{AllByRecursion}
 use Rattle.std.specs.Str.{bytes_eq}
 use Rattle.std.proofs.lemmas.Bool.Decides.{nat_tests}
-use Rattle.std.proofs.lemmas.List.{length-map}
+use Rattle.std.proofs.lemmas.List.{length-map, map-append}
 use Rattle.rb_base.specs.declared.ports.Pin.{Pin}
 use Rattle.stim_csv.specs.Vectors.{cut}
-use Rattle.stim_csv.specs.Columns.{IsHeaderOf, AreColumns, numbers_in}
+use Rattle.stim_csv.specs.Columns.{IsHeaderOf, AreColumns, numbers_in, picked}
 use Rattle.stim_csv.specs.PinTable.{Cells, first_problem, row_problem, cells_problem, cell_problem, is_too_many, number_of, column_of, width_of, number_under, vector_of, header_problem, table_under}
 use Rattle.stim_csv.specs.declared.header.Header.{Header}
 use Rattle.stim_csv.specs.declared.error.StimError.{StimError}
@@ -47,32 +47,32 @@ pub columns_below : (n m : ℕ) (columns : List ℕ) → n ≡ m → AllByRecurs
 columns_below n m columns e h = subst (λ k. AllByRecursion (λ c. c < k) columns) e h
 
 -- numbers picked from those of all cells are those of the cells picked
-pub picked : (cells : Cells) (numbers columns : List ℕ) → numbers ≡ map number_of cells → AllByRecursion (λ c. c < length cells) columns → map (λ c. get_or numbers c 0) columns ≡ numbers_in columns cells
-picked cells numbers [] is low = refl
-picked cells numbers (c ∷ cs) is low =
+picked_cells : (cells : Cells) (numbers columns : List ℕ) → numbers ≡ map number_of cells → AllByRecursion (λ c. c < length cells) columns → picked columns numbers ≡ numbers_in columns cells
+picked_cells cells numbers [] is low = refl
+picked_cells cells numbers (c ∷ cs) is low =
     let here : get_or numbers c 0 ≡ number_of (get_or cells c []) = ap (λ l. get_or l c 0) is ∙ get_or-mapped number_of cells c [] 0 low.0 in
-    ap (λ x. x ∷ map (λ k. get_or numbers k 0) cs) here ∙ ap (λ l. number_of (get_or cells c []) ∷ l) (picked cells numbers cs is low.1)
+    ap (λ x. x ∷ picked cs numbers) here ∙ ap (λ l. number_of (get_or cells c []) ∷ l) (picked_cells cells numbers cs is low.1)
 
 -- the vectors after one more row
-pub vectors-after : (columns : List ℕ) (all left rest : List Cells) (cells : Cells) (flat flat' numbers : List ℕ) (row : ℕ)
-    → map (numbers_in columns) all ≡ cut (length columns) row flat ++ map (numbers_in columns) left → left ≡ cells ∷ rest
-    → length flat ≡ row * length columns → numbers ≡ map number_of cells → AllByRecursion (λ c. c < length cells) columns
-    → flat' ≡ flat ++ map (λ c. get_or numbers c 0) columns
-    → map (numbers_in columns) all ≡ cut (length columns) (row + 1) flat' ++ map (numbers_in columns) rest
-vectors-after columns all left rest cells flat flat' numbers row was is whole read low pushed =
+pub vectors-after : (columns : List ℕ) (w : ℕ) (all left rest : List Cells) (cells : Cells) (flat flat' numbers : List ℕ) (row : ℕ)
+    → map (numbers_in columns) all ≡ map (picked columns) (cut w row flat) ++ map (numbers_in columns) left → left ≡ cells ∷ rest
+    → length flat ≡ row * w → numbers ≡ map number_of cells → length cells ≡ w → AllByRecursion (λ c. c < w) columns → flat' ≡ flat ++ numbers
+    → map (numbers_in columns) all ≡ map (picked columns) (cut w (row + 1) flat') ++ map (numbers_in columns) rest
+vectors-after columns w all left rest cells flat flat' numbers row was is whole read long low pushed =
     let vector = numbers_in columns cells in
-    let grown : flat' ≡ flat ++ vector = pushed ∙ ap (λ l. flat ++ l) (picked cells numbers columns read low) in
-    let one : cut (length columns) (row + 1) flat' ≡ cut (length columns) row flat ++ (vector ∷ [])
-    = rw (add-one row, grown) (cut-push (length columns) row flat vector whole (length-map columns (λ c. number_of (get_or cells c [])))) in
-    was ∙ (ap (λ l. cut (length columns) row flat ++ map (numbers_in columns) l) is
-    ∙ (sym (append_assoc (cut (length columns) row flat) (vector ∷ []) (map (numbers_in columns) rest)) ∙ ap (λ l. l ++ map (numbers_in columns) rest) (sym one)))
+    let before = map (picked columns) (cut w row flat) in
+    let full : length numbers ≡ w = ap length read ∙ (length-map cells number_of ∙ long) in
+    let one : cut w (row + 1) flat' ≡ cut w row flat ++ (numbers ∷ []) = rw (pushed, add-one row) (cut-push w row flat numbers whole full) in
+    let here : picked columns numbers ≡ vector = picked_cells cells numbers columns read (columns_below w (length cells) columns (sym long) low) in
+    let more : map (picked columns) (cut w (row + 1) flat') ≡ before ++ (vector ∷ []) = ap (map (picked columns)) one ∙ (map-append (picked columns) (cut w row flat) (numbers ∷ []) ∙ ap (λ v. before ++ (v ∷ [])) here) in
+    was ∙ (ap (λ l. before ++ map (numbers_in columns) l) is ∙ (sym (append_assoc before (vector ∷ []) (map (numbers_in columns) rest)) ∙ ap (λ l. l ++ map (numbers_in columns) rest) (sym more)))
 
-pub whole-after : (columns flat flat' numbers : List ℕ) (row : ℕ) → length flat ≡ row * length columns → flat' ≡ flat ++ map (λ c. get_or numbers c 0) columns → length flat' ≡ (row + 1) * length columns
-whole-after columns flat flat' numbers row whole pushed =
-    let long = length-map columns (λ c. get_or numbers c 0) in
-    let both = length-append flat (map (λ c. get_or numbers c 0) columns) in
-    let more = suc_times row (length columns) in
-    rw (pushed, add-one row) (omega (arith, long, both, more, whole))
+pub whole-after : (flat flat' numbers : List ℕ) (cells : Cells) (row w : ℕ) → length flat ≡ row * w → numbers ≡ map number_of cells → length cells ≡ w → flat' ≡ flat ++ numbers → length flat' ≡ (row + 1) * w
+whole-after flat flat' numbers cells row w whole read long pushed =
+    let full : length numbers ≡ w = ap length read ∙ (length-map cells number_of ∙ long) in
+    let both = length-append flat numbers in
+    let more = suc_times row w in
+    rw (pushed, add-one row) (omega (arith, both, more, whole, full))
 
 -- the columns of a header are its columns
 pub are_columns : (pins : List Pin) (names : Cells) (header : Header) → IsHeaderOf pins names header → AreColumns header
@@ -116,19 +116,12 @@ pub header_refused : (pins : List Pin) (outputs : ℕ) (names : Cells) (rows : L
 header_refused pins outputs names rows e h = rw h refl
 
 -- no row is kept before the first
-pub cut_none : (w : ℕ) (flat : List ℕ) (rows : List (List ℕ)) → rows ≡ cut w 0 flat ++ rows
+pub cut_none : (columns : List ℕ) (w : ℕ) (flat : List ℕ) (rows : List (List ℕ)) → rows ≡ map (picked columns) (cut w 0 flat) ++ rows
 unfolding cut
-cut_none w flat rows = refl
+cut_none columns w flat rows = refl
 
 pub empty_length : (xs : List ℕ) (w : ℕ) → xs ≡ [] → length xs ≡ 0 * w
 empty_length xs w is = ap length is ∙ omega arith
-
--- the columns of a full row are places among its numbers
-pub columns_in : (widths columns columns' numbers numbers' : List ℕ) (cells : Cells) → length cells ≡ length widths → numbers ≡ map number_of cells → AllByRecursion (λ c. c < length widths) columns
-    → columns' ≡ columns → numbers' ≡ numbers → AllByRecursion (λ c. c < length numbers') columns'
-columns_in widths columns columns' numbers numbers' cells full read low same same' =
-    let n : length widths ≡ length numbers' = sym full ∙ (sym (length-map cells number_of) ∙ ap length (sym (same' ∙ read))) in
-    subst (λ cs. AllByRecursion (λ c. c < length numbers') cs) (sym same) (columns_below (length widths) (length numbers') columns n low)
 
 -- a row that is not one too many is below the most
 pub below_most : (row outputs : ℕ) → row ≤ 1000000 → is_too_many row outputs ≡ false → row + 1 ≤ 1000000

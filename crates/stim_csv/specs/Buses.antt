@@ -1,5 +1,5 @@
 -- The bus at the rows of a table whose first pins are the bus's, and where they break its protocol (IHI 0024B).
-use Rattle.std.specs.Prelude.{ℕ, ◌+◌, ◌<◌, ◌≤◌, List, [], length, take, slice_index}
+use Rattle.std.specs.Prelude.{ℕ, ◌+◌, ◌<◌, ◌≤◌, List, length, take, slice_index}
 use Rattle.rb_model.specs.Protocol.{Bus, KeepsProtocol}
 
 -- the row has a number for each of the bus's six pins

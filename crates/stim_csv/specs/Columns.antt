@@ -1,5 +1,5 @@
 -- What a header of the program says of a table's header.
-use Rattle.std.specs.Prelude.{◌≡◌, ℕ, ◌<◌, Option, Some, None, List, [], map, length, slice_index_or}
+use Rattle.std.specs.Prelude.{◌≡◌, ℕ, ◌<◌, Option, Some, None, List, [], map, length, slice_index, slice_index_or}
 use Rattle.std.specs.List.{AllByRecursion}
 use Rattle.rb_base.specs.declared.ports.Pin.{Pin}
 use Rattle.stim_csv.specs.PinTable.{Cells, column_of, width_of, number_of}
@@ -24,3 +24,7 @@ AreColumns header = AllByRecursion (λ c. c < length header.widths.items) header
 -- the numbers of the cells in these columns
 abbrev pub numbers_in : List ℕ → Cells → List ℕ
 numbers_in columns cells = map (λ c. number_of (slice_index_or cells c [])) columns
+
+-- the numbers of a row in these columns
+abbrev pub picked : List ℕ → List ℕ → List ℕ
+picked columns row = map (λ c. slice_index row c) columns

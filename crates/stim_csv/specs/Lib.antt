@@ -1,5 +1,6 @@
 pub mod Buses
 pub mod Columns
+pub mod Numbers
 pub mod Numeral
 pub mod PinTable
 pub mod Plain

@@ -52,6 +52,12 @@ pub record IsRow (widths : List ℕ) (text rest : List ℕ) (numbers : List ℕ)
   pub sound : (row : ℕ) → cells_problem widths row cells ≡ None
   pub numbers_are : numbers ≡ map number_of cells
 
+-- the numbers of such a row were added
+pub record AddsRow (widths : List ℕ) (text rest : List ℕ) (old new : List ℕ) : Type 0 where
+  pub numbers : List ℕ
+  pub added : new ≡ old ++ numbers
+  pub row : IsRow widths text rest numbers
+
 -- the records of a text from the beginning of one on
 abbrev pub rows_at : List ℕ → ℕ → List Cells
 rows_at text at = records_after StartRecord (Some (drop at text))

@@ -36,9 +36,32 @@ fn cell_ahead(text: &[u8]) -> Option<(u64, usize)>
     }
 }
 
-/// The number of the cell at a place of a text, and the place past it and the byte behind it, where that is the separator and
-/// the number fits so many bits.
-pub(crate) fn cell_before(text: &[u8], at: usize, separator: u8, width: u8) -> Option<(u64, usize)>
+/// The number of the cell at a place of a text, where it is one hexadecimal digit behind `0x`, this byte follows, and the
+/// number fits so many bits.
+#[inline(always)]
+fn one_digit(text: &[u8], at: usize, separator: u8, width: u8) -> Option<u64>
+    requires { at ≤ length text.now }
+    ensures within { IfSome result (λ n. at + 4 ≤ length text.now) }
+    ensures cell { IfSome result (λ n. IsCellBefore separator width (drop at text.now) (drop (at + 4) text.now) n) }
+{
+    if text.len() - at < 4 {
+        return None;
+    }
+    if text[at] != b'0' || text[at + 1] != b'x' || text[at + 3] != separator {
+        return None;
+    }
+    let digit = char::from(text[at + 2]).to_digit(16)?;
+    let number = u64::from(digit);
+    if is_narrow_within(number, width) {
+        Some(number)
+    } else {
+        None
+    }
+}
+
+/// As `cell_before`, whatever the cell.
+#[cold]
+fn long_cell_before(text: &[u8], at: usize, separator: u8, width: u8) -> Option<(u64, usize)>
     requires { at ≤ length text.now }
     ensures within { IfSome result (λ r. r.1 ≤ length text.now) }
     ensures cell { IfSome result (λ r. IsCellBefore separator width (drop at text.now) (drop r.1 text.now) r.0) }
@@ -48,5 +71,19 @@ pub(crate) fn cell_before(text: &[u8], at: usize, separator: u8, width: u8) -> O
         Some((number, at + count + 1))
     } else {
         None
+    }
+}
+
+/// The number of the cell at a place of a text, and the place past it and the byte behind it, where that is the separator and
+/// the number fits so many bits. A cell of one digit is read at once.
+#[inline(always)]
+pub(crate) fn cell_before(text: &[u8], at: usize, separator: u8, width: u8) -> Option<(u64, usize)>
+    requires { at ≤ length text.now }
+    ensures within { IfSome result (λ r. r.1 ≤ length text.now) }
+    ensures cell { IfSome result (λ r. IsCellBefore separator width (drop at text.now) (drop r.1 text.now) r.0) }
+{
+    match one_digit(text, at, separator, width) {
+        Some(number) => Some((number, at + 4)),
+        None => long_cell_before(text, at, separator, width),
     }
 }

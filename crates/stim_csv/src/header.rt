@@ -1,5 +1,5 @@
 //! The header of a table: which pin each column is of.
-ghost use Rattle.std.specs.Prelude.{◌≡◌, ◌≢◌, ℕ, ◌<◌, None, Some, Option, OnOk, IfOk, IfErr, IfSome, AllPairs, List, map, take, length, []};
+ghost use Rattle.std.specs.Prelude.{◌≡◌, ◌≢◌, ℕ, ◌<◌, ◌++◌, None, Some, Option, OnOk, IfOk, IfErr, IfSome, AllPairs, List, map, take, length, []};
 ghost use Rattle.std.specs.BTreeMap.{get_by};
 ghost use Rattle.std.specs.Cmp.Lexicographic.{slice_cmp};
 ghost use Rattle.std.specs.Ordering.{nat_cmp};
@@ -10,6 +10,7 @@ ghost use Rattle.stim_csv.specs.PinTable.{header_problem, width_of, cells_proble
 
 use crate::cells::cell as read_cell;
 use crate::error::StimError;
+use crate::numbers::Numbers;
 use crate::numeral::{Cell, is_within};
 use crate::records::cell_at;
 use csv::ByteRecord;
@@ -125,25 +126,24 @@ fn number_in(cell: &[u8], width: u8, row: u64, column: u64) -> Result<u128, Stim
     }
 }
 
-/// The numbers of a row's cells, in the order of the columns, or its first problem.
+/// Adds the numbers of a row's cells, in the order of the columns, or answers its first problem.
 pub(crate) fn read_cells(
     widths: &[u8],
     cells: &ByteRecord,
     row: u64,
-    numbers: &mut Vec<u128>,
+    numbers: &mut Numbers,
 ) -> Result<(), StimError>
     ensures sound { OnOk result (cells_problem widths.now row (fields_of cells.now) ≡ None) }
-    ensures numbers { OnOk result (numbers.new.items ≡ map number_of (fields_of cells.now)) }
+    ensures numbers { OnOk result (numbers.new ≡ numbers.old ++ map number_of (fields_of cells.now)) }
     ensures problem { IfErr result (λ e. e ≢ StimError.NoMemory
         → cells_problem widths.now row (fields_of cells.now) ≡ Some e) }
 {
-    numbers.clear();
     if cells.len() != widths.len() {
         return Err(StimError::Form { row });
     }
     for (column, width) in widths.iter().enumerate() {
         let number = number_in(cell_at(cells, column), *width, row, column as u64)?;
-        numbers.push(number)?;
+        numbers.push(number, widths.len())?;
     }
     Ok(())
 }

@@ -1,8 +1,9 @@
 //! Texts that need no quotes, which are read without a copy.
 ghost use Rattle.std.specs.Prelude.{◌≡◌, ◌≤◌, ◌<◌, ◌+◌, ℕ, drop, length, IfOk, IfSome};
-ghost use Rattle.stim_csv.specs.Plain.{IsLine, IsRow};
+ghost use Rattle.stim_csv.specs.Plain.{AddsRow, IsLine};
 
 use crate::cells::cell_before;
+use crate::numbers::Numbers;
 use std::alloc::AllocError;
 
 /// The place of the first line feed, where some bytes stand before it and all of them are of a line.
@@ -30,19 +31,18 @@ fn separator_of(column: usize, columns: usize) -> u8
 }
 
 /// Reads the row at a place of a text, and answers the place past it. There is none where the row has a problem, or isn't
-/// one of small numbers which a line feed ends. The numbers are those of the cells, in the order of the columns.
+/// one of small numbers which a line feed ends. The numbers of its cells are added, in the order of the columns.
 pub(crate) fn row_at(
     widths: &[u8],
     text: &[u8],
     start: usize,
-    numbers: &mut Vec<u128>,
+    numbers: &mut Numbers,
 ) -> Result<Option<usize>, AllocError>
     requires { start ≤ length text.now }
     ensures within { IfOk result (λ found. IfSome found (λ end. end ≤ length text.now)) }
     ensures row { IfOk result (λ found. IfSome found
-        (λ end. IsRow widths.now (drop start text.now) (drop end text.now) numbers.new.items)) }
+        (λ end. AddsRow widths.now (drop start text.now) (drop end text.now) numbers.old numbers.new)) }
 {
-    numbers.clear();
     if widths.is_empty() {
         return Ok(None);
     }
@@ -52,7 +52,7 @@ pub(crate) fn row_at(
         let Some((number, end)) = cell_before(text, at, separator, *width) else {
             return Ok(None);
         };
-        numbers.push(u128::from(number))?;
+        numbers.push(u128::from(number), widths.len())?;
         at = end;
     }
     Ok(Some(at))

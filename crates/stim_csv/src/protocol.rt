@@ -1,6 +1,6 @@
 //! The bus protocol (IHI 0024B), and the first row of a table that breaks it.
 
-ghost use Rattle.std.specs.Prelude.{◌≡◌, ◌≤◌, None, IfSome, length, map};
+ghost use Rattle.std.specs.Prelude.{◌≡◌, ◌≤◌, ◌<◌, None, IfSome, [], length, map, slice_index_or};
 ghost use Rattle.std.specs.List.{AllByRecursion};
 ghost use Rattle.rb_model.specs.Protocol as protocol;
 ghost use Rattle.rb_model.specs.Protocol.{KeepsProtocol};
@@ -44,18 +44,19 @@ fn idle() -> Bus
     }
 }
 
-/// The bus at a vector, whose first six numbers are its pins.
-fn bus_at(vector: &[u128]) -> Bus
-    requires { HasBus vector.now }
-    ensures { bus_seen result ≡ bus_first vector.now }
+/// The bus at a row, whose first six numbers are its pins.
+fn bus_at(table: &Stimulus, row: u64) -> Bus
+    requires row { row < length table.now }
+    requires bus { HasBus (slice_index_or table.now row []) }
+    ensures { bus_seen result ≡ bus_first (slice_index_or table.now row []) }
 {
     Bus {
-        resetn: vector[0],
-        address: vector[1],
-        select: vector[2],
-        enable: vector[3],
-        write: vector[4],
-        data_in: vector[5],
+        resetn: table.number(row, 0),
+        address: table.number(row, 1),
+        select: table.number(row, 2),
+        enable: table.number(row, 3),
+        write: table.number(row, 4),
+        data_in: table.number(row, 5),
     }
 }
 
@@ -149,7 +150,7 @@ impl Stimulus {
         let mut last = Phase::Idle;
         let mut before = idle();
         for row in 0..self.rows() {
-            let now = bus_at(self.row(row));
+            let now = bus_at(self, row);
             let phase = phase_after(waits, last, &now);
             if !is_kept(phase, waits, last, &before, &now) {
                 return Some(row);

@@ -1,5 +1,5 @@
 //! A table of pins.
-ghost use Rattle.std.specs.Prelude.{◌≡◌, ◌≢◌, ℕ, ◌*◌, ◌+◌, ◌<◌, ◌≤◌, None, Some, Ok, Err, Option, OnOk, IfOk, IfErr, AllPairs, List, map, length, slice_index, slice_index_or, ◌++◌, [], IfSome, take};
+ghost use Rattle.std.specs.Prelude.{◌≡◌, ◌≢◌, ℕ, ◌*◌, ◌+◌, ◌<◌, ◌≤◌, None, Some, Ok, Err, Option, OnOk, IfOk, IfErr, AllPairs, List, map, length, slice_index, slice_index_or, [], IfSome};
 ghost use Rattle.std.specs.List.{AllByRecursion};
 ghost use Rattle.csv.specs.Records.{fields_of};
 ghost use Rattle.stim_csv.specs.Columns.{AreColumns, numbers_in};
@@ -9,6 +9,8 @@ ghost use Rattle.stim_csv.specs.PinTable.{is_too_many, table_of, records_of, vec
 
 use crate::error::StimError;
 use crate::header::{Header, read_cells};
+use crate::numbers::Numbers;
+use crate::ordering::by_pins;
 use crate::plain::{line_end, row_at};
 use crate::records::next_record;
 use csv::{ByteRecord, Reader, ReaderBuilder};
@@ -25,7 +27,7 @@ const MOST_OUTPUTS: u64 = 16_777_216;
 /// The vectors of a table of pins, one for each row. Contracts see the list of the vectors.
 #[derive(Drop)]
 pub struct Stimulus {
-    vectors: Vec<u128>,
+    vectors: Numbers,
     width: usize,
     rows: u64,
 }
@@ -36,9 +38,9 @@ impl Model for Stimulus {
 
     ghost Value = { List (List ℕ) };
 
-    ghost view = { λ s. cut s.width s.rows s.vectors.items };
+    ghost view = { λ s. cut s.width s.rows s.vectors };
 
-    ghost invariant = { λ s. length s.vectors.items ≡ s.rows * s.width };
+    ghost invariant = { λ s. length s.vectors ≡ s.rows * s.width };
 }
 
 /// Whether a row is one too many.
@@ -47,21 +49,6 @@ fn is_past_the_end(row: u64, outputs: u32) -> bool
     ensures { result ≡ is_too_many row outputs }
 {
     row == MOST_ROWS || MOST_OUTPUTS < (row + 1) * u64::from(outputs)
-}
-
-/// Adds a row's numbers in the order of the pins, which have these columns.
-fn push_vector(
-    vectors: &mut Vec<u128>,
-    columns: &[usize],
-    numbers: &[u128],
-) -> Result<(), AllocError>
-    requires { AllByRecursion (λ c. c < length numbers.now) columns.now }
-    ensures { OnOk result (vectors.new.items ≡ vectors.old.items ++ map (λ c. slice_index numbers.now c) columns.now) }
-{
-    for column in columns {
-        vectors.push(numbers[*column])?;
-    }
-    Ok(())
 }
 
 /// The table of the rows that a reader has left, under this header.
@@ -81,17 +68,16 @@ fn read_rows(
         → first_problem (row_problem header.now.widths.items outputs) 0 (records_left reader.old) ≡ Some e) }
 {
     let mut cells = ByteRecord::new(alloc);
-    let mut numbers = Vec::new(alloc);
-    let mut vectors = Vec::new(alloc);
+    let mut numbers = Numbers::new(alloc);
     let mut row = 0;
     while next_record(reader, &mut cells)? {
         if is_past_the_end(row, outputs) {
             return Err(StimError::TooMany { row });
         }
         read_cells(&header.widths, &cells, row, &mut numbers)?;
-        push_vector(&mut vectors, &header.columns, &numbers)?;
         row += 1;
     }
+    let vectors = by_pins(alloc, numbers, row, header.widths.len(), &header.columns)?;
     Ok(Stimulus {
         vectors,
         width: header.columns.len(),
@@ -116,8 +102,7 @@ fn read_plain_rows(
     ensures vectors { IfOk result (λ found. IfSome found (λ s. s ≡ map (numbers_in columns.now) (rows_at text.now start))) }
     ensures refused { IfErr result (λ e. e ≡ StimError.NoMemory) }
 {
-    let mut numbers = Vec::new(alloc);
-    let mut vectors = Vec::new(alloc);
+    let mut numbers = Numbers::new(alloc);
     let mut at = start;
     let mut row = 0;
     while at < text.len() {
@@ -128,10 +113,10 @@ fn read_plain_rows(
         let Some(end) = found else {
             return Ok(None);
         };
-        push_vector(&mut vectors, columns, &numbers)?;
         at = end;
         row += 1;
     }
+    let vectors = by_pins(alloc, numbers, row, widths.len(), columns)?;
     Ok(Some(Stimulus {
         vectors,
         width: columns.len(),
@@ -206,7 +191,7 @@ impl Stimulus {
             read_rows(alloc, &mut reader, &header, outputs)
         } else {
             Ok(Stimulus {
-                vectors: Vec::new(alloc),
+                vectors: Numbers::new(alloc),
                 width: pins.len(),
                 rows: 0,
             })
@@ -244,13 +229,28 @@ impl Stimulus {
         self.rows
     }
 
-    /// The numbers of the pins in a row, in the order of the pins.
-    pub fn row(&self, at: u64) -> &[u128]
-        requires { at < length self.now }
-        ensures { result.now ≡ slice_index_or self.now at [] }
+    /// How many numbers each row has, one for each pin. It takes no memory.
+    pub fn width(&self) -> usize
+        ensures { (k : ℕ) → k < length self.now → length (slice_index_or self.now k []) ≡ result }
     {
-        let vectors = self.vectors.as_slice();
-        let start = at as usize * self.width;
-        &vectors[start..start + self.width]
+        self.width
+    }
+
+    /// Writes the numbers of the pins in a row into a slice, in the order of the pins. It takes no memory.
+    pub fn row_into(&self, at: u64, into: &mut [u128])
+        requires row { at < length self.now }
+        requires room { length into.old ≡ length (slice_index_or self.now at []) }
+        ensures { into.new ≡ slice_index_or self.now at [] }
+    {
+        self.vectors.row_into(at, self.width, into);
+    }
+
+    /// The number of a pin in a row, both by their places from 0.
+    pub(crate) fn number(&self, at: u64, pin: usize) -> u128
+        requires row { at < length self.now }
+        requires pin { pin < length (slice_index_or self.now at []) }
+        ensures { result ≡ slice_index (slice_index_or self.now at []) pin }
+    {
+        self.vectors.get(at, self.width, pin)
     }
 }

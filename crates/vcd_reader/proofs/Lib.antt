@@ -1,5 +1,4 @@
 pub mod Behind
-pub mod Cells
 pub mod Ending
 pub mod Existing
 pub mod Keeping

@@ -2,7 +2,6 @@ pub mod Bits
 pub mod Codes
 pub mod Fronts
 pub mod LastValues
-pub mod Numbers
 pub mod Reading
 pub mod Rows
 pub mod Steps

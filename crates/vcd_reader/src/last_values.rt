@@ -1,8 +1,10 @@
 //! The last value of each variable.
 
-use crate::numbers::WIDE;
 use std::alloc::{AllocError, Global};
 use std::marker::Model;
+
+/// The least number that has no cell of its own, and the cell of such a one: 2^31.
+const WIDE: u32 = 2_147_483_648;
 
 /// The cell of a variable without a value.
 const NONE: u32 = 4_294_967_295;

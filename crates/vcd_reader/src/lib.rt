@@ -5,7 +5,6 @@ mod code_set;
 mod exits;
 mod last_values;
 mod naming;
-mod numbers;
 mod pins;
 mod reading;
 mod rows;

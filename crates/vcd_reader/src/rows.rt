@@ -4,8 +4,8 @@ ghost use Rattle.std.specs.Prelude.{◌≡◌, IfOk};
 ghost use Rattle.vcd_reader.specs.Rows.{IsAdded};
 
 use crate::last_values::LastValues;
-use crate::numbers::Numbers;
 use std::alloc::{AllocError, Global};
+use stim_csv::Numbers;
 
 /// The most times that a dump may have.
 const MOST_TIMES: u64 = 1_000_000;

@@ -1,8 +1,8 @@
 //! The table of a dump.
 
-use crate::numbers::Numbers;
 use rb_base::Pin;
 use std::marker::Model;
+use stim_csv::Numbers;
 
 /// The values of a dump's variables, a row for each time. Contracts see the variables as pins, and the list of the rows.
 #[derive(Drop)]

@@ -43,7 +43,7 @@ pub(crate) fn put_run<K: Sink>(
 {
     put_head(page, out, design.name(), pins)?;
     for at in 0..table.rows() {
-        step_onto(sim, table.row(at), now);
+        step_onto(sim, table, at, now);
         put_vector(page, out, at, pins, values_before(at, before), now)?;
         before.copy_from_slice(now);
     }

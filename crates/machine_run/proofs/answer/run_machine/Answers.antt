@@ -1,5 +1,4 @@
 use Rattle.std.proofs.Common.{refl, subst}
-use Rattle.rb_model.specs.Run.{buses}
 use Rattle.rb_model.specs.Protocol.{KeepsProtocol}
 use Rattle.stim_csv.specs.Buses.{IsFirstBreak}
 use Rattle.machine_run.proofs.Tables.{tables_fit}

@@ -1,6 +1,6 @@
-use Rattle.std.proofs.Common.{◌≡◌, ◌≢◌, ◌≤◌, Err, ap, sym, ◌∙◌, subst, length, arith}
+use Rattle.std.proofs.Common.{◌≢◌, ap, sym, ◌∙◌, subst, length, arith}
 use Rattle.std.specs.List.{AllPairs}
-use Rattle.v_design.specs.Design.{inputs, outputs}
+use Rattle.v_design.specs.Design.{outputs}
 use Rattle.v_design.specs.Seen.{module_seen}
 use Rattle.stim_csv.specs.PinTable.{table_of, records_of}
 use Rattle.report_text.specs.Problems.{problem_text}

@@ -1,6 +1,6 @@
-use Rattle.std.proofs.Common.{◌≡◌, ℕ, ◌+◌, ◌<◌, true, ◌==◌, Option, Some, None, List, [], ◌∷◌, ◌++◌, length, take, map, get_or, refl, ap, sym, ◌∙◌, arith}
+use Rattle.std.proofs.Common.{◌≡◌, ℕ, ◌+◌, ◌<◌, true, ◌==◌, Option, Some, None, List, [], ◌∷◌, ◌++◌, length, take, map, get_or, refl, ap, sym, ◌∙◌, append_assoc, arith}
 use Rattle.std.proofs.lemmas.Result.{err_from_is_err_and}
-use Rattle.std.proofs.lemmas.List.{take_more, map-append}
+use Rattle.std.proofs.lemmas.List.{map_more}
 use Rattle.std.proofs.lemmas.Bool.Decides.{nat_tests}
 use Rattle.csv.specs.Records.{fields_of}
 use Rattle.stim_csv.specs.Numeral.{cell_value}
@@ -26,9 +26,11 @@ unfolding number_of
 number_is cell cell' n is value = rw (← is, value) refl
 
 -- the numbers after one more cell
-grown : (cells : Cells) (i n : ℕ) (numbers numbers' : List ℕ) → i < length cells → number_of (get_or cells i []) ≡ n → numbers ≡ map number_of (take i cells) → numbers' ≡ numbers ++ (n ∷ [])
-    → numbers' ≡ map number_of (take (i + 1) cells)
-grown cells i n numbers numbers' l is was pushed = rw (pushed, take_more cells i [] l, map-append number_of (take i cells) (get_or cells i [] ∷ []), was, is) refl
+grown : (cells : Cells) (i n : ℕ) (old numbers numbers' : List ℕ) → i < length cells → number_of (get_or cells i []) ≡ n → numbers ≡ old ++ map number_of (take i cells) → numbers' ≡ numbers ++ (n ∷ [])
+    → numbers' ≡ old ++ map number_of (take (i + 1) cells)
+grown cells i n old numbers numbers' l is was pushed =
+    let more : map number_of (take (i + 1) cells) ≡ map number_of (take i cells) ++ (n ∷ []) = map_more number_of cells i [] l ∙ ap (λ m. map number_of (take i cells) ++ (m ∷ [])) is in
+    pushed ∙ (ap (λ ns. ns ++ (n ∷ [])) was ∙ (append_assoc old (map number_of (take i cells)) (n ∷ []) ∙ ap (λ ns. old ++ ns) (sym more)))
 
 pub returns-in_err-number-clause-problem : goal.returns-in_err-number-clause-problem
 returns-in_err-number-clause-problem c =
@@ -44,7 +46,7 @@ loop-column-preserved c =
     record {
       problem = c.loop-column.invariant.problem
           ∙ problem_after (cell_problem c.args.widths.now c.args.row) cells c.loop-column.column [] (omega arith) (of_cell c.args.widths.now c.args.row c.loop-column.column _ _ _ c.cell_at.ensures c.in_ok-number.ensures.sound);
-      numbers = grown cells c.loop-column.column c.in_ok-number.number _ _ (omega arith) (number_is _ _ _ c.cell_at.ensures c.in_ok-number.ensures.number) c.loop-column.invariant.numbers c.in_ok-push.ensures.items;
+      numbers = grown cells c.loop-column.column c.in_ok-number.number _ _ _ (omega arith) (number_is _ _ _ c.cell_at.ensures c.in_ok-number.ensures.number) c.loop-column.invariant.numbers c.in_ok-push.ensures;
     }
 
 pub returns-clause-sound : goal.returns-clause-sound

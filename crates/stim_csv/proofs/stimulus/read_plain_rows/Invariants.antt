@@ -1,6 +1,6 @@
 use Rattle.std.proofs.Common.{◌≡◌, ◌≤◌, ◌*◌, ◌-◌, ◌++◌, map, length}
 use Rattle.stim_csv.specs.PinTable.{first_problem, row_problem}
-use Rattle.stim_csv.specs.Columns.{numbers_in}
+use Rattle.stim_csv.specs.Columns.{numbers_in, picked}
 use Rattle.stim_csv.specs.Plain.{rows_at}
 use Rattle.stim_csv.specs.Vectors.{cut}
 use Rattle.stim_csv.proofs.stimulus.read_plain_rows.Given as goal
@@ -8,8 +8,8 @@ use Rattle.stim_csv.proofs.stimulus.read_plain_rows.Given as goal
 abbrev pub invariant-loop-at : goal.invariant-loop-at
 invariant-loop-at l = record {
   problem : first_problem (row_problem l.widths l.outputs) 0 (rows_at l.text l.start) ≡ first_problem (row_problem l.widths l.outputs) l.row (rows_at l.text l.at);
-  vectors : map (numbers_in l.columns) (rows_at l.text l.start) ≡ cut (length l.columns) l.row l.vectors.items ++ map (numbers_in l.columns) (rows_at l.text l.at);
-  whole : length l.vectors.items ≡ l.row * length l.columns;
+  vectors : map (numbers_in l.columns) (rows_at l.text l.start) ≡ map (picked l.columns) (cut (length l.widths) l.row l.numbers) ++ map (numbers_in l.columns) (rows_at l.text l.at);
+  whole : length l.numbers ≡ l.row * length l.widths;
   inside : l.at ≤ length l.text;
   within : l.row ≤ 1000000;
 }

@@ -1,5 +1,5 @@
 use Rattle.std.specs.Option.{option_copied}
-use Rattle.std.proofs.Common.{◌≡◌, ℕ, ◌+◌, ◌<◌, ◌≤◌, List, [], ◌++◌, Option, IfSome, length, get_or, ap, sym, ◌∙◌, subst, arith, length-append}
+use Rattle.std.proofs.Common.{◌≡◌, ℕ, ◌+◌, ◌<◌, ◌≤◌, List, [], ◌++◌, Option, IfSome, length, get_or, refl, ap, sym, ◌∙◌, subst, arith, length-append}
 use Rattle.rb_edge.proofs.Flowing.{and_then, stopped, of_bytes}
 use Rattle.v_design.specs.Design.{inputs, outputs}
 use Rattle.v_design.specs.Seen.{module_seen}
@@ -27,8 +27,7 @@ pub step_onto-requires-clause-inputs : goal.step_onto-requires-clause-inputs
 step_onto-requires-clause-inputs g c =
     let m = module_seen c.args.design.now in
     let more : c.loop-at.at < length c.args.table.now = omega (arith, c.loop-at-test.true, c.rows-at-end.ensures) in
-    let fits = subst (FitsPins (inputs m)) (sym c.row.ensures) (fits_at (inputs m) c.args.table.now c.loop-at.at c.requires.fit more) in
-    fits_length (inputs m) c.row.result.now fits ∙ sym c.loop-at.invariant.1.is_sim.takes
+    fits_length (inputs m) (get_or c.args.table.now c.loop-at.at []) (fits_at (inputs m) c.args.table.now c.loop-at.at c.requires.fit more) ∙ sym c.loop-at.invariant.1.is_sim.takes
 
 pub step_onto-requires-clause-all : goal.step_onto-requires-clause-all
 step_onto-requires-clause-all g c =
@@ -40,7 +39,7 @@ put_vector-requires-clause-fits g c =
     let m = module_seen c.args.design.now in
     let w = c.loop-at.invariant.1 in
     let more : c.loop-at.at < length c.args.table.now = omega (arith, c.loop-at-test.true, c.rows-at-end.ensures) in
-    let r = stepped m c.args.table.now c.loop-at.at c.loop-at.sim c.step_onto.new.sim c.row.result.now c.loop-at.before c.step_onto.new.now c.loop-at.invariant.0 c.requires.fit more c.row.ensures w c.step_onto.ensures in
+    let r = stepped m c.args.table.now c.loop-at.at c.loop-at.sim c.step_onto.new.sim (get_or c.args.table.now c.loop-at.at []) c.loop-at.before c.step_onto.new.now c.loop-at.invariant.0 c.requires.fit more refl w c.step_onto.ensures in
     subst (λ ps. FitsPins ps c.step_onto.new.now) (sym c.requires.pins) (now_fits m c.args.table.now c.loop-at.at c.loop-at.sim c.step_onto.new.sim c.loop-at.before c.step_onto.new.now c.loop-at.invariant.0 c.requires.accepted c.requires.fit more w r)
 
 pub put_vector-requires-clause-before : goal.put_vector-requires-clause-before
@@ -57,7 +56,7 @@ returns-in_err-put_vector g c =
     let text = c.loop-at.invariant.0 in
     let w = c.loop-at.invariant.1 in
     let more : at < length table = omega (arith, c.loop-at-test.true, c.rows-at-end.ensures) in
-    let r = stepped m table at c.loop-at.sim c.step_onto.new.sim c.row.result.now c.loop-at.before c.step_onto.new.now text c.requires.fit more c.row.ensures w c.step_onto.ensures in
+    let r = stepped m table at c.loop-at.sim c.step_onto.new.sim (get_or c.args.table.now c.loop-at.at []) c.loop-at.before c.step_onto.new.now text c.requires.fit more refl w c.step_onto.ensures in
     let rest = from_edge m table at c.loop-at.sim c.step_onto.new.sim c.loop-at.before c.step_onto.new.now text c.requires.accepted c.requires.fit more w r in
     let same : vector_text at c.args.pins.now (option_copied c.values_before.result) c.step_onto.new.now ≡ vector_text at (run_pins m) (before_edge at c.loop-at.before) c.step_onto.new.now
     = ap (λ ps. vector_text at ps (option_copied c.values_before.result) c.step_onto.new.now) c.requires.pins ∙ ap (λ b. vector_text at (run_pins m) b c.step_onto.new.now) c.values_before.ensures in
@@ -72,7 +71,7 @@ loop-at-preserved g c =
     let text = c.loop-at.invariant.0 in
     let w = c.loop-at.invariant.1 in
     let more : at < length table = omega (arith, c.loop-at-test.true, c.rows-at-end.ensures) in
-    let r = stepped m table at c.loop-at.sim c.step_onto.new.sim c.row.result.now c.loop-at.before c.step_onto.new.now text c.requires.fit more c.row.ensures w c.step_onto.ensures in
+    let r = stepped m table at c.loop-at.sim c.step_onto.new.sim (get_or c.args.table.now c.loop-at.at []) c.loop-at.before c.step_onto.new.now text c.requires.fit more refl w c.step_onto.ensures in
     let same : vector_text at c.args.pins.now (option_copied c.values_before.result) c.step_onto.new.now ≡ vector_text at (run_pins m) (before_edge at c.loop-at.before) c.step_onto.new.now
     = ap (λ ps. vector_text at ps (option_copied c.values_before.result) c.step_onto.new.now) c.requires.pins ∙ ap (λ b. vector_text at (run_pins m) b c.step_onto.new.now) c.values_before.ensures in
     let edge = vector_text at (run_pins m) (before_edge at c.loop-at.before) c.step_onto.new.now in

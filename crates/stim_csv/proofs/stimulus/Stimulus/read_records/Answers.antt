@@ -41,4 +41,4 @@ pub returns-clause-vectors : goal.returns-clause-vectors
 returns-clause-vectors c =
     let taken = rw c.if-headed.false at c.in_ok-headed.ensures.taken in
     let all = at_start c.from_reader-reader.result c.args.bytes.now c.from_reader-reader.ensures.state c.from_reader-reader.ensures.source in
-    none c.args.pins.now c.args.outputs (records_of c.args.bytes.now) (fields_of c.next_record.new.cells) c.new-else-headed.result.items (sym all ∙ taken.0) taken.1 c.in_ok-header.ensures.sound
+    none c.args.pins.now c.args.outputs (records_of c.args.bytes.now) (fields_of c.next_record.new.cells) c.new-else-headed.result (sym all ∙ taken.0) taken.1 c.in_ok-header.ensures.sound

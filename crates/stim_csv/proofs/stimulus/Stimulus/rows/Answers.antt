@@ -3,4 +3,4 @@ use Rattle.stim_csv.proofs.Cutting.{length-cut}
 use Rattle.stim_csv.proofs.stimulus.Stimulus.rows.Goals as goal
 
 pub returns : goal.returns
-returns c = sym (length-cut c.self.inside.width c.self.inside.rows c.self.inside.vectors.items) ∙ ap length c.self.view_is
+returns c = sym (length-cut c.self.inside.width c.self.inside.rows c.self.inside.vectors) ∙ ap length c.self.view_is

@@ -5,7 +5,7 @@ use Rattle.std.proofs.lemmas.Bool.Decides.{nat_tests}
 use Rattle.std.proofs.lemmas.List.{get_or_append_left, map-append}
 use Rattle.std.proofs.lemmas.List.Folds.{list_all-append}
 use Rattle.plain_lemmas.proofs.Bools.{and-both, and-both_true}
-use Rattle.vcd_reader.specs.Numbers.{number_in, numbers_in, is_cell, AreCells, IsMore}
+use Rattle.stim_csv.specs.Numbers.{number_in, numbers_in, is_cell, AreCells, IsMore}
 
 -- a cell has the same number among more wide ones
 cell_stays : (wide more : List ℕ) (cell : ℕ) → is_cell (length wide) cell ≡ true → (is_cell (length (wide ++ more)) cell ≡ true) × (number_in (wide ++ more) cell ≡ number_in wide cell)

@@ -1,27 +1,27 @@
 //! Numbers that are kept in few bytes.
 
 ghost use Rattle.std.specs.Prelude.{◌≡◌, true, length, IfOk, IfSome};
-ghost use Rattle.vcd_reader.specs.Numbers.{AreCells, IsMore, is_cell, number_in};
+ghost use Rattle.stim_csv.specs.Numbers.{AreCells, IsMore, is_cell, number_in};
 
 use std::alloc::{AllocError, Global};
 use std::marker::Model;
 
 /// The least number that has no cell of its own: 2^31.
-pub(crate) const WIDE: u32 = 2_147_483_648;
+const WIDE: u32 = 2_147_483_648;
 
 /// Numbers below 2^128, by their places. Contracts see the list of the numbers.
 ///
 /// Each takes a cell of four bytes, in which a number below 2^31 stands itself. A greater one stands among the wide ones, in
 /// 16 bytes, once for all cells in a row of it, and its cell says where.
 #[derive(Drop)]
-pub(crate) struct Numbers {
+pub struct Numbers {
     cells: Vec<u32>,
     wide: Vec<u128>,
 }
 
 impl Model for Numbers {
     ghost use Rattle.std.specs.Prelude.{ℕ, List, map};
-    ghost use Rattle.vcd_reader.specs.Numbers.{AreCells, numbers_in};
+    ghost use Rattle.stim_csv.specs.Numbers.{AreCells, numbers_in};
 
     ghost Value = { List ℕ };
 
@@ -69,7 +69,26 @@ fn new_cell(wide: &mut Vec<u128>, number: u128) -> Result<u32, AllocError>
     Ok(WIDE + at as u32)
 }
 
-// A cell for a number, that of the same number so many places before the end if it has it.
+// A wide cell for a number, that of the same number so many places before the end if it has it.
+#[cold]
+fn wide_cell_for(
+    cells: &[u32],
+    wide: &mut Vec<u128>,
+    number: u128,
+    back: usize,
+) -> Result<u32, AllocError>
+    requires { AreCells wide.old.items cells.now }
+    ensures more { IsMore wide.old.items wide.new.items }
+    ensures cell { IfOk result (λ cell. (is_cell (length wide.new.items) cell ≡ true) × (number_in wide.new.items cell ≡ number)) }
+{
+    match same(cells, wide, number, back) {
+        Some(cell) => Ok(cell),
+        None => new_cell(wide, number),
+    }
+}
+
+// A cell for a number.
+#[inline(always)]
 fn cell_for(
     cells: &[u32],
     wide: &mut Vec<u128>,
@@ -81,16 +100,14 @@ fn cell_for(
     ensures cell { IfOk result (λ cell. (is_cell (length wide.new.items) cell ≡ true) × (number_in wide.new.items cell ≡ number)) }
 {
     if number < u128::from(WIDE) {
-        return Ok(number as u32);
-    }
-    match same(cells, wide, number, back) {
-        Some(cell) => Ok(cell),
-        None => new_cell(wide, number),
+        Ok(number as u32)
+    } else {
+        wide_cell_for(cells, wide, number, back)
     }
 }
 
 impl Numbers {
-    ghost use Rattle.std.specs.Prelude.{◌≡◌, ◌+◌, ◌*◌, ◌<◌, ◌++◌, ◌∷◌, [], OnOk, length, slice_index};
+    ghost use Rattle.std.specs.Prelude.{◌≡◌, ◌+◌, ◌*◌, ◌<◌, ◌≤◌, ◌++◌, ◌∷◌, [], OnOk, length, slice_index, take, drop};
 
     /// No numbers.
     pub fn new(alloc: Global) -> Self
@@ -103,6 +120,7 @@ impl Numbers {
     }
 
     /// Adds a number, that may be the same as the one so many places before.
+    #[inline(always)]
     pub fn push(&mut self, number: u128, back: usize) -> Result<(), AllocError>
         ensures { OnOk result (self.new ≡ self.old ++ number ∷ []) }
     {
@@ -118,5 +136,16 @@ impl Numbers {
     {
         let cells = self.cells.as_slice();
         number_of(&self.wide, cells[row as usize * width + at])
+    }
+    /// Writes the first numbers of a row into a slice, as many as it has room for, where rows have so many numbers.
+    pub fn row_into(&self, row: u64, width: usize, into: &mut [u128])
+        requires { row * width + length into.old ≤ length self.now }
+        ensures { into.new ≡ take (length into.old) (drop (row * width) self.now) }
+    {
+        let cells = self.cells.as_slice();
+        let start = row as usize * width;
+        for at in 0..into.len() {
+            into[at] = number_of(&self.wide, cells[start + at]);
+        }
     }
 }

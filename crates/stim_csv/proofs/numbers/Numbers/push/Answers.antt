@@ -1,7 +1,7 @@
 use Rattle.std.proofs.Common.{◌∷◌, [], ◌++◌, ap, sym, subst, ◌∙◌}
-use Rattle.vcd_reader.specs.Numbers.{AreCells}
-use Rattle.vcd_reader.proofs.Cells.{kept_cells, pushed}
-use Rattle.vcd_reader.proofs.numbers.Numbers.push.Goals as goal
+use Rattle.stim_csv.specs.Numbers.{AreCells}
+use Rattle.stim_csv.proofs.NumberCells.{kept_cells, pushed}
+use Rattle.stim_csv.proofs.numbers.Numbers.push.Goals as goal
 
 pub invariant_of-self : goal.invariant_of-self
 invariant_of-self c = kept_cells c.self.inside.wide.items c.cell_for.new.wide.items c.self.inside.cells.items c.self.invariant c.in_err-cell.ensures.more
