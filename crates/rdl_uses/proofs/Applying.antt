@@ -32,8 +32,13 @@ module _ (d : Def) (xs : List Arg) (at : Place) (v : Chain) (ns : List ℕ) (u :
   pub args_noted : (b : Bool) (l m : List Fault) → IsNoted (bad_args d.params.now xs) b l m → IsNoted (bad_arguments u c) b l m
   args_noted b l m n = noted_as _ (bad_arguments u c) b l m (λ j. bad_args (sym h.def j).params.now (sym h.args_are j)) n
 
-  pub site-of : (a : Arguments) → AreArguments a xs → IsSite a v ns at u c
-  site-of a are = record { arguments = subst (AreArguments a) (sym h.args_are) are; outside = h.outside; inside = h.inside; place = sym h.place_is }
+  pub site-of : (a : Arguments) → AreArguments a d.params.now xs → IsSite a v ns at u c
+  site-of a are = record {
+    arguments = subst (AreArguments a c.def.params.now) (sym h.args_are) (subst (λ e. AreArguments a e.params.now xs) (sym h.def) are);
+    outside = h.outside;
+    inside = h.inside;
+    place = sym h.place_is;
+  }
 
 -- The failures of a use's values are among its failures.
 pub values_in : (s : Seen) (c : Closure) (l : List Fault) → Holds l (of_closure s c) → Holds l (of_values s.use_ c)

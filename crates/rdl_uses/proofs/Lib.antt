@@ -1,10 +1,12 @@
 mod Applying
 mod BoundValues
 mod Bytes
+mod Dueness
 mod Formed
 mod Judging
 mod Numbers
 mod Parted
 mod Primaries
 mod Seens
+mod Touching
 mod Unseen

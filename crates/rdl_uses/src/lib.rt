@@ -17,7 +17,7 @@ mod uses;
 mod values;
 
 pub use arguments::Arguments;
-pub use binding::{Binding, bind};
+pub use binding::bind;
 pub use earlier::Earlier;
 pub use holder::{Holder, Parent};
 pub use instance::judge_instance;

@@ -1,7 +1,9 @@
 -- Look-ups in tables are those of the definitions.
-use Rattle.std.proofs.Common.{◌≡◌, ◌∙◌, ℕ, zero, suc, ◌+◌, ◌<◌, Bool, true, false, cond, ◌&&◌, ◌||◌, nat_lt, bytes_eq, List, [], ◌∷◌, ◌++◌, map, length, get_or, find, Option, None, Some, option_map, is_some, MatchOption, refl, sym, ap, subst, arith}
+use Rattle.std.proofs.Common.{◌≡◌, ◌∙◌, ℕ, zero, suc, ◌+◌, ◌<◌, Bool, true, false, cond, ◌==◌, ◌&&◌, ◌||◌, nat_lt, bytes_eq, List, [], ◌∷◌, ◌++◌, map, length, get_or, find, Option, None, Some, option_map, is_some, MatchOption, take, refl, sym, ap, subst, append_assoc, arith}
 use Rattle.std.specs.Cmp.Lexicographic.{bytes_decides}
 use Rattle.std.specs.List.{AllByRecursion, IsDistinct, list_any, position_from}
+use Rattle.std.specs.Option.{option_or}
+use Rattle.std.proofs.lemmas.Bool.{eqb-true}
 use Rattle.std.proofs.lemmas.List.{length-map, map-append}
 use Rattle.std.proofs.lemmas.Cmp.{nat_list_eq_equiv}
 use Rattle.std.proofs.lemmas.Map.Keys.{IsDistinct-head, IsDistinct-push, IsDistinct-tail}
@@ -11,13 +13,17 @@ use Rattle.rdl_tree.specs.declared.expr.Name.{Name}
 use Rattle.rdl_tree.specs.declared.value.Value.{Value}
 use Rattle.rdl_values.specs.Firsts.{AreFirsts, place_of}
 use Rattle.rdl_values.specs.declared.firsts.Firsts.{Firsts}
+use Rattle.rdl_values.specs.Over.{AreShown, IsOver, plain_in, shown, touched_in}
+use Rattle.rdl_values.specs.Overlaid.{Plain, overlaid}
+use Rattle.rdl_values.specs.Parameters.{Bound}
 use Rattle.rdl_values.specs.Table.{AreBodyNames, is_enum_named, keys_of}
-use Rattle.rdl_values.specs.Values.{EnumOf, entry_named}
+use Rattle.rdl_values.specs.declared.parameters.Parameters.{Parameters}
+use Rattle.rdl_values.specs.Values.{EnumOf, Names, entry_named}
 use Rattle.rdl_values.proofs.Named.{IsPut, any-named, firsts-some, firsts_more, firsts_none}
 use Rattle.plain_lemmas.proofs.Lists.{bytes_eq-swap as turned}
 
 -- a place counted from one more
-later : (f : List ℕ → Bool) (i : ℕ) (names : List (List ℕ)) → position_from f (i + 1) names ≡ option_map suc (position_from f i names)
+pub later : (f : List ℕ → Bool) (i : ℕ) (names : List (List ℕ)) → position_from f (i + 1) names ≡ option_map suc (position_from f i names)
 later f i [] = refl
 later f i (n ∷ names) = go (f n) (later f (i + 1) names)
   where
@@ -158,8 +164,9 @@ unique_none : IsDistinct bytes_eq []
 unfolding IsDistinct
 unique_none = tt
 
-pub no_names : (t : Firsts) (bound : List (Bor (List ℕ) × Value)) (s : Firsts) (enums : List EnumOf) → ((n : List ℕ) → place_of t n ≡ None) → bound ≡ [] → ((n : List ℕ) → place_of s n ≡ None) → enums ≡ [] → AreBodyNames t bound s enums
-no_names t bound s enums h none k empty = subst (λ es. AreBodyNames t bound s es) (sym empty) (subst (λ es. AreBodyNames t es s []) (sym none) (record {
+pub no_names : (over : Option Parameters) → AreShown over → (t : Firsts) (bound : List (Bor (List ℕ) × Value)) (s : Firsts) (enums : List EnumOf) → ((n : List ℕ) → place_of t n ≡ None) → bound ≡ [] → ((n : List ℕ) → place_of s n ≡ None) → enums ≡ [] → AreBodyNames over t bound s enums
+no_names over are t bound s enums h none k empty = subst (λ es. AreBodyNames over t bound s es) (sym empty) (subst (λ es. AreBodyNames over t es s []) (sym none) (record {
+  shown_are = are;
   bound_at = firsts_none t h;
   enums_at = firsts_none s k;
   unique = unique_none;
@@ -168,3 +175,50 @@ no_names t bound s enums h none k empty = subst (λ es. AreBodyNames t bound s e
 -- What is behind the others where its name is new.
 pub pushed : {X : Type 0} (x : X) (es fs : List X) (b : Bool) → b ≡ false → fs ≡ es ++ (x ∷ []) → fs ≡ cond b es (es ++ (x ∷ []))
 pushed x es fs b fresh i = rw fresh i
+
+-- Parameters over those of a text, before others.
+
+pub named-both : {A : Type 0} (n : List ℕ) (xs ys : List (List ℕ × A)) → entry_named n (xs ++ ys) ≡ option_or (entry_named n xs) (entry_named n ys)
+named-both n [] ys = refl
+named-both n (x ∷ xs) ys = go (bytes_eq x.0 n) refl (named-both n xs ys)
+  where
+    go : (b : Bool) → bytes_eq x.0 n ≡ b → entry_named n (xs ++ ys) ≡ option_or (entry_named n xs) (entry_named n ys) → entry_named n (x ∷ (xs ++ ys)) ≡ option_or (entry_named n (x ∷ xs)) (entry_named n ys)
+    go true e h = rw e refl
+    go false e h = rw e h
+
+-- what a name stands for that stands over the text, and one that does not
+pub over-some : {X A : Type 0} (f : X → A) (n : List ℕ) (o : Option X) (xs ys : List (List ℕ × A)) (x : X) → o ≡ Some x → option_map f o ≡ entry_named n xs → entry_named n (xs ++ ys) ≡ Some (f x)
+over-some f n o xs ys x e k = named-both n xs ys ∙ ap (λ o. option_or o (entry_named n ys)) (sym k ∙ ap (option_map f) e)
+
+pub over-none : {X A : Type 0} (f : X → A) (n : List ℕ) (o : Option X) (xs ys : List (List ℕ × A)) → o ≡ None → option_map f o ≡ entry_named n xs → entry_named n (xs ++ ys) ≡ entry_named n ys
+over-none f n o xs ys e k = named-both n xs ys ∙ ap (λ o. option_or o (entry_named n ys)) (sym k ∙ ap (option_map f) e)
+
+-- the same by a test
+pub over-named : {X A : Type 0} (f : X → A) (n : List ℕ) (o : Option X) (xs ys : List (List ℕ × A)) (c : Bool) → option_map f o ≡ entry_named n xs → c ≡ is_some o → c ≡ true → is_some (entry_named n (xs ++ ys)) ≡ true
+over-named f n None xs ys c e k h = let no : false ≡ true = sym k ∙ h in cc
+over-named f n (Some x) xs ys c e k h = ap is_some (over-some f n (Some x) xs ys x refl e)
+
+pub not-over : {X A : Type 0} (f : X → A) (n : List ℕ) (o : Option X) (xs ys : List (List ℕ × A)) (c : Bool) → option_map f o ≡ entry_named n xs → c ≡ is_some o → c ≡ false → entry_named n (xs ++ ys) ≡ entry_named n ys
+not-over f n None xs ys c e k h = over-none f n None xs ys refl e
+not-over f n (Some x) xs ys c e k h = let no : true ≡ false = sym k ∙ h in cc
+
+pub behind-both : {X : Type 0} (x : X) (xs ys zs : List X) (b : Bool) → b ≡ false → zs ≡ ys ++ (x ∷ []) → xs ++ zs ≡ cond b (xs ++ ys) ((xs ++ ys) ++ (x ∷ []))
+behind-both x xs ys zs b fresh e = let all = ap (λ t. xs ++ t) e ∙ sym (append_assoc xs ys (x ∷ [])) in rw fresh all
+
+abbrev pub without_enums : Bound → Names
+without_enums b = record { bound = b; enums = [] }
+
+-- what parameters show, in the definitions' words
+pub over-shown : (p : Parameters) (xs : Plain) (k : ℕ) (t : Bound) → IsOver p xs k t → shown p ≡ overlaid (take k xs) t
+over-shown p xs k t h = λ j. overlaid (take (h.upto_is j) (h.defaults.entries j)) (h.touched_are j)
+
+pub over-itself : (p : Parameters) (xs : Plain) (k : ℕ) (t : Bound) → IsOver p xs k t → IsOver p (plain_in p) p.upto (touched_in p)
+over-itself p xs k t h = subst (IsOver p (plain_in p) p.upto) (sym h.touched_are) (subst (λ u. IsOver p (plain_in p) u t) (sym h.upto_is) (subst (λ ys. IsOver p ys k t) (sym h.defaults.entries) h))
+
+pub none-shown : (xs : Plain) (k : ℕ) (t : Bound) → (length xs == 0) ≡ true → overlaid (take k xs) t ≡ []
+none-shown [] k t e = none k
+  where
+    none : (k : ℕ) → overlaid (take k []) t ≡ []
+    none zero = refl
+    none (suc k) = refl
+none-shown (x ∷ xs) k t e = let no : suc (length xs) ≡ 0 = eqb-true (suc (length xs)) 0 e in absurd (omega (arith, no))

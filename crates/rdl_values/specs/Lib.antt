@@ -1,5 +1,6 @@
 pub mod Bodies
 pub mod Chained
+pub mod Changed
 pub mod Constants
 pub mod Elaborated
 pub mod Elaboration
@@ -8,14 +9,20 @@ pub mod Faults
 pub mod Firsts
 pub mod Given
 pub mod Instances
+pub mod Kept
 pub mod Lineages
 pub mod NoNode
 pub mod Operators
+pub mod Over
+pub mod Overlaid
 pub mod Parameters
 pub mod Parts
 pub mod Paths
 pub mod Phase3
+pub mod Places
 pub mod Primary
+pub mod Readers
+pub mod Reads
 pub mod Rows
 pub mod Scopes
 pub mod Seen

@@ -5,7 +5,9 @@ use Rattle.std.specs.Borrow.{Bor}
 use Rattle.std.specs.Global.{Global}
 use Rattle.rdl_tree.specs.declared.value.Value.{Value}
 use Rattle.rdl_values.specs.Firsts.{AreFirsts}
+use Rattle.rdl_values.specs.Over.{AreShown}
 use Rattle.rdl_values.specs.declared.firsts.Firsts.{Firsts}
+use Rattle.rdl_values.specs.declared.parameters.Parameters.{Parameters}
 use Rattle.rdl_values.specs.Seen.{val_of}
 use Rattle.rdl_values.specs.Values.{Val, EnumOf, Names}
 
@@ -21,8 +23,9 @@ entries_by es = map (λ e. (e.0.now, e.1)) es
 abbrev pub keys_of : {X : Type 0} → List (Bor (List ℕ) × X) → List (List ℕ)
 keys_of es = map (λ e. e.0.now) es
 
--- what is kept of a body: the places of its parameters and of its enumerations, whose names differ
-pub record AreBodyNames (bound_places : Firsts) (bound : List (Bor (List ℕ) × Value)) (enum_places : Firsts) (enums : List EnumOf) : Type 0 where
+-- what is kept of a body: parameters over those of a text, the places of the others and of its enumerations, whose names differ
+pub record AreBodyNames (over : Option Parameters) (bound_places : Firsts) (bound : List (Bor (List ℕ) × Value)) (enum_places : Firsts) (enums : List EnumOf) : Type 0 where
+  pub shown_are : AreShown over
   pub bound_at : AreFirsts bound_places (keys_of bound)
   pub enums_at : AreFirsts enum_places (map (λ e. e.name) enums)
   pub unique : IsDistinct bytes_eq (map (λ e. e.name) enums)

@@ -45,7 +45,7 @@ pub fn condition(value: &Value, place: Place) -> Result<bool, Fault>
 }
 
 // Whether two values of one type are equal.
-fn same(x: &Value, y: &Value) -> Option<bool>
+pub(crate) fn same(x: &Value, y: &Value) -> Option<bool>
     ensures { result ≡ operators.same (val_of x.now) (val_of y.now) }
 {
     match (x, y) {

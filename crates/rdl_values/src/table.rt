@@ -2,6 +2,7 @@
 
 use crate::firsts::Firsts;
 use crate::name_table::NameTable;
+use crate::parameters::Parameters;
 use rb_base::NoMemory;
 use rdl_tree::{Name, Value};
 use std::alloc::Global;
@@ -99,7 +100,10 @@ impl<'a> Model for Table<'a> {
 }
 
 impl<'a> Table<'a> {
-    ghost use Rattle.std.specs.Prelude.{◌≡◌, [], ◌∷◌, ◌++◌, cond, is_some, OnOk, OnErr, MatchOption, Some, None};
+    ghost use Rattle.std.specs.Prelude.{◌≡◌, ℕ, [], ◌∷◌, ◌++◌, cond, is_some, take, IfOk, OnOk, OnErr, MatchOption, Some, None};
+    ghost use Rattle.rdl_values.specs.Over.{IsOver};
+    ghost use Rattle.rdl_values.specs.Overlaid.{Plain, overlaid};
+    ghost use Rattle.rdl_values.specs.Parameters.{Bound as BoundOf};
     ghost use Rattle.rdl_values.specs.Seen.{val_of};
     ghost use Rattle.rdl_values.specs.Table.{is_enum_named};
     ghost use Rattle.rdl_values.specs.Values.{entry_named};
@@ -110,6 +114,19 @@ impl<'a> Table<'a> {
         ensures { result ≡ (record { bound = []; enums = [] }) }
     {
         Table { alloc, names: None }
+    }
+
+    /// A body with these parameters.
+    pub fn over(alloc: Global, parameters: Parameters<'a>) -> Result<Self, NoMemory>
+        requires { (xs : Plain) × (k : ℕ) × (t : BoundOf) × IsOver parameters xs k t }
+        ensures { IfOk result (λ table. (xs : Plain) (k : ℕ) (t : BoundOf) → IsOver parameters.entry xs k t → table ≡ (record { bound = overlaid (take k xs) t; enums = [] })) }
+    {
+        if parameters.is_empty() {
+            return Ok(Table::new(alloc));
+        }
+        let names = NameTable::over(alloc, parameters);
+        let names = Some(Box::new(alloc, names)?);
+        Ok(Table { alloc, names })
     }
 
     /// Puts a parameter behind the others, where none has its name. It changes nothing where memory is wanting.

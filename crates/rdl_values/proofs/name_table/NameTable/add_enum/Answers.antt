@@ -13,6 +13,7 @@ invariant_of-self-in-Continue-branch-3 c =
     let size : c.len.result ≡ length es = c.len.ensures ∙ c.reserve.new.self.ok.0 ∙ ap length c.reserve.ensures.items ∙ sym (length-map c.self.inside.enums.items rc_value) in
     let items = ap (map rc_value) c.in_ok-push.ensures.items ∙ map-append rc_value c.reserve.new.self.items (c.args.of ∷ []) ∙ ap (λ xs. map rc_value xs ++ (e ∷ [])) c.reserve.ensures.items in
     record {
+      shown_are = c.self.invariant.shown_are;
       bound_at = c.self.invariant.bound_at;
       enums_at = firsts_pushed (λ e. e.name) c.self.inside.enum_places c.put.new.self es (map rc_value c.push.new.self.items) e c.len.result c.self.invariant.enums_at size (subst (λ m. IsPut m c.len.result c.self.inside.enum_places c.put.new.self) (c.text.ensures ∙ ap (λ e. e.name) c.deref.ensures) c.in_ok-again.ensures.put) items;
       unique = unique_pushed es (map rc_value c.push.new.self.items) e c.self.inside.enum_places c.self.invariant.enums_at (subst (λ m. is_some (place_of c.self.inside.enum_places m) ≡ false) (c.text.ensures ∙ ap (λ e. e.name) c.deref.ensures) (sym c.in_ok-again.ensures.again ∙ c.if-not-again.true)) c.self.invariant.unique items;
