@@ -11,7 +11,7 @@ use Rattle.rdl_values.specs.Bodies.{around, scope_at}
 use Rattle.rdl_values.specs.Chained.{chained}
 use Rattle.rdl_values.specs.Enums.{names_of, with_item, with_items}
 use Rattle.rdl_values.specs.Instances.{Instance, body}
-use Rattle.rdl_values.specs.Seen.{bound_of, listed_enum, names_in}
+use Rattle.rdl_values.specs.Seen.{listed_enum}
 use Rattle.rdl_values.specs.Values.{Around, EnumOf, Names, Val}
 use Rattle.rdl_values.specs.Views as view
 use Rattle.rdl_values.specs.Views.{ItemIs, item_is}
@@ -26,7 +26,7 @@ use Rattle.rdl_scopes.proofs.Closing.{closed_stays}
 use Rattle.rdl_scopes.specs.Scopes.{AreOpen, Shows, items_at, items_in}
 use Rattle.rdl_bodies.specs.Kept.{AreBelow, AreKept, Begins, Grows, HasItems, IsBody, IsOpenFor, IsPlacedIn, IsSite, IsTextIn, of_names}
 use Rattle.rdl_bodies.specs.Opened.{IsOpened, IsText, IsTextFor}
-use Rattle.rdl_bodies.specs.Sited.{HaveNames, IsAt, IsOpenAs, own_names}
+use Rattle.rdl_bodies.specs.Sited.{HaveNames, IsAt, IsOpenAs, own_names, values_over}
 use Rattle.rdl_bodies.specs.declared.bodies.Bodies.{Bodies}
 use Rattle.rdl_bodies.specs.declared.bodies.Body.{Body}
 use Rattle.rdl_bodies.specs.declared.bodies.Site.{Site}
@@ -74,7 +74,7 @@ placed-stays these those more None items h = tt
 placed-stays these those more (Some p) items h = (h.0, begins_get these those p.outer h.0 more h.1, h.2)
 
 pub text_stays : (these those : List Text) → Begins these those → (held gs : List Fault) (x : Text) → IsTextIn these held x → IsTextIn those (with_all gs held) x
-text_stays these those more held gs x h = record { closed = closed_stays x.closed x.items.now gs held h.closed; placed = placed-stays these those more x.place x.items.now h.placed }
+text_stays these those more held gs x h = record { closed = closed_stays x.closed x.items.now gs held h.closed; defaults = h.defaults; placed = placed-stays these those more x.place x.items.now h.placed }
 
 -- Bodies and sites that were there stay what they are.
 module _ (t u : Bodies) (grown : Grows t u) (texts : Begins t.texts.items u.texts.items) (before gs : List Fault) (inv : AreKept t before) where
@@ -91,7 +91,7 @@ module _ (t u : Bodies) (grown : Grows t u) (texts : Begins t.texts.items u.text
   site_stays s h = record {
     below = below_more (length t.tables.items) (length u.tables.items) s.outer.now longer h.below;
     defined = sym (def_same t u s.outer.now s.uptos.now (here s.outer.now h.below)) ∙ h.defined;
-    distinct = h.distinct;
+    apart = h.apart;
   }
 
   open-for : (x : Body) (o : Option ℕ) → AreBelow (length t.tables.items) x.numbers.now → IsOpenFor t before x o → IsOpenFor u after x o
@@ -124,9 +124,12 @@ module _ (t u : Bodies) (grown : Grows t u) (texts : Begins t.texts.items u.text
 -- One body more.
 
 -- the names of a body that were opened
-pub names_opened : (r : Body) (ws : Around) (x : BodyText) (o : Opened) → r.bound.now ≡ x.bound.now → r.enums.now ≡ o.enums.now → map listed_enum o.enums.now ≡ (names_of ws (map bound_of x.bound.now) x.items.now).enums → own_names r ≡ names_of ws (map bound_of x.bound.now) x.items.now
-names_opened r ws x o bound enums listed =
-    ap (λ bs. names_in bs r.enums.now) bound ∙ ap (names_in x.bound.now) enums ∙ same-names (names_of ws (map bound_of x.bound.now) x.items.now) (map bound_of x.bound.now) (map listed_enum o.enums.now) (sym (names_bound ws (map bound_of x.bound.now) x.items.now)) listed
+pub names_opened : (r : Body) (ws : Around) (x : BodyText) (o : Opened) → r.params.now ≡ x.params.now → r.touched.now ≡ x.touched.now → r.enums.now ≡ o.enums.now → map listed_enum o.enums.now ≡ (names_of ws (values_over x.params.now x.touched.now) x.items.now).enums
+    → own_names r ≡ names_of ws (values_over x.params.now x.touched.now) x.items.now
+names_opened r ws x o params touched enums listed =
+    let bound = values_over x.params.now x.touched.now in
+    let values : values_over r.params.now r.touched.now ≡ bound = ap (λ ps. values_over ps r.touched.now) params ∙ ap (values_over x.params.now) touched in
+    same-names (names_of ws bound x.items.now) (values_over r.params.now r.touched.now) (map listed_enum r.enums.now) (values ∙ sym (names_bound ws bound x.items.now)) (ap (map listed_enum) enums ∙ listed)
 
 -- What is known of a body that is put behind the others.
 pub record IsNext (t u : Bodies) (number : ℕ) (x : BodyText) (r : Body) : Type 0 where
@@ -145,8 +148,8 @@ pub record IsNext (t u : Bodies) (number : ℕ) (x : BodyText) (r : Body) : Type
   pub kind_is : r.kind ≡ x.kind
   pub numbers_are : r.numbers.now ≡ number ∷ x.outer.now
   pub uptos_are : r.uptos.now ≡ x.uptos.now
-  pub names_are : (ws : Around) → IsAlike (chained t.tables.items x.outer.now) ws → own_names r ≡ names_of ws (map bound_of x.bound.now) x.items.now
-  pub alike : (ws : Around) → IsAlike (chained t.tables.items x.outer.now) ws → IsAlike (table ∷ chained t.tables.items x.outer.now) (names_of ws (map bound_of x.bound.now) x.items.now ∷ ws)
+  pub names_are : (ws : Around) → IsAlike (chained t.tables.items x.outer.now) ws → own_names r ≡ names_of ws (values_over x.params.now x.touched.now) x.items.now
+  pub alike : (ws : Around) → IsAlike (chained t.tables.items x.outer.now) ws → IsAlike (table ∷ chained t.tables.items x.outer.now) (names_of ws (values_over x.params.now x.touched.now) x.items.now ∷ ws)
 
 module _ (t u : Bodies) (number : ℕ) (x : BodyText) (r : Body) (new : IsNext t u number x r) where
   pub grown_by : Grows t u

@@ -9,6 +9,8 @@ use Rattle.rdl_values.specs.Phase3.{of_enums, twice_defined}
 use Rattle.rdl_failures.specs.Noted.{with_all}
 use Rattle.rdl_failures.proofs.Sets.{holds-right, put_before}
 use Rattle.rdl_scopes.specs.Closed.{AreClosedOf, AreJudged}
+use Rattle.rdl_scopes.specs.Defaulted.{AreKnown}
+use Rattle.std.specs.Rc.{rc_value}
 use Rattle.rdl_bodies.specs.Kept.{AreKept, Begins, IsPlacedIn, IsSite, IsTextIn, of_names}
 use Rattle.rdl_bodies.specs.Opened.{IsOpened}
 use Rattle.rdl_bodies.specs.Sited.{component_at, def_at}
@@ -63,9 +65,13 @@ pub if_both : {T E : Type 0} (r : Result T E) (P : T → Type 0) (Q : Type 0) (R
 if_both (Ok x) P Q R f p q = f x p q
 if_both (Err e) P Q R f p q = p
 
+pub some_map : {T : Type 0} (o : Option T) (P R : T → Type 0) → ((x : T) → P x → R x) → IfSome o P → IfSome o R
+some_map (Some x) P R f p = f x p
+some_map None P R f p = p
+
 pub text_new : (t u : Bodies) (before after : List Fault) (place : Option TextPlace) (items : List Item) (k : ℕ) (x : Text) → AreKept t before → IsPlaced t place items → AreSame t u → u.texts.items ≡ t.texts.items ++ (x ∷ []) → k ≡ length t.texts.items → x.place ≡ place → x.items.now ≡ items
-    → AreJudged x.closed items before after → HasText t u before after items k
-text_new t u before after place items k x inv placed same texts at x-place x-items judged = record {
+    → AreJudged x.closed items before after → AreKnown (option_map rc_value x.defaults) items → HasText t u before after items k
+text_new t u before after place items k x inv placed same texts at x-place x-items judged defaults = record {
   kept = subst (AreKept u) (sym judged.noted) (kept_same t u same.tables same.components same.list same.sites before judged.fails more all inv);
   same = same;
   fails = judged.fails;
@@ -84,6 +90,7 @@ text_new t u before after place items k x inv placed same texts at x-place x-ite
     own : IsTextIn u.texts.items (with_all judged.fails before) x
     own = record {
       closed = subst (λ is. AreClosedOf x.closed is (with_all judged.fails before)) (sym x-items) (subst (AreClosedOf x.closed items) judged.noted judged.closed);
+      defaults = subst (AreKnown (option_map rc_value x.defaults)) (sym x-items) defaults;
       placed = subst (λ o. IsPlacedIn u.texts.items o x.items.now) (sym x-place) (subst (λ is. IsPlacedIn u.texts.items place is) (sym x-items) (begun place placed));
     }
 

@@ -3,3 +3,4 @@ mod Distinct
 mod Finding
 pub mod Growing
 mod Places
+mod Valued

@@ -1,5 +1,5 @@
 -- Definitions in the bodies of definitions, and the root.
-use Rattle.std.proofs.Common.{◌≡◌, ◌∙◌, ℕ, zero, suc, ◌+◌, List, [], ◌∷◌, ◌++◌, length, map, slice_get, Option, None, Some, refl, sym, ap, subst, append-nil, arith}
+use Rattle.std.proofs.Common.{◌≡◌, ◌∙◌, ℕ, zero, suc, ◌+◌, List, [], ◌∷◌, ◌++◌, length, map, slice_get, unwrap_or, Option, None, Some, option_and_then, refl, sym, ap, subst, append-nil, arith}
 use Rattle.plain_lemmas.proofs.Lists.{get-last as get_next, get-not_none as within-some}
 use Rattle.rdl_base.specs.declared.fault.Fault.{Fault}
 use Rattle.rdl_tree.specs.InOrder.{IsInOrder, RiseFrom, IsInOrderInside, none, more, place_of}
@@ -15,10 +15,13 @@ use Rattle.rdl_values.specs.Seen.{bound_of}
 use Rattle.rdl_values.specs.Top.{root}
 use Rattle.rdl_values.specs.Views as view
 use Rattle.rdl_values.specs.Views.{ItemIs, item_is, item_is-Def}
-use Rattle.rdl_scopes.specs.Scopes.{AreOpen}
-use Rattle.rdl_bodies.specs.Kept.{AreBelow, AreDistinct, AreKept, IsSite}
+use Rattle.rdl_scopes.specs.Scopes.{AreOpen, Stands, items_at}
+use Rattle.rdl_values.specs.Overlaid.{AreApart, overlaid, plain_of}
+use Rattle.rdl_bodies.specs.Kept.{AreBelow, AreKept, IsSite}
 use Rattle.rdl_bodies.specs.Opened.{IsListed, IsSame, IsText}
-use Rattle.rdl_bodies.specs.Sited.{AreRound, IsAt, component_at, def_at}
+use Rattle.rdl_scopes.specs.declared.components.Components.{Components}
+use Rattle.rdl_scopes.specs.declared.scopes.Found.{Found}
+use Rattle.rdl_bodies.specs.Sited.{AreRound, IsAt, component_at, def_at, values_over}
 use Rattle.rdl_bodies.specs.declared.bodies.Bodies.{Bodies}
 use Rattle.rdl_bodies.specs.declared.bodies.Body.{Body}
 use Rattle.rdl_bodies.specs.declared.bodies.Site.{Site}
@@ -81,27 +84,55 @@ site_in_order t held (k ∷ ks) (p ∷ ps) d inv low e = go (slice_get t.list.it
     go None q = let l = low.0 in let n = inv.list in absurd (within-some t.list.items k (omega (arith, l, n)) q)
 
 -- the root's body has the root's text
-pub root_text : (t : Bodies) (x : BodyText) (s : Source) → x.items.now ≡ s.items.now → x.kind ≡ None → x.outer.now ≡ [] → x.uptos.now ≡ [] → x.bound.now ≡ [] → IsText t x (root s)
-root_text t x s i k o u b = record {
+pub root_text : (t : Bodies) (x : BodyText) (s : Source) → x.items.now ≡ s.items.now → x.kind ≡ None → x.outer.now ≡ [] → x.uptos.now ≡ [] → x.params.now ≡ [] → IsText t x (root s)
+root_text t x s i k o u p = record {
   items_are = sym i;
   kind_is = sym k;
   round = subst (λ ks. AreRound t ks x.uptos.now []) (sym o) (subst (λ ps. AreRound t [] ps []) (sym u) (record { shown = tt; names = tt }));
-  names_are = ap (λ bs. names_of [] (map bound_of bs) s.items.now) (sym b) ∙ ap (λ is. names_of [] (map bound_of x.bound.now) is) (sym i);
+  names_are = ap (λ ps. names_of [] (values_over ps x.touched.now) s.items.now) (sym p) ∙ ap (λ is. names_of [] (values_over x.params.now x.touched.now) is) (sym i);
 }
 
 -- the bodies of a site's nodes have its text
 pub site_text : (t : Bodies) (number : ℕ) (s : Site) (n : Instance) → IsAt t s n.closure n.bound
-    → IsText t (record { site = Some number; items = s.def.now.items; kind = Some s.def.now.kind; outer = s.outer; uptos = s.uptos; bound = s.bound }) (body n)
+    → IsText t (record { site = Some number; items = s.def.now.items; kind = Some s.def.now.kind; outer = s.outer; uptos = s.uptos; params = s.def.now.params; touched = s.touched }) (body n)
 site_text t number s n at = record {
   items_are = ap (λ d. d.items.now) at.def;
   kind_is = ap (λ d. Some d.kind) at.def;
   round = at.round;
-  names_are = ap (λ b. names_of (around n.closure.scope) b n.closure.def.items.now) at.bound_is ∙ ap (λ d. names_of (around n.closure.scope) (map bound_of s.bound.now) d.items.now) at.def;
+  names_are = ap (λ b. names_of (around n.closure.scope) b n.closure.def.items.now) at.bound_is ∙ ap (λ d. names_of (around n.closure.scope) (values_over s.def.now.params.now s.touched.now) d.items.now) at.def;
 }
+
+-- the definition at a place stands there
+stands-as : (i : Item) (v : ItemIs) (d : Def) → item_is i ≡ v → component_of v ≡ Some d → item_is i ≡ view.definition d
+stands-as i (view.definition e) d is h = let same : e ≡ d = cc in is ∙ ap view.definition same
+stands-as i (view.enumeration m es) d is h = cc
+stands-as i (view.made a of is) d e h = cc
+stands-as i (view.default_ s) d is h = cc
+stands-as i (view.local s) d is h = cc
+stands-as i (view.dynamic p s) d is h = cc
+
+pub stands_there : (cs : List Components) (ks ps : List ℕ) (d : Def) (f : Found) → def_at cs ks ps ≡ Some d → f.level ≡ 0 → unwrap_or (slice_get ps 0) 0 ≡ f.position → f.def.now ≡ d → Stands cs ks f
+stands_there cs [] ps d f e level position def = cc
+stands_there cs (k ∷ ks) [] d f e level position def = cc
+stands_there cs (k ∷ ks) (p ∷ ps) d f e level position def = go (slice_get (items_at cs k) p) refl
+  where
+    go : (o : Option Item) → slice_get (items_at cs k) p ≡ o → Stands cs (k ∷ ks) f
+    go None q = let no = sym (ap (λ o. option_and_then (λ i. component_of (item_is i)) o) q) ∙ e in cc
+    go (Some i) q = record {
+      number = k;
+      item = i;
+      body = ap (slice_get (k ∷ ks)) level;
+      there = ap (slice_get (items_at cs k)) (sym position) ∙ q;
+      is = stands-as i (item_is i) d refl (sym (ap (λ o. option_and_then (λ j. component_of (item_is j)) o) q) ∙ e) ∙ ap view.definition (sym def);
+    }
+
+-- the values of a site's parameters, as those of the definition
+put : (s : Site) (d : Def) (bs : Bound) → d ≡ s.def.now → map bound_of s.touched.now ≡ bs → overlaid (plain_of d.params.now) bs ≡ values_over s.def.now.params.now s.touched.now
+put s d bs is touched = ap (λ e. overlaid (plain_of e.params.now) bs) is ∙ ap (overlaid (plain_of s.def.now.params.now)) (sym touched)
 
 -- a site that is listed already is that of a definition at the same place
 pub listed_at : (t : Bodies) (held : List Fault) (number : ℕ) (s : Site) (outer uptos : List ℕ) (d : Def) (bs b : Bound) (c : Closure) → AreKept t held → slice_get t.sites.items number ≡ Some s → IsSame s outer uptos bs → def_at t.components.items outer uptos ≡ Some d
-    → c.def ≡ d → AreRound t outer uptos c.scope → b ≡ bs → IsListed t t held number c b
+    → c.def ≡ d → AreRound t outer uptos c.scope → b ≡ overlaid (plain_of d.params.now) bs → IsListed t t held number c b
 listed_at t held number s outer uptos d bs b c inv here same defined def round bound =
     let at = (inv.sites number s here).defined in
     let other : Some s.def.now ≡ Some d = sym at ∙ ap (λ ks. def_at t.components.items ks s.uptos.now) same.outer_is ∙ ap (λ ps. def_at t.components.items outer ps) same.uptos_are ∙ defined in
@@ -114,18 +145,18 @@ listed_at t held number s outer uptos d bs b c inv here same defined def round b
       at = record {
         def = def ∙ sym is;
         round = subst (λ ks. AreRound t ks s.uptos.now c.scope) (sym same.outer_is) (subst (λ ps. AreRound t outer ps c.scope) (sym same.uptos_are) round);
-        bound_is = bound ∙ sym same.bound_is;
+        bound_is = bound ∙ put s d bs (sym is) same.touched_are;
       };
     }
 
 -- a new site is that of the definition
 pub listed_new : (t u : Bodies) (held : List Fault) (number : ℕ) (s : Site) (outer uptos : List ℕ) (d : Def) (bs b : Bound) (c : Closure) → AreKept t held → u.tables ≡ t.tables → u.components ≡ t.components → u.list ≡ t.list → u.sites.items ≡ t.sites.items ++ (s ∷ []) → u.texts ≡ t.texts
-    → number ≡ length t.sites.items → s.def.now ≡ d → IsSame s outer uptos bs → AreBelow (length t.tables.items) outer → def_at t.components.items outer uptos ≡ Some d → AreDistinct [] bs → c.def ≡ d → AreRound t outer uptos c.scope → b ≡ bs → IsListed t u held number c b
-listed_new t u held number s outer uptos d bs b c inv tables components list sites texts at of same below defined distinct def round bound =
+    → number ≡ length t.sites.items → s.def.now ≡ d → IsSame s outer uptos bs → AreBelow (length t.tables.items) outer → def_at t.components.items outer uptos ≡ Some d → AreApart (plain_of d.params.now) → c.def ≡ d → AreRound t outer uptos c.scope → b ≡ overlaid (plain_of d.params.now) bs → IsListed t u held number c b
+listed_new t u held number s outer uptos d bs b c inv tables components list sites texts at of same below defined apart def round bound =
     let site : IsSite t s = record {
       below = subst (AreBelow (length t.tables.items)) (sym same.outer_is) below;
       defined = ap (λ ks. def_at t.components.items ks s.uptos.now) same.outer_is ∙ ap (λ ps. def_at t.components.items outer ps) same.uptos_are ∙ defined ∙ ap Some (sym of);
-      distinct = subst (AreDistinct []) (sym same.bound_is) distinct;
+      apart = subst (λ e. AreApart (plain_of e.params.now)) (sym of) apart;
     } in
     let grown = grown_listed t u s tables components list sites texts in
     let all = same_below t u outer inv.components inv.list grown below in
@@ -137,11 +168,11 @@ listed_new t u held number s outer uptos d bs b c inv tables components list sit
       at = record {
         def = def ∙ sym of;
         round = subst (λ ks. AreRound u ks s.uptos.now c.scope) (sym same.outer_is) (subst (λ ps. AreRound u outer ps c.scope) (sym same.uptos_are) (round_same t u outer uptos c.scope all round));
-        bound_is = bound ∙ sym same.bound_is;
+        bound_is = bound ∙ put s d bs (sym of) same.touched_are;
       };
     }
 
 -- a site's text is that of the site that is found
 pub found_text : (t : Bodies) (number : ℕ) (s r : Site) (n : Instance) → slice_get t.sites.items number ≡ Some s → slice_get t.sites.items number ≡ Some r → IsAt t s n.closure n.bound
-    → IsText t (record { site = Some number; items = r.def.now.items; kind = Some r.def.now.kind; outer = r.outer; uptos = r.uptos; bound = r.bound }) (body n)
+    → IsText t (record { site = Some number; items = r.def.now.items; kind = Some r.def.now.kind; outer = r.outer; uptos = r.uptos; params = r.def.now.params; touched = r.touched }) (body n)
 found_text t number s r n e f at = let both : Some s ≡ Some r = sym e ∙ f in let same : s ≡ r = cc in site_text t number r n (subst (λ x. IsAt t x n.closure n.bound) same at)

@@ -1,16 +1,18 @@
 -- What holds of the open bodies at any time.
-use Rattle.std.specs.Prelude.{◌≡◌, ℕ, false, List, [], ◌∷◌, ◌++◌, length, map, Option, None, Some, option_map, slice_get, bytes_eq}
+use Rattle.std.specs.Prelude.{◌≡◌, ℕ, false, List, [], ◌∷◌, ◌++◌, length, Option, None, Some, option_map, slice_get, bytes_eq}
 use Rattle.std.specs.List.{list_any}
+use Rattle.std.specs.Rc.{rc_value}
 use Rattle.rdl_base.specs.declared.fault.Fault.{Fault}
 use Rattle.rdl_tree.specs.InOrder.{IsInOrder}
 use Rattle.rdl_tree.specs.declared.item.Item.{Item}
 use Rattle.rdl_values.specs.Bodies as values
 use Rattle.rdl_values.specs.Instances.{Instance, body}
+use Rattle.rdl_values.specs.Overlaid.{AreApart, plain_of}
 use Rattle.rdl_values.specs.Parameters.{Bound}
 use Rattle.rdl_values.specs.Phase3.{of_enums, twice_defined}
-use Rattle.rdl_values.specs.Seen.{bound_of}
 use Rattle.rdl_failures.specs.Noted.{Holds}
 use Rattle.rdl_scopes.specs.Closed.{AreClosedOf}
+use Rattle.rdl_scopes.specs.Defaulted.{AreKnown}
 use Rattle.rdl_scopes.specs.Scopes.{AreOpen, items_at}
 use Rattle.rdl_bodies.specs.Sited.{IsAt, IsOpenAs, component_at, def_at}
 pub use Rattle.rdl_bodies.specs.Sited.{AreBelow}
@@ -33,7 +35,7 @@ AreDistinct before (b ∷ bs) = (list_any (λ x. bytes_eq x.0 b.0) before ≡ fa
 pub record IsSite (t : Bodies) (s : Site) : Type 0 where
   pub below : AreBelow (length t.tables.items) s.outer.now
   pub defined : def_at t.components.items s.outer.now s.uptos.now ≡ Some s.def.now
-  pub distinct : AreDistinct [] (map bound_of s.bound.now)
+  pub apart : AreApart (plain_of s.def.now.params.now)
 
 -- The body is open for each node of its site, and the failures of its names are held.
 abbrev pub IsOpenFor : Bodies → List Fault → Body → Option ℕ → Type 0
@@ -49,9 +51,11 @@ abbrev pub IsPlacedIn : List Text → Option TextPlace → List Item → Type 0
 IsPlacedIn texts None items = Unit {0}
 IsPlacedIn texts (Some p) items = (x : Text) × (slice_get texts p.outer ≡ Some x) × (option_map (λ d. d.items.now) (component_at x.items.now p.upto) ≡ Some items)
 
--- A text: where it stands, and its closed enumerations, the failures of which are held.
+-- A text: where it stands, what the parameters of its definitions have at all uses, and its closed enumerations, the failures of which
+-- are held.
 pub record IsTextIn (texts : List Text) (held : List Fault) (x : Text) : Type 0 where
   pub closed : AreClosedOf x.closed x.items.now held
+  pub defaults : AreKnown (option_map rc_value x.defaults) x.items.now
   pub placed : IsPlacedIn texts x.place x.items.now
 
 -- A body of this number.

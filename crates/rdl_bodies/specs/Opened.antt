@@ -10,7 +10,7 @@ use Rattle.rdl_values.specs.Seen.{bound_of}
 use Rattle.rdl_failures.specs.Noted.{with_all}
 use Rattle.rdl_scopes.specs.declared.enums.Opened.{Opened}
 use Rattle.rdl_bodies.specs.Kept.{AreKept, Grows, of_names}
-use Rattle.rdl_bodies.specs.Sited.{AreRound, IsAt, IsOpenAs}
+use Rattle.rdl_bodies.specs.Sited.{AreRound, IsAt, IsOpenAs, values_over}
 use Rattle.rdl_bodies.specs.declared.bodies.Bodies.{Bodies}
 use Rattle.rdl_bodies.specs.declared.bodies.Body.{Body}
 use Rattle.rdl_bodies.specs.declared.bodies.Site.{Site}
@@ -21,7 +21,7 @@ pub record IsText (t : Bodies) (x : BodyText) (b : values.Body) : Type 0 where
   pub items_are : b.items ≡ x.items.now
   pub kind_is : b.kind ≡ x.kind
   pub round : AreRound t x.outer.now x.uptos.now b.outer
-  pub names_are : b.names ≡ names_of (around b.outer) (map bound_of x.bound.now) x.items.now
+  pub names_are : b.names ≡ names_of (around b.outer) (values_over x.params.now x.touched.now) x.items.now
 
 -- It is the text of the bodies of a site's nodes, if it has a site.
 abbrev pub IsTextFor : Bodies → BodyText → Option ℕ → Type 0
@@ -36,7 +36,8 @@ pub record IsBodyOf (number of : ℕ) (x : BodyText) (o : Opened) (r : Body) : T
   pub kind_is : r.kind ≡ x.kind
   pub numbers_are : r.numbers.now ≡ number ∷ x.outer.now
   pub uptos_are : r.uptos.now ≡ x.uptos.now
-  pub bound_is : r.bound.now ≡ x.bound.now
+  pub params_are : r.params.now ≡ x.params.now
+  pub touched_are : r.touched.now ≡ x.touched.now
   pub enums_are : r.enums.now ≡ o.enums.now
 
 -- There is a site of this number, and a node of it.
@@ -63,11 +64,11 @@ pub record IsListed (old new : Bodies) (held : List Fault) (number : ℕ) (c : C
   pub here : slice_get new.sites.items number ≡ Some site
   pub at : IsAt new site c bound
 
--- The site is in these bodies, behind so many items of each, with these values of its parameters.
-pub record IsSame (s : Site) (outer uptos : List ℕ) (bound : Bound) : Type 0 where
+-- The site is in these bodies, behind so many items of each, with these values put over those of its parameters.
+pub record IsSame (s : Site) (outer uptos : List ℕ) (touched : Bound) : Type 0 where
   pub outer_is : s.outer.now ≡ outer
   pub uptos_are : s.uptos.now ≡ uptos
-  pub bound_is : map bound_of s.bound.now ≡ bound
+  pub touched_are : map bound_of s.touched.now ≡ touched
 
 -- The root's body has the number 0, and the failures of its names were put in.
 pub record IsRootOpen (t : Bodies) (before after : List Fault) (b : values.Body) : Type 0 where

@@ -3,10 +3,13 @@ use Rattle.std.specs.Prelude.{◌≡◌, ◌<◌, ℕ, List, [], ◌∷◌, map,
 use Rattle.std.specs.List.{AllByRecursion}
 use Rattle.rdl_tree.specs.declared.item.Def.{Def}
 use Rattle.rdl_tree.specs.declared.item.Item.{Item}
+use Rattle.rdl_tree.specs.declared.item.Param.{Param}
+use Rattle.rdl_tree.specs.declared.value.Bound.{Bound as BoundParameter}
 use Rattle.rdl_values.specs.Bodies as values
 use Rattle.rdl_values.specs.Bodies.{Closure, Scope, around, component_of, scope_at}
+use Rattle.rdl_values.specs.Overlaid.{overlaid, plain_of}
 use Rattle.rdl_values.specs.Parameters.{Bound}
-use Rattle.rdl_values.specs.Seen.{bound_of, names_in}
+use Rattle.rdl_values.specs.Seen.{bound_of, listed_enum}
 use Rattle.rdl_values.specs.Values.{Around, Names}
 use Rattle.rdl_values.specs.Views.{item_is}
 use Rattle.rdl_scopes.specs.declared.components.Components.{Components}
@@ -19,9 +22,13 @@ use Rattle.rdl_bodies.specs.declared.bodies.Site.{Site}
 abbrev pub AreBelow : ℕ → List ℕ → Type 0
 AreBelow n ks = AllByRecursion (λ k. k < n) ks
 
+-- the values of parameters: those that their text has at all uses, with the touched ones put over them
+abbrev pub values_over : List Param → List BoundParameter → Bound
+values_over ps touched = overlaid (plain_of ps) (map bound_of touched)
+
 -- the parameters and the enumerations of an open body
 abbrev pub own_names : Body → Names
-own_names x = names_in x.bound.now x.enums.now
+own_names x = record { bound = values_over x.params.now x.touched.now; enums = map listed_enum x.enums.now }
 
 -- The open body of a number has these names, and stands behind the bodies of these other numbers, which are round its text.
 pub record HasNames (bodies : List Body) (k : ℕ) (outer : List ℕ) (names : Names) : Type 0 where
@@ -46,7 +53,7 @@ pub record AreRound (t : Bodies) (outer uptos : List ℕ) (scope : Scope) : Type
 pub record IsAt (t : Bodies) (s : Site) (c : Closure) (bound : Bound) : Type 0 where
   pub def : c.def ≡ s.def.now
   pub round : AreRound t s.outer.now s.uptos.now c.scope
-  pub bound_is : bound ≡ map bound_of s.bound.now
+  pub bound_is : bound ≡ values_over s.def.now.params.now s.touched.now
 
 -- the component that the item of a number is
 abbrev pub component_at : List Item → ℕ → Option Def

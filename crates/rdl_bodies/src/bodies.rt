@@ -4,13 +4,15 @@ ghost use Rattle.std.specs.Prelude.{◌≡◌};
 
 use crate::hints::Hints;
 use bumpalo::Bump;
-use rdl_scopes::{ClosedEnums, Components};
-use rdl_tree::{Bound, Def, EnumValues, Item, Kind};
+use rdl_scopes::{ClosedEnums, Components, TextDefaults};
+use rdl_tree::{Bound, Def, EnumValues, Item, Kind, Param};
 use rdl_values::Table;
 use std::alloc::Global;
 use std::collections::BTreeMap;
+use std::rc::Rc;
 
-/// A definition in the bodies round its text, with the values of its parameters.
+/// A definition in the bodies round its text, with the values of its parameters: those that the text has at all uses, with the touched
+/// ones put over them.
 #[derive(Clone, Copy)]
 pub struct Site<'s, 'a> {
     pub def: &'a Def<'a>,
@@ -18,7 +20,7 @@ pub struct Site<'s, 'a> {
     pub outer: &'s [usize],
     /// How many items of each stand before it.
     pub uptos: &'s [usize],
-    pub bound: &'a [Bound<'a>],
+    pub touched: &'a [Bound<'a>],
 }
 
 /// An open body.
@@ -35,22 +37,30 @@ pub struct Body<'s, 'a> {
     pub numbers: &'s [usize],
     /// How many items of the bodies round it stand before its definition.
     pub uptos: &'s [usize],
-    /// The values of its definition's parameters.
-    pub bound: &'a [Bound<'a>],
+    /// The parameters of its definition, and the values that are put over those that its text has at all uses.
+    pub params: &'a [Param<'a>],
+    pub touched: &'a [Bound<'a>],
     /// Its enumerations in order.
     pub enums: &'a [EnumValues<'a>],
 }
 
 /// The value of a parameter, as part of a key.
 #[derive(PartialEq, Eq, PartialOrd, Ord, Drop)]
-pub(crate) enum ParameterKey<'a> {
+pub(crate) enum ValueKey<'a> {
     Number(u64),
     Flag(bool),
     Str(&'a [u8]),
 }
 
-/// By what a site is looked up: the nearest body round its definition, how many items of that stand before it, and the values of its
-/// parameters, if it has any.
+/// A parameter with its value, as part of a key.
+#[derive(PartialEq, Eq, PartialOrd, Ord, Drop)]
+pub(crate) struct ParameterKey<'a> {
+    pub name: &'a [u8],
+    pub value: ValueKey<'a>,
+}
+
+/// By what a site is looked up: the nearest body round its definition, how many items of that stand before it, and what is put
+/// over the values of its parameters.
 #[derive(PartialEq, Eq, PartialOrd, Ord, Drop)]
 pub(crate) struct SiteKey<'a> {
     pub outer: usize,
@@ -72,6 +82,8 @@ pub(crate) struct Text<'a> {
     pub place: Option<TextPlace>,
     pub items: &'a [Item<'a>],
     pub closed: ClosedEnums<'a>,
+    /// What the parameters of its definitions have at all uses; nothing where none of them has parameters.
+    pub defaults: Option<Rc<TextDefaults<'a>>>,
 }
 
 /// The bodies of a source that are open, and the sites of those that may be. Their lists of numbers stand in an arena of their own.
@@ -84,8 +96,8 @@ pub struct Bodies<'s, 'a> {
     pub(crate) list: Vec<Body<'s, 'a>>,
     pub(crate) sites: Vec<Site<'s, 'a>>,
     pub(crate) texts: Vec<Text<'a>>,
-    // Which site to try for the nearest body round its definition and how many items of that stand before it, where it has no parameters,
-    // and for a key where it has.
+    // Which site to try for the nearest body round its definition and how many items of that stand before it, where nothing is put over
+    // its parameters, and for a key where something is.
     pub(crate) plain: Hints,
     pub(crate) known: BTreeMap<SiteKey<'a>, usize>,
     // Which body to try for a site, by the numbers of sites; the root's stands for none.

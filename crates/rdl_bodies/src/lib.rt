@@ -10,8 +10,9 @@ mod same;
 mod sites;
 mod sparing;
 mod texts;
+mod values;
 
 pub use bodies::{Bodies, Body, Site};
-pub use opening::table_of;
 pub use root::open_root;
 pub use sparing::push_sparing;
+pub use values::{all_values, table_of};

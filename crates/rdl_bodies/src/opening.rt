@@ -1,28 +1,33 @@
 //! Bodies that are opened.
 
-ghost use Rattle.std.specs.Prelude.{◌≡◌, ◌∷◌, ◌++◌, [], cond, is_some, map, IfOk, OnOk, slice_get};
+ghost use Rattle.std.specs.Prelude.{◌≡◌, ◌∷◌, [], IfOk, OnOk, slice_get};
 ghost use Rattle.rdl_tree.specs.InOrder.{IsInOrder};
 ghost use Rattle.rdl_values.specs.Bodies.{Body as BodyOf, around};
 ghost use Rattle.rdl_values.specs.Chained.{chained};
-ghost use Rattle.rdl_values.specs.Seen.{bound_of};
-ghost use Rattle.rdl_values.specs.Values.{entry_named};
+ghost use Rattle.rdl_values.specs.Kept.{AreDefaultsOf};
+ghost use Rattle.rdl_values.specs.Overlaid.{AreApart, plain_of};
 ghost use Rattle.rdl_failures.specs.Noted.{with_all};
 ghost use Rattle.rdl_failures.specs.Shown.{IsAlike};
 ghost use Rattle.rdl_scopes.specs.Closed.{AreClosedOf};
 ghost use Rattle.rdl_scopes.specs.Opened as names;
-ghost use Rattle.rdl_bodies.specs.Kept.{AreDistinct, of_names};
+ghost use Rattle.rdl_bodies.specs.Kept.{of_names};
 ghost use Rattle.rdl_bodies.specs.Opened.{IsBodyOf};
+ghost use Rattle.rdl_bodies.specs.Sited.{values_over};
 
-use crate::bodies::{Bodies, Body, TextPlace};
+use crate::bodies::{Bodies, Body, Site, TextPlace};
 use crate::sparing::push_sparing;
 use bumpalo::Bump;
 use bumpalo::collections::into_bump_slice;
 use rb_base::NoMemory;
 use rdl_failures::Failures;
-use rdl_scopes::{ClosedEnums, Components, Opened, Outer, judge_names, open_names};
-use rdl_tree::{Bound, Item, Kind};
-use rdl_values::Table;
+use rdl_scopes::{
+    ClosedEnums, Components, Found, Opened, Outer, defaults_of, judge_names, open_names,
+    shared_defaults,
+};
+use rdl_tree::{Bound, Item, Kind, Param};
+use rdl_values::{Defaults, Parameters, Table};
 use std::alloc::Global;
+use std::rc::Rc;
 
 /// The text of a body, with the values of its parameters, in the bodies round it.
 #[derive(Clone, Copy)]
@@ -32,28 +37,26 @@ pub(crate) struct BodyText<'s, 'a> {
     pub kind: Option<Kind>,
     pub outer: &'s [usize],
     pub uptos: &'s [usize],
-    pub bound: &'a [Bound<'a>],
+    pub params: &'a [Param<'a>],
+    pub touched: &'a [Bound<'a>],
 }
 
-// Puts a parameter behind the others, where none has its name.
-fn add_parameter<'a>(table: &mut Table<'a>, parameter: &Bound<'a>) -> Result<(), NoMemory>
-    ensures enums { table.new.enums ≡ table.old.enums }
-    ensures added { OnOk result (table.new.bound ≡ cond (is_some (entry_named parameter.now.name.text.now table.old.bound)) table.old.bound (table.old.bound ++ (bound_of parameter.now ∷ []))) }
+// A table of a definition's parameters, with these values put over those that its text has at all uses.
+fn table_over<'a>(
+    alloc: Global,
+    params: &[Param<'a>],
+    defaults: &Rc<Defaults<'a>>,
+    touched: &[Bound<'a>],
+) -> Result<Table<'a>, NoMemory>
+    requires defaults { AreDefaultsOf defaults.now.value params.now }
+    requires apart { AreApart (plain_of params.now) }
+    ensures { IfOk result (λ t. t ≡ (record { bound = values_over params.now touched.now; enums = [] })) }
 {
-    table.add(parameter.name.text, parameter.value)?;
-    Ok(())
-}
-
-/// A table of parameters, no two of one name.
-pub fn table_of<'a>(alloc: Global, bound: &[Bound<'a>]) -> Result<Table<'a>, NoMemory>
-    requires { AreDistinct [] (map bound_of bound.now) }
-    ensures { IfOk result (λ t. t ≡ (record { bound = map bound_of bound.now; enums = [] })) }
-{
-    let mut table = Table::new(alloc);
-    for parameter in bound {
-        add_parameter(&mut table, parameter)?;
+    if params.is_empty() {
+        return Ok(Table::new(alloc));
     }
-    Ok(table)
+    let parameters = Parameters::of(alloc, defaults.clone()?, touched)?;
+    Table::over(alloc, parameters)
 }
 
 // The names of a body, the failures of which are put in.
@@ -62,18 +65,20 @@ fn names_of<'a>(
     arena: &'a Bump,
     tables: &[Table<'a>],
     text: &BodyText<'_, 'a>,
+    defaults: &Rc<Defaults<'a>>,
     closed: &ClosedEnums<'a>,
     failures: &mut Failures,
 ) -> Result<Opened<'a>, NoMemory>
-    requires distinct { AreDistinct [] (map bound_of text.now.bound.now) }
+    requires defaults { AreDefaultsOf defaults.now.value text.now.params.now }
+    requires apart { AreApart (plain_of text.now.params.now) }
     requires in_order { IsInOrder text.now.items.now }
     requires closed { AreClosedOf closed.now text.now.items.now failures.old }
-    ensures opened { IfOk result (names.IsOpened (map bound_of text.now.bound.now) text.now.items.now (record { tables = tables.entry; numbers = text.now.outer })) }
-    ensures noted { OnOk result ((b : BodyOf) → b.items ≡ text.now.items.now → b.names.bound ≡ map bound_of text.now.bound.now → IsAlike (chained tables.now text.now.outer.now) (around b.outer)
+    ensures opened { IfOk result (names.IsOpened (values_over text.now.params.now text.now.touched.now) text.now.items.now (record { tables = tables.entry; numbers = text.now.outer })) }
+    ensures noted { OnOk result ((b : BodyOf) → b.items ≡ text.now.items.now → b.names.bound ≡ values_over text.now.params.now text.now.touched.now → IsAlike (chained tables.now text.now.outer.now) (around b.outer)
         → failures.new ≡ with_all (of_names b) failures.old) }
 {
     judge_names(alloc, text.items, failures)?;
-    let table = table_of(alloc, text.bound)?;
+    let table = table_over(alloc, text.params, defaults, text.touched)?;
     let outer = Outer {
         tables,
         numbers: text.outer,
@@ -123,7 +128,8 @@ fn body_of<'s, 'a>(
         kind: text.kind,
         numbers,
         uptos: text.uptos,
-        bound: text.bound,
+        params: text.params,
+        touched: text.touched,
         enums: opened.enums,
     })
 }
@@ -134,10 +140,12 @@ impl<'s, 'a> Bodies<'s, 'a> {
     ghost use Rattle.rdl_tree.specs.InOrder.{IsInOrder};
     ghost use Rattle.rdl_values.specs.Bodies.{Body as BodyOf};
     ghost use Rattle.rdl_values.specs.Instances.{Instance, body};
-    ghost use Rattle.rdl_values.specs.Seen.{bound_of};
-    ghost use Rattle.rdl_bodies.specs.Kept.{AreBelow, AreDistinct, AreKept, HasItems};
+    ghost use Rattle.rdl_values.specs.Kept.{AreDefaultsOf};
+    ghost use Rattle.rdl_values.specs.Overlaid.{AreApart, plain_of};
+    ghost use Rattle.rdl_scopes.specs.Scopes.{AreOpen};
+    ghost use Rattle.rdl_bodies.specs.Kept.{AreBelow, AreKept, HasItems};
     ghost use Rattle.rdl_bodies.specs.Opened.{CanOpen, IsOpened, IsText, IsTextFor};
-    ghost use Rattle.rdl_bodies.specs.Sited.{IsAt};
+    ghost use Rattle.rdl_bodies.specs.Sited.{IsAt, def_at};
     ghost use Rattle.rdl_bodies.specs.Texts.{IsPlaced};
     ghost use Rattle.rdl_bodies.specs.declared.bodies.Body.{Body as OpenBody};
     ghost use Rattle.rdl_bodies.specs.declared.bodies.Site.{Site as SiteOf};
@@ -168,11 +176,13 @@ impl<'s, 'a> Bodies<'s, 'a> {
         arena: &'a Bump,
         of: usize,
         text: &BodyText<'s, 'a>,
+        defaults: &Rc<Defaults<'a>>,
         failures: &mut Failures,
     ) -> Result<usize, NoMemory>
         requires kept { AreKept self.old failures.old }
         requires known { HasItems self.old.texts.items of text.now.items.now }
-        requires distinct { AreDistinct [] (map bound_of text.now.bound.now) }
+        requires defaults { AreDefaultsOf defaults.now.value text.now.params.now }
+        requires apart { AreApart (plain_of text.now.params.now) }
         requires in_order { IsInOrder text.now.items.now }
         requires below { AreBelow (length self.old.tables.items) text.now.outer.now }
         requires of_site { IsTextFor self.old text.now text.now.site }
@@ -181,10 +191,11 @@ impl<'s, 'a> Bodies<'s, 'a> {
         ensures opened { IfOk result (λ k. (b : BodyOf) → IsText self.old text.now b → IsOpened self.old self.new failures.old failures.new k b) }
     {
         let closed = &self.texts[of].closed;
-        let opened = names_of(alloc, arena, &self.tables, text, closed, failures)?;
+        let opened = names_of(alloc, arena, &self.tables, text, defaults, closed, failures)?;
         let number = self.tables.len();
         let body = body_of(self.scratch, number, of, text, &opened)?;
-        let components = Components::of(alloc, text.items)?;
+        let known = shared_defaults(&self.texts[of].defaults)?;
+        let components = Components::of(alloc, text.items, known)?;
         self.push(opened.table, components, body)?;
         Ok(number)
     }
@@ -196,11 +207,13 @@ impl<'s, 'a> Bodies<'s, 'a> {
         arena: &'a Bump,
         place: Option<TextPlace>,
         text: &BodyText<'s, 'a>,
+        defaults: &Rc<Defaults<'a>>,
         failures: &mut Failures,
     ) -> Result<usize, NoMemory>
         requires kept { AreKept self.old failures.old }
         requires placed { IsPlaced self.old place text.now.items.now }
-        requires distinct { AreDistinct [] (map bound_of text.now.bound.now) }
+        requires defaults { AreDefaultsOf defaults.now.value text.now.params.now }
+        requires apart { AreApart (plain_of text.now.params.now) }
         requires in_order { IsInOrder text.now.items.now }
         requires below { AreBelow (length self.old.tables.items) text.now.outer.now }
         requires of_site { IsTextFor self.old text.now text.now.site }
@@ -209,7 +222,7 @@ impl<'s, 'a> Bodies<'s, 'a> {
         ensures opened { IfOk result (λ k. (b : BodyOf) → IsText self.old text.now b → IsOpened self.old self.new failures.old failures.new k b) }
     {
         let of = self.text_at(alloc, arena, place, text.items, failures)?;
-        self.add_body(alloc, arena, of, text, failures)
+        self.add_body(alloc, arena, of, text, defaults, failures)
     }
 
     // The body that is open for a site, if there is one.
@@ -240,6 +253,20 @@ impl<'s, 'a> Bodies<'s, 'a> {
         Ok(())
     }
 
+    // What the parameters of a site's definition have at all uses.
+    fn defaults_for(&self, alloc: Global, of: &Site<'_, 'a>) -> Result<Rc<Defaults<'a>>, NoMemory>
+        requires open { AreOpen self.now.components.items }
+        requires defined { def_at self.now.components.items of.now.outer.now of.now.uptos.now ≡ Some of.now.def.now }
+        ensures { IfOk result (λ d. AreDefaultsOf d.value of.now.def.now.params.now) }
+    {
+        let found = Found {
+            level: 0,
+            position: first_of(of.uptos).unwrap_or(0),
+            def: of.def,
+        };
+        defaults_of(alloc, &self.components, of.outer, &found)
+    }
+
     /// The body of a site, which is opened where it isn't yet. The failures of its names are put in: E2, and those of its
     /// enumerations. Enumerations that are the same in all bodies of a text are judged with the first.
     pub fn open(
@@ -265,10 +292,12 @@ impl<'s, 'a> Bodies<'s, 'a> {
             kind: Some(of.def.kind),
             outer: of.outer,
             uptos: of.uptos,
-            bound: of.bound,
+            params: of.def.params,
+            touched: of.touched,
         };
+        let defaults = self.defaults_for(alloc, &of)?;
         let place = self.text_place(of.outer, of.uptos);
-        let number = self.add(alloc, arena, place, &text, failures)?;
+        let number = self.add(alloc, arena, place, &text, &defaults, failures)?;
         self.note_open(site, number)?;
         Ok(number)
     }

@@ -13,8 +13,10 @@ use bumpalo::Bump;
 use rb_base::NoMemory;
 use rdl_failures::Failures;
 use rdl_tree::Item;
+use rdl_values::Defaults;
 use std::alloc::Global;
 use std::collections::BTreeMap;
+use std::rc::Rc;
 
 /// The root's body alone, which has the number 0. Lists of numbers of bodies stand in the arena `scratch`. The failures of its names are put
 /// in: E2, and those of its enumerations.
@@ -46,8 +48,10 @@ pub fn open_root<'s, 'a>(
         kind: None,
         outer: &[],
         uptos: &[],
-        bound: &[],
+        params: &[],
+        touched: &[],
     };
-    bodies.add(alloc, arena, None, &text, failures)?;
+    let defaults = Rc::new(alloc, Defaults::of(alloc, &[])?)?;
+    bodies.add(alloc, arena, None, &text, &defaults, failures)?;
     Ok(bodies)
 }

@@ -3,7 +3,7 @@
 ghost use Rattle.std.specs.Prelude.{◌≡◌, ℕ, List, Some, map, IfOk, IfSome, OnOk, length, slice_get};
 ghost use Rattle.rdl_base.specs.declared.fault.Fault.{Fault as AnyFault};
 
-use crate::bodies::{Bodies, ParameterKey, Site, SiteKey};
+use crate::bodies::{Bodies, ParameterKey, Site, SiteKey, ValueKey};
 use crate::same::{are_equal, are_same};
 use crate::sparing::push_sparing;
 use bumpalo::Bump;
@@ -11,14 +11,22 @@ use rb_base::NoMemory;
 use rdl_tree::{Bound, Def, Value};
 use std::alloc::Global;
 
+// A value in a key.
+fn value_key<'a>(value: &Value<'a>) -> ValueKey<'a> {
+    match value {
+        Value::Number(n) => ValueKey::Number(*n),
+        Value::Flag(b) => ValueKey::Flag(*b),
+        Value::Str(s) => ValueKey::Str(s),
+    }
+}
+
 // The values of some parameters.
 fn values_of<'a>(alloc: Global, bound: &[Bound<'a>]) -> Result<Vec<ParameterKey<'a>>, NoMemory> {
     let mut values = Vec::new(alloc);
     for parameter in bound {
-        values.push(match parameter.value {
-            Value::Number(n) => ParameterKey::Number(n),
-            Value::Flag(b) => ParameterKey::Flag(b),
-            Value::Str(s) => ParameterKey::Str(s),
+        values.push(ParameterKey {
+            name: parameter.name.text,
+            value: value_key(&parameter.value),
         })?;
     }
     Ok(values)
@@ -29,14 +37,14 @@ fn nearest(numbers: &[usize]) -> usize {
     numbers.first().copied().unwrap_or(usize::MAX)
 }
 
-// By what a site with parameters is looked up.
+// By what a site is looked up.
 fn key_of<'a>(
     alloc: Global,
     outer: &[usize],
     uptos: &[usize],
-    bound: &[Bound<'a>],
+    touched: &[Bound<'a>],
 ) -> Result<SiteKey<'a>, NoMemory> {
-    let values = values_of(alloc, bound)?;
+    let values = values_of(alloc, touched)?;
     Ok(SiteKey {
         outer: nearest(outer),
         upto: nearest(uptos),
@@ -66,9 +74,10 @@ impl<'s, 'a> Bodies<'s, 'a> {
     ghost use Rattle.rdl_values.specs.Bodies.{Closure};
     ghost use Rattle.rdl_values.specs.Parameters.{Bound as BoundOf};
     ghost use Rattle.rdl_values.specs.Seen.{bound_of};
-    ghost use Rattle.rdl_bodies.specs.Kept.{AreBelow, AreDistinct, AreKept};
+    ghost use Rattle.rdl_values.specs.Overlaid.{AreApart, plain_of};
+    ghost use Rattle.rdl_bodies.specs.Kept.{AreBelow, AreKept};
     ghost use Rattle.rdl_bodies.specs.Opened.{IsListed, IsSame};
-    ghost use Rattle.rdl_bodies.specs.Sited.{AreRound, def_at};
+    ghost use Rattle.rdl_bodies.specs.Sited.{AreRound, def_at, values_over};
     ghost use Rattle.rdl_bodies.specs.declared.bodies.Site.{Site as SiteOf};
 
     // Which site to try.
@@ -102,16 +111,16 @@ impl<'s, 'a> Bodies<'s, 'a> {
         key: &SiteKey<'a>,
         outer: &[usize],
         uptos: &[usize],
-        bound: &[Bound<'a>],
+        touched: &[Bound<'a>],
     ) -> Option<usize>
-        ensures { IfSome result (λ k. (s : SiteOf) × (slice_get self.now.sites.items k ≡ Some s) × IsSame s outer.now uptos.now (map bound_of bound.now)) }
+        ensures { IfSome result (λ k. (s : SiteOf) × (slice_get self.now.sites.items k ≡ Some s) × IsSame s outer.now uptos.now (map bound_of touched.now)) }
     {
         let number = self.site_hint(key)?;
         match self.sites.get(number) {
             Some(site)
                 if are_equal(site.outer, outer)
                     && are_equal(site.uptos, uptos)
-                    && are_same(site.bound, bound) => { Some(number) }
+                    && are_same(site.touched, touched) => { Some(number) }
             _ => None,
         }
     }
@@ -129,8 +138,8 @@ impl<'s, 'a> Bodies<'s, 'a> {
         self.note_site(key, number)
     }
 
-    /// The number of the site of a definition in these bodies, behind so many items of each, with these values of its parameters: one
-    /// that is listed, or else a new one.
+    /// The number of the site of a definition in these bodies, behind so many items of each, with these values put over those that its
+    /// parameters have at all uses: one that is listed, or else a new one.
     pub fn list(
         &mut self,
         alloc: Global,
@@ -138,15 +147,15 @@ impl<'s, 'a> Bodies<'s, 'a> {
         def: &'a Def<'a>,
         outer: &'s [usize],
         uptos: &[usize],
-        bound: &[Bound<'a>],
+        touched: &[Bound<'a>],
     ) -> Result<usize, NoMemory>
         requires below { AreBelow (length self.old.tables.items) outer.now }
         requires defined { def_at self.old.components.items outer.now uptos.now ≡ Some def.now }
-        requires distinct { AreDistinct [] (map bound_of bound.now) }
-        ensures { IfOk result (λ k. (held : List AnyFault) (c : Closure) (b : BoundOf) → AreKept self.old held → c.def ≡ def.now → AreRound self.old outer.now uptos.now c.scope → b ≡ map bound_of bound.now → IsListed self.old self.new held k c b) }
+        requires apart { AreApart (plain_of def.now.params.now) }
+        ensures { IfOk result (λ k. (held : List AnyFault) (c : Closure) (b : BoundOf) → AreKept self.old held → c.def ≡ def.now → AreRound self.old outer.now uptos.now c.scope → b ≡ values_over def.now.params.now touched.now → IsListed self.old self.new held k c b) }
     {
-        let key = key_of(alloc, outer, uptos, bound)?;
-        if let Some(number) = self.find_site(&key, outer, uptos, bound) {
+        let key = key_of(alloc, outer, uptos, touched)?;
+        if let Some(number) = self.find_site(&key, outer, uptos, touched) {
             return Ok(number);
         }
         let number = self.sites.len();
@@ -154,7 +163,7 @@ impl<'s, 'a> Bodies<'s, 'a> {
             def,
             outer,
             uptos: numbers_in(self.scratch, uptos)?,
-            bound: bound_in(arena, bound)?,
+            touched: bound_in(arena, touched)?,
         };
         self.push_site(site, key)?;
         Ok(number)

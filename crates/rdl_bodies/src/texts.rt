@@ -8,7 +8,7 @@ use crate::sparing::push_sparing;
 use bumpalo::Bump;
 use rb_base::NoMemory;
 use rdl_failures::Failures;
-use rdl_scopes::ClosedEnums;
+use rdl_scopes::{ClosedEnums, defaults_among};
 use rdl_tree::Item;
 use std::alloc::Global;
 
@@ -99,7 +99,7 @@ impl<'s, 'a> Bodies<'s, 'a> {
     }
 
     /// The number of the text of these items at a place: one that is known, or else a new one, the closed enumerations of which are
-    /// judged.
+    /// judged, and the parameters of its definitions read.
     pub(crate) fn text_at(
         &mut self,
         alloc: Global,
@@ -116,10 +116,12 @@ impl<'s, 'a> Bodies<'s, 'a> {
             return Ok(number);
         }
         let closed = ClosedEnums::of(alloc, arena, items, failures)?;
+        let defaults = defaults_among(alloc, items)?;
         self.push_text(Text {
             place,
             items,
             closed,
+            defaults,
         })
     }
 }

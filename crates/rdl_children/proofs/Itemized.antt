@@ -1,5 +1,5 @@
 -- The uses of a body, item by item.
-use Rattle.std.proofs.Common.{◌≡◌, ◌≢◌, ◌∙◌, ℕ, suc, ◌+◌, List, [], ◌∷◌, ◌++◌, drop, length, take, flat_map, refl, sym, ap, subst, append_assoc, append-nil, arith}
+use Rattle.std.proofs.Common.{◌≡◌, ◌≢◌, ◌∙◌, ℕ, suc, ◌+◌, List, [], ◌∷◌, ◌++◌, drop, length, take, flat_map, slice_get, Some, refl, sym, ap, subst, append_assoc, append-nil, arith}
 use Rattle.std.specs.List.{AllByRecursion}
 use Rattle.std.proofs.lemmas.Grind.{flat_map-append}
 use Rattle.std.proofs.lemmas.List.{take_all}
@@ -10,11 +10,12 @@ use Rattle.rdl_values.specs.Bodies as values
 use Rattle.rdl_values.specs.Bodies.{Closure, around, scope_at}
 use Rattle.rdl_values.specs.Instances.{given_by}
 use Rattle.rdl_values.specs.Uses.{Seen, Use, parent_of}
-use Rattle.rdl_scopes.specs.Scopes.{IsClosureAt, Shows}
+use Rattle.rdl_scopes.specs.Scopes.{IsClosureAt, Shows, items_at}
 use Rattle.rdl_scopes.specs.declared.scopes.Found.{Found}
 use Rattle.rdl_uses.specs.Given.{TypeUsed, seens}
 use Rattle.rdl_uses.specs.Placed.{IsParent}
-use Rattle.rdl_children.specs.ItemUses.{GivesAll, GivesUses, IsBodyScene, none, without, with_}
+use Rattle.rdl_uses.specs.declared.holder.Parent.{Parent as PlacedParent}
+use Rattle.rdl_children.specs.ItemUses.{GivesAll, GivesUses, IsBodyScene, nearest_items, none, without, with_}
 use Rattle.rdl_children.specs.declared.item.ItemUses.{ItemUses}
 use Rattle.rdl_children.specs.declared.item.Surroundings.{Surroundings}
 use Rattle.rdl_bodies.specs.Kept.{AreBelow, AreKept, Grows}
@@ -22,7 +23,7 @@ use Rattle.rdl_bodies.specs.Sited.{HaveNames, IsOpenAs}
 use Rattle.rdl_bodies.specs.declared.bodies.Bodies.{Bodies}
 use Rattle.rdl_bodies.specs.declared.bodies.Body.{Body}
 use Rattle.rdl_bodies.proofs.Growing.{AllSame, at_same, begins_get, def_same, round_same, same_below}
-use Rattle.rdl_children.specs.Children.{AreChildren, IsChild}
+use Rattle.rdl_children.specs.Children.{AreChildren, CanJudge, IsChild}
 use Rattle.rdl_children.specs.Children as children
 use Rattle.rdl_children.specs.Items.{AreItems, IsItem, IsPlaced, outer_of, uptos_at}
 use Rattle.rdl_children.specs.declared.child.Child.{Child}
@@ -44,6 +45,26 @@ pub items_none : (t : Bodies) (y : Body) (rs : List ItemUses) (ss failed : List 
 items_none t y [] ss failed h f = none-both ss failed h f
 items_none t y (q ∷ rs) ss failed h f =
     (h.0, h.1, h.2, h.3 ++ failed, ap (λ xs. xs ++ failed) h.4 ∙ append_assoc (h.0 ++ h.2) h.3 failed, h.5, h.6, items_none t y rs h.3 failed h.7 f)
+
+-- The items of the nearest of the bodies that an open body shows are its own.
+
+module _ (t : Bodies) (y : Body) (b : values.Body) (open_ : IsOpenAs t y b) where
+  own-items : (ks : List ℕ) → y.numbers.now ≡ ks → nearest_items t.components.items ks ≡ y.items.now
+  own-items [] e = absurd (subst (λ ks. Shows t.tables.items t.components.items ks (0 ∷ y.uptos.now) (scope_at b (take 0 y.items.now))) e (open_.shown 0))
+  own-items (k ∷ ks) e =
+      let there = items_at t.components.items k in
+      let n = length y.items.now + length there in
+      let h = subst (λ ks. Shows t.tables.items t.components.items ks (n ∷ y.uptos.now) (scope_at b (take n y.items.now))) e (open_.shown n) in
+      sym (take_all n there (omega arith)) ∙ sym h.0 ∙ take_all n y.items.now (omega arith)
+
+  pub items_own : nearest_items t.components.items y.numbers.now ≡ y.items.now
+  items_own = own-items y.numbers.now refl
+
+pub items_known : (t : Bodies) (number : ℕ) (y : Body) (parent : PlacedParent) → slice_get t.list.items number ≡ Some y → CanJudge t number parent → nearest_items t.components.items y.numbers.now ≡ y.items.now
+items_known t number y parent here can =
+    let both : Some can.body ≡ Some y = sym can.here ∙ here in
+    let same : can.body ≡ y = cc in
+    items_own t y can.shown (subst (λ x. IsOpenAs t x can.shown) same can.open_)
 
 -- From the uses that were judged.
 

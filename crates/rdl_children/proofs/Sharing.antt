@@ -1,26 +1,32 @@
 -- What the uses of an item share, and items one after the other.
 use Rattle.std.proofs.Common.{◌≡◌, ◌≢◌, ◌∙◌, ℕ, ◌+◌, ◌<◌, ◌≤◌, ◌==◌, true, eqb-true, List, [], ◌∷◌, ◌++◌, length, get_or, drop, flat_map, map, take, Option, None, Some, slice_get, Ok, refl, sym, ap, subst, arith, append_assoc, append-nil}
 use Rattle.std.specs.List.{AllByRecursion}
-use Rattle.std.proofs.lemmas.List.{at_drop_all, at_drop_more, map-append, take_more}
+use Rattle.std.proofs.lemmas.List.{at_drop_all, at_drop_more, map-append, take_all, take_more}
 use Rattle.rdl_base.specs.declared.fault.Fault.{Fault}
 use Rattle.rdl_tree.specs.declared.expr.Name.{Name}
 use Rattle.rdl_tree.specs.declared.item.Inst.{Inst}
 use Rattle.rdl_values.specs.Bodies as values
 use Rattle.rdl_values.specs.Bodies.{Closure}
 use Rattle.rdl_values.specs.Parameters as parameters
+use Rattle.rdl_tree.specs.declared.item.Param.{Param}
+use Rattle.rdl_tree.specs.declared.value.Bound.{Bound}
+use Rattle.rdl_values.specs.Over.{IsOver}
+use Rattle.rdl_values.specs.Overlaid.{AreApart, Plain, overlaid, plain_of}
 use Rattle.rdl_values.specs.Seen.{bound_of}
+use Rattle.rdl_values.specs.Values.{Outcome}
+use Rattle.rdl_values.specs.declared.parameters.Parameters.{Parameters}
 use Rattle.rdl_values.specs.Phase3.{of_use}
 use Rattle.rdl_values.specs.Uses.{Seen, Use, parent_of, seen}
-use Rattle.rdl_uses.specs.declared.binding.Binding.{Binding}
+use Rattle.rdl_values.proofs.Plains.{plain-length}
 use Rattle.rdl_uses.specs.Binding.{AreValues}
 use Rattle.rdl_uses.specs.Given.{TypeUsed, given_in, pair_of, seens, use_by}
 use Rattle.rdl_uses.specs.Placed.{IsParent}
 use Rattle.rdl_uses.specs.declared.holder.Parent.{Parent}
 use Rattle.rdl_uses.specs.declared.instances.SizedInst.{SizedInst}
 use Rattle.rdl_children.specs.declared.item.ItemUses.{ItemUses}
-use Rattle.rdl_bodies.specs.Kept.{AreBelow, AreDistinct, AreKept}
+use Rattle.rdl_bodies.specs.Kept.{AreBelow, AreKept}
 use Rattle.rdl_bodies.specs.Opened.{IsListed}
-use Rattle.rdl_bodies.specs.Sited.{AreRound, IsOpenAs, def_at}
+use Rattle.rdl_bodies.specs.Sited.{AreRound, IsOpenAs, def_at, values_over}
 use Rattle.rdl_bodies.specs.declared.bodies.Bodies.{Bodies}
 use Rattle.rdl_bodies.specs.declared.bodies.Body.{Body}
 use Rattle.rdl_bodies.proofs.Adding.{kept_more}
@@ -28,7 +34,6 @@ use Rattle.rdl_bodies.proofs.Growing.{begins_length, below_more, grows_on, grows
 use Rattle.rdl_children.specs.Children.{AddsGiven, AddsOne, AreChildren, CanJudge, IsJudged, pair_in}
 use Rattle.rdl_children.specs.Items.{AddsUses, AreItems, CanAdd, CanList, Extends, Gives, IsItem, Lists, outer_of, uptos_at}
 use Rattle.rdl_children.specs.declared.child.Child.{Child}
-use Rattle.rdl_children.proofs.Bounds.{bound_distinct}
 use Rattle.rdl_children.proofs.Flat.{IsShared, all_children, none_bound, none_given, none_given_in}
 use Rattle.rdl_children.proofs.Itemized.{children_append, children_stay, items_stay}
 use Rattle.rdl_children.proofs.Reached.{below_drop}
@@ -66,18 +71,28 @@ some_list t y r us all i some e = some (nothing r.uses.given.items (i.pairs ∙ 
     nothing [] q = refl
     nothing (g ∷ gs) q = cc
 
-values-of : (type : TypeUsed) (j : Inst) (o : Option Binding) (b : Binding) → AreValues (parameters.bound_of (use_by type j) type.closure) o → o ≡ Some b → parameters.bound_of (use_by type j) type.closure ≡ Ok (map bound_of b.bound.items)
-values-of type j o b h e = (subst (AreValues (parameters.bound_of (use_by type j) type.closure)) e h).0
+-- these are the values that are put over those that a definition's parameters have at all uses
+abbrev pub ArePut : Parameters → List Bound → Type 0
+ArePut p touched = (xs : Plain) (k : ℕ) (t : parameters.Bound) → IsOver p xs k t → map bound_of touched ≡ t
 
-pub all_values : (t : Bodies) (y : Body) (r : ItemUses) (us : List Use) (all : List Seen) (i : IsItem t y r us all) (b : Binding) → i.list ≢ [] → r.uses.binding ≡ Some b → (j : Inst) → parameters.bound_of (use_by i.type j) i.type.closure ≡ Ok (map bound_of b.bound.items)
-all_values t y r us all i b some e j = values-of i.type j r.uses.binding b (i.values some j) e
+values-of : (ps : List Param) (o : Outcome parameters.Bound) (r : Option Parameters) (p : Parameters) (touched : List Bound) → AreValues ps o r → r ≡ Some p → ArePut p touched → o ≡ Ok (values_over ps touched)
+values-of ps o r p touched h e put = let v = subst (AreValues ps o) e h in v.2 ∙ ap (λ t. Ok (overlaid (plain_of ps) t)) (sym (put (plain_of ps) (length ps) v.0 v.1))
 
-pub distinct_values : (t : Bodies) (y : Body) (r : ItemUses) (us : List Use) (all : List Seen) (i : IsItem t y r us all) (b : Binding) → i.list ≢ [] → r.uses.binding ≡ Some b → AreDistinct [] (map bound_of b.bound.items)
-distinct_values t y r us all i b some e = go i.list refl
+apart-of : (ps : List Param) (o : Outcome parameters.Bound) (r : Option Parameters) (p : Parameters) → AreValues ps o r → r ≡ Some p → AreApart (plain_of ps)
+apart-of ps o r p h e =
+    let v = subst (AreValues ps o) e h in
+    let size = plain-length ps in
+    subst AreApart (take_all (length ps) (plain_of ps) (omega (arith, size))) v.1.apart
+
+pub all_values : (t : Bodies) (y : Body) (r : ItemUses) (us : List Use) (all : List Seen) (i : IsItem t y r us all) (p : Parameters) (touched : List Bound) → i.list ≢ [] → r.uses.parameters ≡ Some p → ArePut p touched → (j : Inst) → parameters.bound_of (use_by i.type j) i.type.closure ≡ Ok (values_over r.found.def.now.params.now touched)
+all_values t y r us all i p touched some e put j = values-of r.found.def.now.params.now (parameters.bound_of (use_by i.type j) i.type.closure) r.uses.parameters p touched (i.values some j) e put
+
+pub apart_values : (t : Bodies) (y : Body) (r : ItemUses) (us : List Use) (all : List Seen) (i : IsItem t y r us all) (p : Parameters) → i.list ≢ [] → r.uses.parameters ≡ Some p → AreApart (plain_of r.found.def.now.params.now)
+apart_values t y r us all i p some e = go i.list refl
   where
-    go : (list : List Inst) → i.list ≡ list → AreDistinct [] (map bound_of b.bound.items)
+    go : (list : List Inst) → i.list ≡ list → AreApart (plain_of r.found.def.now.params.now)
     go [] q = absurd (some q)
-    go (j ∷ js) q = bound_distinct (use_by i.type j) i.type.closure (map bound_of b.bound.items) (all_values t y r us all i b some e j)
+    go (j ∷ js) q = apart-of r.found.def.now.params.now (parameters.bound_of (use_by i.type j) i.type.closure) r.uses.parameters p (i.values some j) e
 
 pub extends_same : (t : Bodies) → Extends t t
 extends_same t = record { grown = grows_same t t refl refl refl ([], sym (append-nil t.sites.items)); kept = λ held k. k }
@@ -85,19 +100,19 @@ extends_same t = record { grown = grows_same t t refl refl refl ([], sym (append
 pub extends_on : (t u v : Bodies) → Extends t u → Extends u v → Extends t v
 extends_on t u v f g = record { grown = grows_on t u v f.grown g.grown; kept = λ held k. g.kept held (f.kept held k) }
 
-module _ (t u : Bodies) (y : Body) (r : ItemUses) (b : Binding) (outer uptos : List ℕ) (site : ℕ) (old new : List Child) (o : outer ≡ outer_of y r.found) (p : uptos ≡ uptos_at y r.found) (can : CanAdd t y r) (some : r.uses.given.items ≢ []) (bound : r.uses.binding ≡ Some b)
-    (listed : (held : List Fault) (c : Closure) (bs : parameters.Bound) → AreKept t held → c.def ≡ r.found.def.now → AreRound t outer uptos c.scope → bs ≡ map bound_of b.bound.items → IsListed t u held site c bs) (added : AddsGiven site r.alias r.uses.given.items old new) where
-  listed-for : (us : List Use) (all : List Seen) (i : IsItem t y r us all) (held : List Fault) → AreKept t held → IsListed t u held site i.type.closure (map bound_of b.bound.items)
+module _ (t u : Bodies) (y : Body) (r : ItemUses) (q : Parameters) (touched : List Bound) (put : ArePut q touched) (outer uptos : List ℕ) (site : ℕ) (old new : List Child) (o : outer ≡ outer_of y r.found) (p : uptos ≡ uptos_at y r.found) (can : CanAdd t y r) (some : r.uses.given.items ≢ []) (bound : r.uses.parameters ≡ Some q)
+    (listed : (held : List Fault) (c : Closure) (bs : parameters.Bound) → AreKept t held → c.def ≡ r.found.def.now → AreRound t outer uptos c.scope → bs ≡ values_over r.found.def.now.params.now touched → IsListed t u held site c bs) (added : AddsGiven site r.alias r.uses.given.items old new) where
+  listed-for : (us : List Use) (all : List Seen) (i : IsItem t y r us all) (held : List Fault) → AreKept t held → IsListed t u held site i.type.closure (values_over r.found.def.now.params.now touched)
   listed-for us all i held k =
       let placed = i.placed (some_list t y r us all i some) in
-      listed held i.type.closure (map bound_of b.bound.items) k placed.def (subst (λ ks. AreRound t ks uptos i.type.closure.scope) (sym o) (subst (λ ps. AreRound t (outer_of y r.found) ps i.type.closure.scope) (sym p) placed.round)) refl
+      listed held i.type.closure (values_over r.found.def.now.params.now touched) k placed.def (subst (λ ks. AreRound t ks uptos i.type.closure.scope) (sym o) (subst (λ ps. AreRound t (outer_of y r.found) ps i.type.closure.scope) (sym p) placed.round)) refl
 
   shared : (us : List Use) (all : List Seen) (i : IsItem t y r us all) → IsShared u i.type site r.alias
   shared us all i =
       let at = listed-for us all i can.held can.kept in
       record {
-        bound = map bound_of b.bound.items;
-        values = all_values t y r us all i b (some_list t y r us all i some) bound;
+        bound = values_over r.found.def.now.params.now touched;
+        values = all_values t y r us all i q touched (some_list t y r us all i some) bound put;
         of = at.site;
         here = at.here;
         at = at.at;
@@ -122,7 +137,7 @@ uses_none t y r old e = record {
 }
 
 -- nor where the parameters have no values
-pub uses_unbound : (t : Bodies) (y : Body) (r : ItemUses) (old : List Child) → r.uses.binding ≡ None → AddsUses t t y r old old
+pub uses_unbound : (t : Bodies) (y : Body) (r : ItemUses) (old : List Child) → r.uses.parameters ≡ None → AddsUses t t y r old old
 uses_unbound t y r old e = record {
   more = extends_same t;
   added = [];
@@ -130,12 +145,12 @@ uses_unbound t y r old e = record {
   children = λ us all i. subst (AreChildren t []) (sym i.all_are) (of us i.type i.list i.values);
 }
   where
-    of : (us : List Use) (type : TypeUsed) (list : List Inst) → (list ≢ [] → (j : Inst) → AreValues (parameters.bound_of (use_by type j) type.closure) r.uses.binding) → AreChildren t [] (seens type us list)
+    of : (us : List Use) (type : TypeUsed) (list : List Inst) → (list ≢ [] → (j : Inst) → AreValues r.found.def.now.params.now (parameters.bound_of (use_by type j) type.closure) r.uses.parameters) → AreChildren t [] (seens type us list)
     of us type [] h = none_bound_nil
       where
         none_bound_nil : AreChildren t [] []
         none_bound_nil = none_given t [] refl
-    of us type (i ∷ is) h = none_bound type us (i ∷ is) t (λ j. subst (AreValues (parameters.bound_of (use_by type j) type.closure)) e (h (λ q. cc) j))
+    of us type (i ∷ is) h = none_bound type us (i ∷ is) t (λ j. subst (AreValues r.found.def.now.params.now (parameters.bound_of (use_by type j) type.closure)) e (h (λ q. cc) j))
 
 -- Items one after the other.
 
@@ -215,8 +230,8 @@ module _ (t : Bodies) (y : Body) (r : ItemUses) (can : CanAdd t y r) (some : r.u
       let placed = can.item.placed (some_list t y r can.us can.all can.item some) in
       ap (λ ks. def_at t.components.items ks uptos) o ∙ ap (λ ps. def_at t.components.items (outer_of y r.found) ps) p ∙ placed.defined ∙ ap Some placed.def
 
-pub can_distinct : (t : Bodies) (y : Body) (r : ItemUses) (can : CanAdd t y r) (b : Binding) → r.uses.given.items ≢ [] → r.uses.binding ≡ Some b → AreDistinct [] (map bound_of b.bound.items)
-can_distinct t y r can b some e = distinct_values t y r can.us can.all can.item b (some_list t y r can.us can.all can.item some) e
+pub can_apart : (t : Bodies) (y : Body) (r : ItemUses) (can : CanAdd t y r) (p : Parameters) → r.uses.given.items ≢ [] → r.uses.parameters ≡ Some p → AreApart (plain_of r.found.def.now.params.now)
+can_apart t y r can p some e = apart_values t y r can.us can.all can.item p (some_list t y r can.us can.all can.item some) e
 
 -- A whole body.
 module _ (t : Bodies) (before after : List Fault) (number : ℕ) (y : Body) (parent : Parent) (rs : List ItemUses) (inv : AreKept t before) (here : slice_get t.list.items number ≡ Some y)

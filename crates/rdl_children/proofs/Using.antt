@@ -1,5 +1,5 @@
 -- The uses of an item, as those of one type.
-use Rattle.std.proofs.Common.{◌≡◌, ◌∙◌, ℕ, ◌+◌, List, [], ◌∷◌, ◌++◌, cond, Bool, true, false, drop, map, flat_map, Option, None, Some, option_to_list, refl, sym, ap, subst, append-nil}
+use Rattle.std.proofs.Common.{◌≡◌, ◌∙◌, ℕ, ◌+◌, List, [], ◌∷◌, ◌++◌, cond, Bool, true, false, drop, map, flat_map, slice_get, Option, None, Some, option_to_list, refl, sym, ap, subst, append-nil}
 use Rattle.rdl_tree.specs.declared.expr.Name.{Name}
 use Rattle.rdl_tree.specs.declared.item.Def.{Def}
 use Rattle.rdl_tree.specs.declared.item.Inst.{Inst}
@@ -18,13 +18,18 @@ use Rattle.rdl_values.specs.Views as view
 use Rattle.rdl_values.specs.Views.{ItemIs, item_is}
 use Rattle.rdl_failures.specs.Shown.{IsAlike}
 use Rattle.rdl_scopes.specs.declared.components.Components.{Components}
-use Rattle.rdl_scopes.specs.Scopes.{IsClosureAt, Shows}
+use Rattle.rdl_scopes.specs.Scopes.{IsClosureAt, Shows, Stands}
 use Rattle.rdl_scopes.specs.declared.scopes.Found.{Found}
 use Rattle.rdl_uses.specs.Applied.{IsTypeOf}
 use Rattle.rdl_uses.specs.Given.{TypeUsed, use_by}
 use Rattle.rdl_uses.specs.Unknown.{UnknownType, unknown_by, unknown_seen, unknown_seens}
-use Rattle.rdl_children.specs.ItemUses.{AreSurroundings, chain_of}
+use Rattle.rdl_children.specs.ItemUses.{AreSurroundings, chain_of, nearest_items}
 use Rattle.rdl_children.specs.declared.item.Surroundings.{Surroundings}
+
+-- a definition among the items of the nearest body stands there
+pub def_stands : (cs : List Components) (ks : List ℕ) (f : Found) (i : Item) → f.level ≡ 0 → slice_get (nearest_items cs ks) f.position ≡ Some i → item_is i ≡ view.definition f.def.now → Stands cs ks f
+def_stands cs [] f i level at is = cc
+def_stands cs (k ∷ ks) f i level at is = record { number = k; item = i; body = ap (slice_get (k ∷ ks)) level; there = at; is = is }
 
 pub shows-alike : (ts : List Names) (cs : List Components) (ks : List ℕ) (p : ℕ) (ps : List ℕ) (scope : Scope) → Shows ts cs ks (p ∷ ps) scope → IsAlike (chained ts ks) (around scope)
 shows-alike ts cs [] p ps scope h = absurd h

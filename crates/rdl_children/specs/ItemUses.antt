@@ -10,7 +10,8 @@ use Rattle.rdl_values.specs.Uses.{Seen, Use, parent_of, uses_of_item}
 use Rattle.rdl_values.specs.Views.{item_is}
 use Rattle.rdl_values.specs.declared.chain.Chain.{Chain}
 use Rattle.rdl_uses.specs.Binding.{AreValues}
-use Rattle.rdl_scopes.specs.Scopes.{IsClosureAt, Shows}
+use Rattle.rdl_scopes.specs.Scopes.{IsClosureAt, Shows, items_at}
+use Rattle.rdl_scopes.specs.declared.components.Components.{Components}
 use Rattle.rdl_uses.specs.Given.{TypeUsed, given_in, pair_of, seens, use_by}
 use Rattle.rdl_uses.specs.Placed.{IsParent}
 use Rattle.rdl_children.specs.declared.item.ItemUses.{ItemUses}
@@ -28,6 +29,11 @@ item_seens p above us scope i = map (seen_in p above) (standing_from us (uses_of
 abbrev pub chain_of : Surroundings → Chain
 chain_of s = record { nearest = None; tables = s.tables; numbers = s.numbers }
 
+-- the items of the nearest of these bodies
+abbrev pub nearest_items : List Components → List ℕ → List Item
+nearest_items cs [] = []
+nearest_items cs (k ∷ ks) = items_at cs k
+
 -- The scene is that of a place behind so many items of the body.
 pub record AreSurroundings (s : Surroundings) (position : ℕ) (p : Parent) (scope : Scope) : Type 0 where
   pub shown : Shows s.tables.now s.components.now s.numbers.now (position ∷ s.outer.now) scope
@@ -41,7 +47,7 @@ pub record GivesUses (s : Surroundings) (position : ℕ) (r : ItemUses) (us : Li
   pub alias_is : type.alias ≡ r.alias
   pub closure : IsClosureAt s.tables.now s.components.now s.numbers.now (position ∷ s.outer.now) r.found type.closure
   pub pairs : map pair_of r.uses.given.items ≡ flat_map (given_in type) all
-  pub values : list ≢ [] → (i : Inst) → AreValues (bound_of (use_by type i) type.closure) r.uses.binding
+  pub values : list ≢ [] → (i : Inst) → AreValues r.found.def.now.params.now (bound_of (use_by type i) type.closure) r.uses.parameters
 
 -- So are they, if any gives some.
 abbrev pub GivesItem : Surroundings → ℕ → Option ItemUses → List Use → List Seen → Type 0

@@ -41,7 +41,7 @@ pub record IsItem (t : Bodies) (y : Body) (r : ItemUses) (us : List Use) (all : 
   pub alias_is : type.alias ≡ r.alias
   pub placed : list ≢ [] → IsPlaced t y r.found type.closure
   pub pairs : map pair_of r.uses.given.items ≡ flat_map (given_in type) all
-  pub values : list ≢ [] → (i : Inst) → AreValues (bound_of (use_by type i) type.closure) r.uses.binding
+  pub values : list ≢ [] → (i : Inst) → AreValues r.found.def.now.params.now (bound_of (use_by type i) type.closure) r.uses.parameters
 
 -- These are the uses of some items, and behind those of each item and before the first may stand others that give no nodes.
 abbrev pub AreItems : Bodies → Body → List ItemUses → List Seen → Type 0

@@ -6,7 +6,7 @@ ghost use Rattle.rdl_values.specs.Phase3.{of_use};
 ghost use Rattle.rdl_values.specs.Uses.{seen};
 ghost use Rattle.rdl_failures.specs.Noted.{with_all};
 ghost use Rattle.rdl_scopes.specs.Scopes.{AreOpen};
-ghost use Rattle.rdl_children.specs.ItemUses.{GivesAll, IsBodyScene};
+ghost use Rattle.rdl_children.specs.ItemUses.{GivesAll, IsBodyScene, nearest_items};
 
 use crate::item::{ItemUses, Surroundings, judge_item};
 use rb_base::NoMemory;
@@ -35,7 +35,8 @@ pub fn judge_items<'a>(
     scene: &Surroundings<'_, 'a>,
     failures: &mut Failures,
 ) -> Result<Vec<ItemUses<'a>>, NoMemory>
-    requires { AreOpen scene.now.components.now }
+    requires open { AreOpen scene.now.components.now }
+    requires items { nearest_items scene.now.components.now scene.now.numbers.now ≡ items.now }
     ensures noted { IfOk result (λ r. (above : List Body) (b : Body) → IsBodyScene scene.now items.now b → failures.new ≡ with_all (flat_map of_use (seen above b)) failures.old) }
     ensures given { IfOk result (λ r. (above : List Body) (b : Body) → IsBodyScene scene.now items.now b → GivesAll scene.now r.items (seen above b)) }
 {

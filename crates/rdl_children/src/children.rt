@@ -8,6 +8,7 @@ ghost use Rattle.rdl_bodies.specs.Kept.{AreKept};
 ghost use Rattle.rdl_bodies.specs.Sited.{IsOpenAs};
 ghost use Rattle.rdl_bodies.specs.declared.bodies.Body.{Body as OpenBody};
 ghost use Rattle.rdl_children.specs.Children.{CanJudge, IsJudged};
+ghost use Rattle.rdl_children.specs.ItemUses.{nearest_items};
 ghost use Rattle.rdl_children.specs.Items.{CanList, Gives, Lists};
 
 use crate::body::judge_items;
@@ -30,7 +31,8 @@ fn judge<'a>(
     parent: Parent,
     failures: &mut Failures,
 ) -> Result<Vec<ItemUses<'a>>, NoMemory>
-    requires { AreKept bodies.now failures.old }
+    requires kept { AreKept bodies.now failures.old }
+    requires items { nearest_items bodies.now.components.items body.now.numbers.now ≡ body.now.items.now }
     ensures { IfOk result (λ r. (above : List BodyOf) (b : BodyOf) → IsOpenAs bodies.now body.now b → IsParent parent (parent_of b) → Gives bodies.now body.now failures.old failures.new r.items (seen above b)) }
 {
     let scene = Surroundings {

@@ -10,7 +10,8 @@ use bumpalo::Bump;
 use rb_base::NoMemory;
 use rdl_bodies::{Bodies, Body};
 use rdl_tree::Name;
-use rdl_uses::{Binding, SizedInst};
+use rdl_uses::SizedInst;
+use rdl_values::Parameters;
 use std::alloc::Global;
 
 // A copy of some dimensions in the arena.
@@ -93,17 +94,18 @@ fn add_bound<'s, 'n, 'a>(
     bodies: &mut Bodies<'n, 'a>,
     body: &Body<'n, 'a>,
     item: &ItemUses<'a>,
-    binding: &Binding<'a>,
+    parameters: &Parameters<'a>,
     list: &mut Vec<Child<'a>, &'s Bump>,
 ) -> Result<(), NoMemory>
     requires can { CanAdd bodies.old body.now item.now }
     requires given { item.now.uses.given.items ≢ [] }
-    requires bound { item.now.uses.binding ≡ Some binding.now }
+    requires values { item.now.uses.parameters ≡ Some parameters.now }
     ensures { OnOk result (AddsUses bodies.old bodies.new body.now item.now list.old.items list.new.items) }
 {
     let outer = behind(body.numbers, item.found.level);
     let uptos = uptos_of(alloc, item.found.position, body.uptos, item.found.level)?;
-    let site = bodies.list(alloc, arena, item.found.def, outer, &uptos, &binding.bound)?;
+    let touched = parameters.touched();
+    let site = bodies.list(alloc, arena, item.found.def, outer, &uptos, touched)?;
     add_given(arena, site, item.alias, &item.uses.given, list)?;
     Ok(())
 }
@@ -123,8 +125,8 @@ pub(crate) fn add_uses<'s, 'n, 'a>(
     if item.uses.given.is_empty() {
         return Ok(());
     }
-    match &item.uses.binding {
-        Some(binding) => add_bound(alloc, arena, bodies, body, item, binding, list),
+    match &item.uses.parameters {
+        Some(parameters) => add_bound(alloc, arena, bodies, body, item, parameters, list),
         None => Ok(()),
     }
 }

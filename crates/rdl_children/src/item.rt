@@ -1,6 +1,6 @@
 //! The uses that one item of a body makes.
 
-ghost use Rattle.std.specs.Prelude.{◌≡◌, ◌≢◌, ◌≤◌, ◌++◌, [], ◌∷◌, List, IfOk, drop, length, map, flat_map};
+ghost use Rattle.std.specs.Prelude.{◌≡◌, ◌≢◌, ◌≤◌, ◌++◌, [], ◌∷◌, List, IfOk, Some, drop, length, map, flat_map, slice_get};
 ghost use Rattle.rdl_tree.specs.declared.item.Inst.{Inst as AnyInst};
 ghost use Rattle.rdl_values.specs.Bodies.{Body, Scope};
 ghost use Rattle.rdl_values.specs.Parameters.{bound_of};
@@ -9,16 +9,16 @@ ghost use Rattle.rdl_values.specs.Phase3.{of_use};
 ghost use Rattle.rdl_values.specs.Uses.{Use, uses_of_item};
 ghost use Rattle.rdl_values.specs.Views.{item_is};
 ghost use Rattle.rdl_failures.specs.Noted.{with_all};
-ghost use Rattle.rdl_scopes.specs.Scopes.{AreOpen};
+ghost use Rattle.rdl_scopes.specs.Scopes.{AreOpen, Stands};
 ghost use Rattle.rdl_uses.specs.Binding.{AreValues};
 ghost use Rattle.rdl_uses.specs.Applied.{IsTypeOf};
 ghost use Rattle.rdl_uses.specs.Before.{AreEarlier};
 ghost use Rattle.rdl_uses.specs.Given.{TypeUsed, given_in, pair_of, seens, use_by};
-ghost use Rattle.rdl_children.specs.ItemUses.{GivesItem, AreSurroundings, chain_of, item_seens};
+ghost use Rattle.rdl_children.specs.ItemUses.{GivesItem, AreSurroundings, chain_of, item_seens, nearest_items};
 
 use rb_base::{NoMemory, Place};
 use rdl_failures::Failures;
-use rdl_scopes::{Components, Found, find_component};
+use rdl_scopes::{Components, Found, defaults_of, find_component};
 use rdl_tree::{Insts, Item, Name};
 use rdl_uses::{Earlier, Parent, Uses, judge_unknown, judge_uses};
 use rdl_values::{Chain, Table};
@@ -67,11 +67,13 @@ fn judge_found<'a>(
     earlier: &mut Earlier<'a>,
     failures: &mut Failures,
 ) -> Result<ItemUses<'a>, NoMemory>
-    requires { found.level ≤ length scene.now.numbers.now }
+    requires level { found.level ≤ length scene.now.numbers.now }
+    requires open { AreOpen scene.now.components.now }
+    requires stands { Stands scene.now.components.now scene.now.numbers.now found }
     ensures earlier { IfOk result (λ r. (t : TypeUsed) (us : List Use) → IsTypeOf found.entry.def.now alias.entry insts.now.args.now place scene.now.parent (chain_of scene.now) (drop found.entry.level scene.now.numbers.now) t → AreEarlier earlier.old us → AreEarlier earlier.new (us ++ map (use_by t) insts.now.list.now)) }
     ensures noted { IfOk result (λ r. (t : TypeUsed) (us : List Use) → IsTypeOf found.entry.def.now alias.entry insts.now.args.now place scene.now.parent (chain_of scene.now) (drop found.entry.level scene.now.numbers.now) t → AreEarlier earlier.old us → failures.new ≡ with_all (flat_map of_use (seens t us insts.now.list.now)) failures.old) }
     ensures given { IfOk result (λ r. (t : TypeUsed) (us : List Use) → IsTypeOf found.entry.def.now alias.entry insts.now.args.now place scene.now.parent (chain_of scene.now) (drop found.entry.level scene.now.numbers.now) t → AreEarlier earlier.old us → map pair_of r.uses.given.items ≡ flat_map (given_in t) (seens t us insts.now.list.now)) }
-    ensures values { IfOk result (λ r. (t : TypeUsed) → IsTypeOf found.entry.def.now alias.entry insts.now.args.now place scene.now.parent (chain_of scene.now) (drop found.entry.level scene.now.numbers.now) t → insts.now.list.now ≢ [] → (i : AnyInst) → AreValues (bound_of (use_by t i) t.closure) r.uses.binding) }
+    ensures values { IfOk result (λ r. (t : TypeUsed) → IsTypeOf found.entry.def.now alias.entry insts.now.args.now place scene.now.parent (chain_of scene.now) (drop found.entry.level scene.now.numbers.now) t → insts.now.list.now ≢ [] → (i : AnyInst) → AreValues r.found.def.now.params.now (bound_of (use_by t i) t.closure) r.uses.parameters) }
     ensures same { IfOk result (λ r. r.found ≡ found.entry) }
     ensures alias { IfOk result (λ r. r.alias ≡ alias.entry) }
 {
@@ -81,10 +83,12 @@ fn judge_found<'a>(
         numbers: scene.numbers,
     };
     let inside = &scene.numbers[found.level..];
+    let defaults = defaults_of(alloc, scene.components, scene.numbers, &found)?;
     let uses = judge_uses(
         alloc,
         insts,
         found.def,
+        &defaults,
         alias,
         place,
         scene.parent,
@@ -106,7 +110,8 @@ pub fn judge_item<'a>(
     earlier: &mut Earlier<'a>,
     failures: &mut Failures,
 ) -> Result<Option<ItemUses<'a>>, NoMemory>
-    requires { AreOpen scene.now.components.now }
+    requires open { AreOpen scene.now.components.now }
+    requires stands { slice_get (nearest_items scene.now.components.now scene.now.numbers.now) position ≡ Some item.now }
     ensures earlier { IfOk result (λ r. (p : paths.Parent) (above : List Body) (scope : Scope) (us : List Use) → AreSurroundings scene.now position p scope → AreEarlier earlier.old us → AreEarlier earlier.new (us ++ uses_of_item scope (item_is item.now))) }
     ensures noted { IfOk result (λ r. (p : paths.Parent) (above : List Body) (scope : Scope) (us : List Use) → AreSurroundings scene.now position p scope → AreEarlier earlier.old us → failures.new ≡ with_all (flat_map of_use (item_seens p above us scope item.now)) failures.old) }
     ensures given { IfOk result (λ r. (p : paths.Parent) (above : List Body) (scope : Scope) (us : List Use) → AreSurroundings scene.now position p scope → AreEarlier earlier.old us → GivesItem scene.now position r us (item_seens p above us scope item.now)) }

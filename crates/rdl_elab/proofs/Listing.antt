@@ -5,33 +5,35 @@ use Rattle.std.proofs.lemmas.List.{take_all}
 use Rattle.rdl_base.specs.declared.fault.Fault.{Fault}
 use Rattle.rdl_tree.specs.declared.item.Def.{Def}
 use Rattle.rdl_tree.specs.declared.item.Item.{Item}
+use Rattle.rdl_tree.specs.declared.item.Param.{Param}
 use Rattle.rdl_tree.specs.declared.item.Source.{Source}
 use Rattle.rdl_values.specs.Bodies.{Closure, Scope, Layer, around, scope_at}
 use Rattle.rdl_values.specs.Chained.{chained}
 use Rattle.rdl_values.specs.Faults.{failures}
 use Rattle.rdl_values.specs.Instances.{top_of}
+use Rattle.rdl_values.specs.Over.{IsOver}
+use Rattle.rdl_values.specs.Overlaid.{AreApart, overlaid, plain_of}
 use Rattle.rdl_values.specs.Parameters as parameters
 use Rattle.rdl_values.specs.Parameters.{Bound}
 use Rattle.rdl_values.specs.Phase3.{many_parameters, of_use}
-use Rattle.rdl_values.specs.Seen.{bound_of}
 use Rattle.rdl_values.specs.Top.{root, top_seen, top_use, top_use_of}
 use Rattle.rdl_values.specs.Uses.{Use}
 use Rattle.rdl_values.specs.Values.{Names, Outcome}
+use Rattle.rdl_values.specs.declared.parameters.Parameters.{Parameters}
 use Rattle.rdl_failures.specs.Noted.{with_all}
 use Rattle.rdl_failures.specs.Shown.{IsAlike}
 use Rattle.rdl_scopes.specs.declared.components.Components.{Components}
 use Rattle.rdl_scopes.specs.Scopes.{Shows}
 use Rattle.rdl_uses.specs.Binding.{AreValues}
-use Rattle.rdl_uses.specs.declared.binding.Binding.{Binding}
 use Rattle.rdl_top.specs.declared.top.Top.{Top}
-use Rattle.rdl_bodies.specs.Kept.{AreDistinct, AreKept}
+use Rattle.rdl_bodies.specs.Kept.{AreKept}
 use Rattle.rdl_bodies.specs.Opened.{IsListed}
 use Rattle.rdl_bodies.specs.Sited.{AreRound, IsOpenAs, def_at}
 use Rattle.rdl_bodies.specs.declared.bodies.Bodies.{Bodies}
 use Rattle.rdl_bodies.specs.declared.bodies.Body.{Body}
 use Rattle.rdl_bodies.proofs.Adding.{kept_more, round_alike}
 use Rattle.rdl_bodies.proofs.Growing.{grows_same}
-use Rattle.rdl_children.proofs.Bounds.{bound_distinct}
+use Rattle.rdl_children.proofs.Bounds.{bound_apart}
 use Rattle.rdl_children.proofs.Reached.{Holds, here, found_at}
 use Rattle.rdl_elab.specs.Topped.{IsRootAt, IsTopBound, IsTopListed}
 use Rattle.rdl_elab.proofs.TopUses.{closure_at, node_at, top_given, top_held, top_not_given, top_use_fails, tops_fail, tops_given, use_at}
@@ -49,11 +51,11 @@ one-alone ts cs (k ∷ ks) p ps l h = rest ks ps h.2
 
 -- the values of parameters that the code has
 
-pub bound_is : (o : Outcome Bound) (r : Option Binding) (b : Binding) → AreValues o r → r ≡ Some b → o ≡ Ok (map bound_of b.bound.items)
-bound_is o r b h e = (subst (AreValues o) e h).0
+pub bound_is : (ps : List Param) (o : Outcome Bound) (r : Option Parameters) (p : Parameters) → AreValues ps o r → r ≡ Some p → (t : Bound) × IsOver p (plain_of ps) (length ps) t × (o ≡ Ok (overlaid (plain_of ps) t))
+bound_is ps o r p h e = subst (AreValues ps o) e h
 
-pub bound_fails : (o : Outcome Bound) (r : Option Binding) → AreValues o r → r ≡ None → IsErr o
-bound_fails o r h e = subst (AreValues o) e h
+pub bound_fails : (ps : List Param) (o : Outcome Bound) (r : Option Parameters) → AreValues ps o r → r ≡ None → IsErr o
+bound_fails ps o r h e = subst (AreValues ps o) e h
 
 -- the body of a number
 pub root_is : (t : Bodies) (s : Source) (y : Body) → slice_get t.list.items 0 ≡ Some y → IsRootAt t s → IsOpenAs t y (root s)
@@ -119,10 +121,10 @@ module _ (t : Bodies) (w : Option (List ℕ)) (s : Source) (top : Top) (y : Body
   pub defined : def_at t.components.items y.numbers.now (top.position ∷ []) ≡ Some top.def.now
   defined = (found_at t.tables.items t.components.items y.numbers.now (length s.items.now ∷ []) (scope_at (root s) s.items.now) closure_of 0 top.position [] (here (take top.position s.items.now) refl holds) whole shown).defined
 
-  pub distinct : (b : Bound) → parameters.bound_of use_of closure_of ≡ Ok b → AreDistinct [] b
-  distinct b e = bound_distinct use_of closure_of b e
+  pub apart : (b : Bound) → parameters.bound_of use_of closure_of ≡ Ok b → AreApart (plain_of top.def.now.params.now)
+  apart b e = bound_apart use_of closure_of b e
 
-  module _ (before after : List Fault) (r : Option Binding) (bound : IsTopBound use_of closure_of r before after) where
+  module _ (before after : List Fault) (r : Option Parameters) (bound : IsTopBound use_of closure_of r before after) where
     put : after ≡ with_all (flat_map of_use (map top_seen (option_to_list (top_use_of w s)))) before
     put = bound.noted ∙ ap (λ fs. with_all fs before) (sym (tops_fail w s use_of means ∙ top_use_fails scope_of top.def.now top.name))
 

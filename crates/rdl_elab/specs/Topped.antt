@@ -9,9 +9,9 @@ use Rattle.rdl_values.specs.Parameters.{bound_of}
 use Rattle.rdl_values.specs.Phase3.{many_parameters, of_use}
 use Rattle.rdl_values.specs.Top.{root, top_seen, top_use_of}
 use Rattle.rdl_values.specs.Uses.{Use}
+use Rattle.rdl_values.specs.declared.parameters.Parameters.{Parameters}
 use Rattle.rdl_failures.specs.Noted.{with_all}
 use Rattle.rdl_uses.specs.Binding.{AreValues}
-use Rattle.rdl_uses.specs.declared.binding.Binding.{Binding}
 use Rattle.rdl_top.specs.Topped.{Means}
 use Rattle.rdl_top.specs.declared.top.Top.{Top}
 use Rattle.rdl_bodies.specs.Kept.{AreKept, Grows}
@@ -49,10 +49,10 @@ pub record CanListTop (t : Bodies) (top : Top) : Type 0 where
   pub root_ : IsRootAt t source
   pub means : Means source source.items.now (Some top) (top_use_of wanted source)
 
--- The parameters of a definition have these values at a use, and their failures and E7 were put in.
-pub record IsTopBound (u : Use) (c : Closure) (r : Option Binding) (before after : List Fault) : Type 0 where
+-- The parameters of a definition show their values at a use, where they have them, and their failures and E7 were put in.
+pub record IsTopBound (u : Use) (c : Closure) (r : Option Parameters) (before after : List Fault) : Type 0 where
   pub noted : after ≡ with_all (failures (bound_of u c) ++ many_parameters c) before
-  pub values : AreValues (bound_of u c) r
+  pub values : AreValues c.def.params.now (bound_of u c) r
 
 -- The failures of the top's use were put in, and its site is this, where it gives a node.
 pub record IsTopListed (old new : Bodies) (before after : List Fault) (r : Option TopSite) (wanted : Option (List ℕ)) (s : Source) : Type 0 where

@@ -41,7 +41,7 @@ impl<'s, 'a> Growing<'s, 'a> {
     {
         let walk = &mut self.walk;
         let number = walk.bodies.open(alloc, arena, site, &mut walk.failures)?;
-        add_envs(arena, &walk.bodies, &mut self.envs)?;
+        add_envs(alloc, arena, &walk.bodies, &mut self.envs)?;
         let env = env_of(&walk.bodies, &self.envs, number);
         let Some(of) = walk.bodies.site(site) else {
             unreachable!()

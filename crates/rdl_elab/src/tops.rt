@@ -19,9 +19,10 @@ use rdl_bodies::Bodies;
 use rdl_failures::Failures;
 use rdl_top::Top;
 use rdl_tree::Arg;
-use rdl_uses::{Binding, judge_values};
-use rdl_values::Chain;
+use rdl_uses::judge_values;
+use rdl_values::{Chain, Defaults, Parameters};
 use std::alloc::Global;
+use std::rc::Rc;
 
 /// The most parameters of a definition that is used (rule E7).
 const MOST_PARAMETERS: usize = 64;
@@ -40,7 +41,7 @@ fn bind_top<'a>(
     numbers: &[usize],
     top: &Top<'a>,
     failures: &mut Failures,
-) -> Result<Option<Binding<'a>>, NoMemory>
+) -> Result<Option<Parameters<'a>>, NoMemory>
     ensures { IfOk result (λ r. (u : Use) (c : Closure) → u.args ≡ [] → u.type_place ≡ top.now.name.place → c.def ≡ top.now.def.now → IsAlike (chained bodies.now.tables.items numbers.now) (around u.scope) → IsAlike (chained bodies.now.tables.items numbers.now) (around c.scope)
         → IsTopBound u c r failures.old failures.new) }
 {
@@ -51,9 +52,11 @@ fn bind_top<'a>(
         numbers,
     };
     let def = top.def;
+    let defaults = Rc::new(alloc, Defaults::of(alloc, def.params)?)?;
     let values = judge_values(
         alloc,
         def,
+        &defaults,
         none,
         top.name.place,
         &visible,
@@ -61,7 +64,7 @@ fn bind_top<'a>(
         failures,
     )?;
     failures.note(def.params.len() > MOST_PARAMETERS, Rule::E7, def.place)?;
-    Ok(values.binding)
+    Ok(values.parameters)
 }
 
 /// The site of the top, if it gives a node. All failures of its use are put in.
@@ -79,11 +82,12 @@ pub(crate) fn list_top<'a>(
     let Some(root) = bodies.body(0) else {
         return Ok(None);
     };
-    let Some(binding) = bind_top(alloc, bodies, root.numbers, top, failures)? else {
+    let Some(parameters) = bind_top(alloc, bodies, root.numbers, top, failures)? else {
         return Ok(None);
     };
     let uptos = [top.position];
-    let site = bodies.list(alloc, arena, top.def, root.numbers, &uptos, &binding.bound)?;
+    let touched = parameters.touched();
+    let site = bodies.list(alloc, arena, top.def, root.numbers, &uptos, touched)?;
     Ok(Some(TopSite {
         site,
         name: top.name,

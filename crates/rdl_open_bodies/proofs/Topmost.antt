@@ -1,5 +1,5 @@
 -- The signals at the root, and the top.
-use Rattle.std.proofs.Common.{◌≡◌, ◌∙◌, ℕ, ◌+◌, ◌≤◌, Bool, true, false, ◌&&◌, cond, List, [], ◌∷◌, ◌++◌, length, take, map, flat_map, slice_get, Option, None, Some, option_and_then, option_to_list, MatchOption, refl, sym, ap, subst, arith, append_assoc, append-nil, inl, inr}
+use Rattle.std.proofs.Common.{◌≡◌, ◌∙◌, ℕ, ◌+◌, ◌≤◌, Bool, true, false, ◌&&◌, cond, List, [], ◌∷◌, ◌++◌, length, take, map, flat_map, slice_get, Option, None, Some, option_and_then, option_to_list, MatchOption, Ok, refl, sym, ap, subst, arith, append_assoc, append-nil, inl, inr}
 use Rattle.std.specs.List.{AllByRecursion}
 use Rattle.std.proofs.lemmas.List.{length-append, take_all}
 use Rattle.rdl_base.specs.declared.fault.Fault.{Fault}
@@ -9,6 +9,7 @@ use Rattle.rdl_tree.specs.declared.item.Kind.{Kind}
 use Rattle.rdl_tree.specs.declared.item.Kind.TheVariants as kind
 use Rattle.std.specs.Borrow.{Bor}
 use Rattle.rdl_tree.specs.declared.item.Item.{Item}
+use Rattle.rdl_tree.specs.declared.item.Param.{Param}
 use Rattle.rdl_tree.specs.declared.item.Source.{Source}
 use Rattle.rdl_tree.specs.declared.node.Elab.{Elab}
 use Rattle.rdl_tree.specs.declared.node.Node.{Node, out-Node}
@@ -23,23 +24,26 @@ use Rattle.rdl_values.specs.Paths.{at_root, in_node, path_in}
 use Rattle.rdl_values.specs.Seen.{around_of, bound_of}
 use Rattle.rdl_values.specs.Top.{is_addrmap, is_wanted, root, top_at, top_named, top_seen, top_use, top_use_of}
 use Rattle.rdl_values.specs.Uses.{Seen, Use, form_of, seen}
+use Rattle.rdl_values.specs.Overlaid.{AreApart, overlaid, plain_of}
+use Rattle.rdl_values.specs.Parameters as parameters
 use Rattle.rdl_values.specs.Parameters.{Bound}
 use Rattle.rdl_values.specs.Values.{Around, Names, Val}
 use Rattle.rdl_values.specs.Views.{item_is}
 use Rattle.rdl_values.proofs.Clean.{Somewhere, nearest_is}
 use Rattle.rdl_values.proofs.Given.{IsAtRoot, given-all, held, signals-given}
+use Rattle.rdl_values.proofs.Touched.{overlaid_all}
 use Rattle.plain_lemmas.proofs.Lists.{each-imp}
 use Rattle.rdl_values.proofs.Numbered.{At, Deep, bottom}
 use Rattle.rdl_uses.specs.Parts.{StandsAt}
-use Rattle.rdl_bodies.specs.Kept.{AreDistinct, AreKept}
+use Rattle.rdl_bodies.specs.Kept.{AreKept}
 use Rattle.rdl_bodies.specs.Opened.{IsListed}
-use Rattle.rdl_bodies.specs.Sited.{AreRound, HaveNames, IsOpenAs, def_at}
+use Rattle.rdl_bodies.specs.Sited.{AreRound, HaveNames, IsOpenAs, def_at, values_over}
 use Rattle.rdl_bodies.specs.declared.bodies.Bodies.{Bodies}
 use Rattle.rdl_bodies.specs.declared.bodies.Body.{Body}
 use Rattle.rdl_bodies.proofs.Adding.{names_bound}
 use Rattle.rdl_children.specs.Children.{AreChildren}
 use Rattle.rdl_children.specs.declared.child.Child.{Child}
-use Rattle.rdl_children.proofs.Bounds.{bound_distinct}
+use Rattle.rdl_children.proofs.Bounds.{bound_apart}
 use Rattle.rdl_children.proofs.Reached.{Reached, found_at, here}
 use Rattle.rdl_top.specs.declared.top.Top.{Top}
 use Rattle.rdl_scopes.specs.Scopes.{Shows}
@@ -256,6 +260,10 @@ given_top s w n q = go (top_use_of (Some w) s) refl q
     go None r g = cc
     go (Some u) r g = (u, r, first (given_by (top_seen u)) u (given-all (top_seen u)) g)
 
+-- all values of a use, put over those of the text, are the same
+over-itself : (u : Use) (c : Closure) (b : Bound) → parameters.bound_of u c ≡ Ok b → b ≡ overlaid (plain_of c.def.params.now) b
+over-itself u c b h = overlaid_all u c b b h (record { same = λ n v q. q; all = λ k p e. inl refl })
+
 -- what was found is the top
 module _ (e : Elab) (clean : IsClean e) (t : Top) (means : top_use_of (Some (top_name e)) e.source.now ≡ Some (top_use (scope_at (root e.source.now) (take t.position e.source.now.items.now)) t.def.now t.name)) where
   abbrev n : Instance
@@ -275,11 +283,14 @@ module _ (e : Elab) (clean : IsClean e) (t : Top) (means : top_use_of (Some (top
   pub reached : Reached (scope_at (root e.source.now) e.source.now.items.now) n.closure
   reached = top_reached e.source.now (top_name e) u means n.closure given.closure_is
 
-  pub bound_is : n.bound ≡ map bound_of (out-Env (out-Node e.top.now).env.now).bound.now
+  bound_is : n.bound ≡ map bound_of (out-Env (out-Node e.top.now).env.now).bound.now
   bound_is = sym (bound-in (out-Node e.top.now).env.now (body n).names (around n.closure.scope) (top_here e clean).says.env ∙ names_bound (around n.closure.scope) n.bound n.closure.def.items.now)
 
-  pub top_distinct : AreDistinct [] (map bound_of (out-Env (out-Node e.top.now).env.now).bound.now)
-  top_distinct = subst (AreDistinct []) bound_is (bound_distinct (top_seen u).use_ n.closure n.bound given.bound_is)
+  pub values_are : n.bound ≡ values_over t.def.now.params.now (out-Env (out-Node e.top.now).env.now).bound.now
+  values_are = over-itself (top_seen u).use_ n.closure n.bound given.bound_is ∙ ap (λ c. overlaid (plain_of c.def.params.now) n.bound) (sym closure_is) ∙ ap (overlaid (plain_of t.def.now.params.now)) bound_is
+
+  pub top_apart : AreApart (plain_of t.def.now.params.now)
+  top_apart = subst (λ c. AreApart (plain_of c.def.params.now)) (sym closure_is) (bound_apart (top_seen u).use_ n.closure n.bound given.bound_is)
 
   module _ (b : Bodies) (x : Body) (open_ : IsOpenAs b x (root e.source.now)) (uptos : List ℕ) (ups : uptos ≡ t.position ∷ x.uptos.now) where
     shown-all : Shows b.tables.items b.components.items x.numbers.now (length x.items.now ∷ x.uptos.now) (scope_at (root e.source.now) e.source.now.items.now)
@@ -312,14 +323,14 @@ module _ (e : Elab) (clean : IsClean e) (t : Top) (means : top_use_of (Some (top
 
 pub top_started : (e : Elab) (clean : IsClean e) (w v : Walk) (t : Top) (means : top_use_of (Some (top_name e)) e.source.now ≡ Some (top_use (scope_at (root e.source.now) (take t.position e.source.now.items.now)) t.def.now t.name)) (x : Body) (uptos : List ℕ) (site : ℕ) (chain : Bor (List (Option ℕ)))
     → AreWalking w → IsOpenAt w.bodies 0 (root e.source.now) → slice_get w.bodies.list.items 0 ≡ Some x → uptos ≡ t.position ∷ x.uptos.now → chain.now ≡ None ∷ []
-    → ((held : List Fault) (c : Closure) (b : Bound) → AreKept w.bodies held → c.def ≡ t.def.now → AreRound w.bodies x.numbers.now uptos c.scope → b ≡ map bound_of (out-Env (out-Node e.top.now).env.now).bound.now → IsListed w.bodies v.bodies held site c b)
+    → ((held : List Fault) (c : Closure) (b : Bound) → AreKept w.bodies held → c.def ≡ t.def.now → AreRound w.bodies x.numbers.now uptos c.scope → b ≡ values_over t.def.now.params.now (out-Env (out-Node e.top.now).env.now).bound.now → IsListed w.bodies v.bodies held site c b)
     → v.judgements ≡ w.judgements → v.failures ≡ w.failures → v.count ≡ w.count
     → IsTopStart e w v (Some (record { site = site; within = 0; standing = record { depth = 2; prefix = 0 }; chain = chain }))
 top_started e clean w v t means x uptos site chain inv open_ is ups root_ listed js fs count =
     let n = (top_here e clean).n in
     let same : open_.open_ ≡ x = some-is open_.open_ x (sym open_.here ∙ is) in
     let root_open = subst (λ y. IsOpenAs w.bodies y (root e.source.now)) same open_.is in
-    let l = listed w.failures n.closure n.bound inv.kept (ap (λ c. c.def) (sym (closure_is e clean t means))) (top_round e clean t means w.bodies x root_open uptos ups) (bound_is e clean t means) in
+    let l = listed w.failures n.closure n.bound inv.kept (ap (λ c. c.def) (sym (closure_is e clean t means))) (top_round e clean t means w.bodies x root_open uptos ups) (values_are e clean t means) in
     let low = inv.counted in
     let path : n.path ≡ below_top [] = (given e clean t means).path_is in
     record {

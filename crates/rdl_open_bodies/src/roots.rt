@@ -123,10 +123,11 @@ fn top_start<'s, 'a>(
         return Ok(None);
     };
     let uptos = uptos_of(alloc, top.position, root.uptos)?;
-    let bound = elab.top.env.bound;
+    // All values stand there, and put over those of the text they are the same.
+    let values = elab.top.env.bound;
     let site = walk
         .bodies
-        .list(alloc, arena, top.def, root.numbers, &uptos, bound)?;
+        .list(alloc, arena, top.def, root.numbers, &uptos, values)?;
     let chain = root_chain(walk.scratch)?;
     Ok(Some(Start {
         site,

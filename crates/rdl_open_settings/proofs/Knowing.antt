@@ -14,7 +14,7 @@ use Rattle.rdl_values.specs.Top.{root, top_seen, top_use_of}
 use Rattle.rdl_failures.specs.Noted.{Holds, with_all}
 use Rattle.rdl_failures.proofs.Sets.{again, held, kept, with_all-append}
 use Rattle.rdl_bodies.specs.Kept.{AreDistinct}
-use Rattle.rdl_bodies.specs.Sited.{HaveNames, IsOpenAs, own_names}
+use Rattle.rdl_bodies.specs.Sited.{HaveNames, IsOpenAs, own_names, values_over}
 use Rattle.rdl_bodies.proofs.Adding.{names_bound, round_alike}
 use Rattle.rdl_children.proofs.Bounds.{bound_distinct}
 use Rattle.rdl_scopes.specs.Scopes.{Shows}
@@ -24,7 +24,6 @@ use Rattle.rdl_values.specs.Bodies.{around, scope_at}
 use Rattle.rdl_values.specs.Chained.{chained}
 use Rattle.rdl_values.specs.Given.{IsGivenBy}
 use Rattle.rdl_values.specs.Parameters.{bound_of}
-use Rattle.rdl_values.specs.Seen.{bound_of as pair_bound}
 use Rattle.rdl_values.specs.Uses.{Seen, Use}
 use Rattle.rdl_values.proofs.Given.{IsAtRoot, IsChildOf, children-given, given-all, signals-given}
 use Rattle.plain_lemmas.proofs.Lists.{each-append, each-flat_map, each-imp}
@@ -249,7 +248,7 @@ module _ (t : Bodies) (x : Body) (b : values.Body) (first : ℕ) (rest : List �
   names-here : HaveNames t.list.items (first ∷ rest) (b.names ∷ around b.outer)
   names-here = subst (λ ks. HaveNames t.list.items ks (b.names ∷ around b.outer)) split h.names
 
-  pub own_bound : (own : Body) → slice_get t.list.items first ≡ Some own → map pair_bound own.bound.now ≡ b.names.bound
+  pub own_bound : (own : Body) → slice_get t.list.items first ≡ Some own → values_over own.params.now own.touched.now ≡ b.names.bound
   own_bound own at =
       let both : Some names-here.0.body ≡ Some own = sym names-here.0.here ∙ at in
       let same : names-here.0.body ≡ own = cc in

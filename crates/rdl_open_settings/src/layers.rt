@@ -11,7 +11,7 @@ ghost use Rattle.rdl_open_settings.specs.Layered.{AreLocals, CanRead, IsLayersOf
 use bumpalo::Bump;
 use rb_base::NoMemory;
 use rdl_assignments::{Defaults, ValidAssignment, judge_defaults, judge_enums, judge_locals};
-use rdl_bodies::{Bodies, Body, table_of};
+use rdl_bodies::{Bodies, Body, all_values, table_of};
 use rdl_dynamic::{Written, written_among};
 use rdl_failures::Failures;
 use rdl_scopes::Outer;
@@ -80,7 +80,8 @@ fn enums_of<'a>(
     let Some(own) = bodies.body(first) else {
         return Ok(());
     };
-    let table = table_of(alloc, own.bound)?;
+    let bound = all_values(alloc, own.params, own.touched)?;
+    let table = table_of(alloc, &bound)?;
     let outer = Outer {
         tables: bodies.tables(),
         numbers: rest_of(body.numbers),

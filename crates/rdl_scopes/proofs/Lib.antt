@@ -1,5 +1,6 @@
 pub mod ByItem
 pub mod Closing
+mod Defaulting
 mod Entered
 mod FoundComponents
 pub mod Meant

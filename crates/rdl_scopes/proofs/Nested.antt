@@ -6,10 +6,13 @@ use Rattle.rdl_tree.specs.declared.item.Item.{Item}
 use Rattle.rdl_values.specs.Bodies.{Closure, Layer, Scope, around, closure_in, component, found, standing}
 use Rattle.rdl_values.specs.Chained.{chained}
 use Rattle.rdl_values.specs.Values.{Names, nearest}
+use Rattle.rdl_values.specs.Views as view
+use Rattle.rdl_values.specs.Views.{item_is}
 use Rattle.rdl_failures.specs.Shown.{IsAlike}
 use Rattle.rdl_scopes.specs.declared.components.Components.{Components}
-use Rattle.rdl_scopes.specs.Scopes.{IsClosureAt, Shows, items_at}
+use Rattle.rdl_scopes.specs.Scopes.{IsClosureAt, Shows, Stands, items_at}
 use Rattle.rdl_scopes.specs.declared.scopes.Found.{Found}
+use Rattle.plain_lemmas.proofs.Lists.{get-at}
 
 module _ (ts : List Names) (cs : List Components) where
   -- the scope from a body on
@@ -86,3 +89,13 @@ module _ (ts : List Names) (cs : List Components) (ks ps : List ℕ) (scope : Sc
       let before : h.layer.before ≡ take u (items_at cs (get_or ks i d)) = h.before ∙ ap (λ u. take u (items_at cs (get_or ks i d))) u-is in
       let next : suc i ≡ i + 1 = omega arith in
       so_far ∙ ap (component n) h.scope_is ∙ component_behind n h.layer (drop (suc i) scope) (ap (λ b. nearest (found n) (standing b)) before ∙ miss) ∙ ap (λ j. component n (drop j scope)) next
+
+-- what was found at a level stands there
+pub stands_at : (cs : List Components) (ks : List ℕ) (f : Found) (d : ℕ) → f.level < length ks → (i : Item) × (slice_get (items_at cs (get_or ks f.level d)) f.position ≡ Some i) × (item_is i ≡ view.definition f.def.now) → Stands cs ks f
+stands_at cs ks f d l h = record {
+  number = get_or ks f.level d;
+  item = h.0;
+  body = get-at ks f.level d l;
+  there = h.1;
+  is = h.2;
+}

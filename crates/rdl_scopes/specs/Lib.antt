@@ -1,4 +1,5 @@
 pub mod Closed
+pub mod Defaulted
 pub mod Entries
 pub mod Named
 pub mod Opened

@@ -1,6 +1,7 @@
 -- The components of a body, by name.
 use Rattle.std.specs.Prelude.{◌≡◌, ℕ, suc, Bool, cond, Option, None, Some, List, [], ◌∷◌, option_map, is_some, flat_map}
 use Rattle.std.specs.List.{list_any}
+use Rattle.std.specs.Rc.{rc_value}
 use Rattle.rdl_base.specs.declared.fault.Fault.{Fault}
 use Rattle.rdl_base.specs.declared.rule.Rule.TheVariants as rules
 use Rattle.rdl_tree.specs.declared.expr.Name.{Name}
@@ -11,6 +12,7 @@ use Rattle.rdl_values.specs.Faults.{at_, when}
 use Rattle.rdl_values.specs.Views.{item_is}
 use Rattle.rdl_values.specs.Firsts.{place_of}
 use Rattle.rdl_values.specs.declared.firsts.Firsts.{Firsts}
+use Rattle.rdl_scopes.specs.Defaulted.{AreKnown}
 use Rattle.rdl_scopes.specs.declared.components.Components.{Components}
 
 -- E2 at each name that stands before
@@ -42,7 +44,8 @@ first_of f (x ∷ xs) = cond (f x) (Some 0) (option_map (λ k. suc k) (first_of 
 pub record Knows (t : Firsts) (items : List Item) : Type 0 where
   pub at : (n : List ℕ) → place_of t n ≡ first_of (has_component n) items
 
--- the components are those among these items
+-- the components are those among these items, with what their parameters have at all uses
 pub record AreComponents (c : Components) (items : List Item) : Type 0 where
   pub same : c.items.now ≡ items
   pub known : Knows c.firsts items
+  pub defaults : AreKnown (option_map rc_value c.defaults) items

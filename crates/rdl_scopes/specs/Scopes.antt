@@ -5,6 +5,8 @@ use Rattle.rdl_tree.specs.declared.item.Item.{Item}
 use Rattle.rdl_values.specs.Bodies.{Closure, Scope, around}
 use Rattle.rdl_values.specs.Chained.{chained}
 use Rattle.rdl_values.specs.Values.{Names}
+use Rattle.rdl_values.specs.Views as view
+use Rattle.rdl_values.specs.Views.{item_is}
 use Rattle.rdl_failures.specs.Shown.{IsAlike}
 use Rattle.rdl_scopes.specs.Named.{AreComponents}
 use Rattle.rdl_scopes.specs.declared.components.Components.{Components}
@@ -33,3 +35,11 @@ Shows ts cs _ _ _ = ⊥
 pub record IsClosureAt (ts : List Names) (cs : List Components) (ks ps : List ℕ) (f : Found) (c : Closure) : Type 0 where
   pub def : c.def ≡ f.def.now
   pub shown : Shows ts cs (drop f.level ks) (f.position ∷ drop (f.level + 1) ps) c.scope
+
+-- What was found is a definition that stands there.
+pub record Stands (cs : List Components) (ks : List ℕ) (f : Found) : Type 0 where
+  pub number : ℕ
+  pub item : Item
+  pub body : slice_get ks f.level ≡ Some number
+  pub there : slice_get (items_at cs number) f.position ≡ Some item
+  pub is : item_is item ≡ view.definition f.def.now

@@ -7,14 +7,16 @@ ghost use Rattle.rdl_values.specs.Values.{nearest};
 ghost use Rattle.rdl_values.specs.Phase3 as phase;
 ghost use Rattle.rdl_values.specs.Views.{item_is};
 ghost use Rattle.rdl_failures.specs.Noted.{IsNoted};
-ghost use Rattle.rdl_scopes.specs.Named.{AreComponents, component_named, fails_twice};
+ghost use Rattle.rdl_scopes.specs.Named.{AreComponents, Knows, component_named, fails_twice};
 
+use crate::text_defaults::TextDefaults;
 use rb_base::NoMemory;
 use rdl_base::Rule;
 use rdl_failures::Failures;
 use rdl_tree::{Def, Item, Name};
-use rdl_values::Firsts;
+use rdl_values::{Defaults, Firsts};
 use std::alloc::Global;
+use std::rc::Rc;
 
 // The name of a definition or an enumeration; both share one list of names.
 fn name_of<'a>(item: &Item<'a>) -> Option<Name<'a>>
@@ -66,11 +68,12 @@ pub fn judge_names(
     note_twice(alloc, &names, failures)
 }
 
-/// The definitions of a body by their names, of two of one name the first.
+/// The definitions of a body by their names, of two of one name the first, and what their parameters have at all uses.
 #[derive(Drop)]
 pub struct Components<'a> {
     items: &'a [Item<'a>],
     firsts: Firsts<'a>,
+    defaults: Option<Rc<TextDefaults<'a>>>,
 }
 
 // The name of a component.
@@ -81,6 +84,19 @@ fn component_name<'a>(item: &Item<'a>) -> Option<&'a [u8]>
         Item::Def(def) => Some(def.name?.text),
         _ => None,
     }
+}
+
+// The first place of each component's name.
+fn firsts_of<'a>(alloc: Global, items: &[Item<'a>]) -> Result<Firsts<'a>, NoMemory>
+    ensures { IfOk result (λ t. Knows t items.now) }
+{
+    let mut firsts = Firsts::new(alloc);
+    for (at, item) in items.iter().enumerate() {
+        if let Some(name) = component_name(item) {
+            firsts.put(name, at)?;
+        }
+    }
+    Ok(firsts)
 }
 
 // Whether the definition has this name.
@@ -104,26 +120,38 @@ fn component_in<'a>(item: &'a Item<'a>, name: &[u8]) -> Option<&'a Def<'a>>
 }
 
 impl<'a> Components<'a> {
-    /// The definitions among these items.
-    pub fn of(alloc: Global, items: &'a [Item<'a>]) -> Result<Self, NoMemory>
+    ghost use Rattle.std.specs.Prelude.{◌≡◌, IfSome, Some, option_map, slice_get};
+    ghost use Rattle.rdl_tree.specs.declared.item.Item.{Item as AnyItem};
+    ghost use Rattle.rdl_values.specs.Kept.{AreDefaultsOf};
+    ghost use Rattle.rdl_values.specs.Views as view;
+    ghost use Rattle.std.specs.Rc.{rc_value};
+    ghost use Rattle.rdl_scopes.specs.Defaulted.{AreKnown};
+
+    /// The definitions among these items, with what is known of the text's.
+    pub fn of(
+        alloc: Global,
+        items: &'a [Item<'a>],
+        defaults: Option<Rc<TextDefaults<'a>>>,
+    ) -> Result<Self, NoMemory>
+        requires { AreKnown (option_map rc_value defaults) items.now }
         ensures { IfOk result (λ c. AreComponents c items.now) }
     {
-        let mut firsts = Firsts::new(alloc);
-        for (at, item) in items.iter().enumerate() {
-            if let Some(name) = component_name(item) {
-                firsts.put(name, at)?;
-            }
-        }
-        Ok(Components { items, firsts })
+        let firsts = firsts_of(alloc, items)?;
+        Ok(Components {
+            items,
+            firsts,
+            defaults,
+        })
     }
 
     /// The component that a name means behind the first `upto` items: the first of that name, with its position (SystemRDL 2.0,
     /// 5.1.4).
     pub fn find(&self, name: &[u8], upto: usize) -> Option<(usize, &'a Def<'a>)>
         requires { AreComponents self.now self.now.items.now }
-        ensures { MatchOption result
+        ensures found { MatchOption result
             (nearest (found name.now) (standing (take upto self.now.items.now)) ≡ None)
             (λ r. nearest (found name.now) (standing (take upto self.now.items.now)) ≡ Some (take r.0 self.now.items.now, r.1.now)) }
+        ensures stands { IfSome result (λ r. (i : AnyItem) × (slice_get self.now.items.now r.0 ≡ Some i) × (item_is i ≡ view.definition r.1.now)) }
     {
         let Some(at) = self.firsts.find(name) else {
             return None;
@@ -136,5 +164,15 @@ impl<'a> Components<'a> {
             return None;
         };
         Some((at, def))
+    }
+
+    // What the parameters of a definition that the item of a number is have at all uses, if it is known.
+    pub(crate) fn defaults_at(&self, item: usize, def: &Def<'a>) -> Option<&Rc<Defaults<'a>>>
+        ensures { (i : AnyItem) → AreComponents self.now self.now.items.now → slice_get self.now.items.now item ≡ Some i → item_is i ≡ view.definition def.now → IfSome result (λ d. AreDefaultsOf d.now.value def.now.params.now) }
+    {
+        match &self.defaults {
+            Some(defaults) => defaults.at(item, def),
+            None => None,
+        }
     }
 }

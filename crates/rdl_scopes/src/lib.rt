@@ -6,8 +6,10 @@ mod components;
 mod entries;
 mod enums;
 mod scopes;
+mod text_defaults;
 
 pub use closed::ClosedEnums;
 pub use components::{Components, judge_names};
 pub use enums::{Opened, Opening, Outer, open_names};
-pub use scopes::{Found, find_component};
+pub use scopes::{Found, defaults_of, find_component};
+pub use text_defaults::{TextDefaults, defaults_among, shared_defaults};

@@ -1,13 +1,17 @@
-use Rattle.std.proofs.Common.{refl, subst, sym}
+use Rattle.std.proofs.Common.{◌≡◌, refl, subst, sym}
 use Rattle.rdl_values.specs.Uses.{seen}
 use Rattle.rdl_scopes.specs.Scopes.{AreOpen}
+use Rattle.rdl_children.specs.ItemUses.{nearest_items}
 use Rattle.rdl_children.specs.declared.item.Surroundings.{Surroundings}
 use Rattle.rdl_children.proofs.Itemized.{body_scene, items_of}
 use Rattle.rdl_children.proofs.Reached.{seen_reach}
 use Rattle.rdl_children.proofs.children.judge.Goals as goal
 
-pub judge_items-requires : goal.judge_items-requires
-judge_items-requires c = subst AreOpen (sym c.components.ensures) c.requires.open_
+pub judge_items-requires-clause-open : goal.judge_items-requires-clause-open
+judge_items-requires-clause-open c = subst AreOpen (sym c.components.ensures) c.requires.kept.open_
+
+pub judge_items-requires-clause-items : goal.judge_items-requires-clause-items
+judge_items-requires-clause-items c = subst (λ cs. nearest_items cs c.args.body.now.numbers.now ≡ c.args.body.now.items.now) (sym c.components.ensures) c.requires.items
 
 pub returns : goal.returns
 returns c = λ above b open_ stands.

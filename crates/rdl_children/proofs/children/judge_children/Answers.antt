@@ -1,7 +1,11 @@
 use Rattle.std.proofs.Common.{◌∙◌, subst, sym}
 use Rattle.rdl_children.specs.Items.{CanList, Lists}
+use Rattle.rdl_children.proofs.Itemized.{items_known}
 use Rattle.rdl_children.proofs.Sharing.{can_list, judged_all}
 use Rattle.rdl_children.proofs.children.judge_children.Goals as goal
+
+pub judge-requires-clause-items : goal.judge-requires-clause-items
+judge-requires-clause-items c = items_known c.args.bodies.now c.args.number c.in-Some.body c.args.parent (sym c.body.ensures ∙ c.in-Some.is) c.requires.some
 
 pub list_uses-requires : goal.list_uses-requires
 list_uses-requires c =

@@ -8,7 +8,7 @@ use Rattle.rdl_scopes.specs.Scopes.{IsClosureAt}
 use Rattle.rdl_uses.specs.Before.{AreEarlier}
 use Rattle.rdl_uses.specs.Given.{given_in}
 use Rattle.rdl_children.specs.ItemUses.{seen_in}
-use Rattle.rdl_children.proofs.Using.{behind, found_named, named, none_given, type_behind, type_named, unnamed, uses_behind, uses_named, uses_unnamed}
+use Rattle.rdl_children.proofs.Using.{behind, def_stands, found_named, named, none_given, type_behind, type_named, unnamed, uses_behind, uses_named, uses_unnamed}
 use Rattle.rdl_children.proofs.item.judge_item.Goals as goal
 
 pub returns-in-Some-clause-earlier : goal.returns-in-Some-clause-earlier
@@ -47,8 +47,11 @@ returns-in-Some-clause-given c = λ p above scope us h old.
       values = c.in_ok-judge_found-in-Some.ensures.values t ty;
     }
 
-pub judge_found-requires-in-Some-find_component : goal.judge_found-requires-in-Some-find_component
-judge_found-requires-in-Some-find_component c = omega (arith, c.in-Some-find_component.ensures.within)
+pub judge_found-requires-clause-stands : goal.judge_found-requires-clause-stands
+judge_found-requires-clause-stands c = def_stands c.args.scene.now.components.now c.args.scene.now.numbers.now _ c.args.item.now refl c.requires.stands (ap item_is c.in-Def.is ∙ item_is-Def c.in-Def.def)
+
+pub judge_found-requires-in-Some-find_component-clause-level : goal.judge_found-requires-in-Some-find_component-clause-level
+judge_found-requires-in-Some-find_component-clause-level c = omega (arith, c.in-Some-find_component.ensures.within)
 
 pub returns-in-Some-find_component-clause-earlier : goal.returns-in-Some-find_component-clause-earlier
 returns-in-Some-find_component-clause-earlier c = λ p above scope us h old.

@@ -3,7 +3,7 @@ use Rattle.rdl_values.specs.Elaborated.{top_name}
 use Rattle.rdl_values.specs.Top.{top_use_of}
 use Rattle.rdl_top.specs.Topped.{Means}
 use Rattle.rdl_walk.specs.declared.walk.Walk.{Walk}
-use Rattle.rdl_open_bodies.proofs.Topmost.{root_is, top_defined, top_distinct, top_found, top_started}
+use Rattle.rdl_open_bodies.proofs.Topmost.{root_is, top_apart, top_defined, top_found, top_started}
 use Rattle.rdl_open_bodies.proofs.roots.top_start.Goals as goal
 
 pub returns-in_default : goal.returns-in_default
@@ -20,10 +20,10 @@ list-requires-clause-defined c =
     let means = subst (λ r. Means e.source.now e.source.now.items.now r (top_use_of (Some (top_name e)) e.source.now)) c.in-Some.is (c.find_top.ensures e.source.now refl) in
     top_defined e c.requires.clean c.in-Some.top means c.args.walk.now.bodies c.in-Some-body.root (root_is e c.args.walk.now.bodies c.in-Some-body.root c.requires.some (sym c.body.ensures ∙ c.in-Some-body.is)) c.deref.result.now (c.deref.ensures.value ∙ c.in_ok-uptos.ensures)
 
-pub list-requires-clause-distinct : goal.list-requires-clause-distinct
-list-requires-clause-distinct c =
+pub list-requires-clause-apart : goal.list-requires-clause-apart
+list-requires-clause-apart c =
     let e = c.args.elab.now in
-    top_distinct e c.requires.clean c.in-Some.top (subst (λ r. Means e.source.now e.source.now.items.now r (top_use_of (Some (top_name e)) e.source.now)) c.in-Some.is (c.find_top.ensures e.source.now refl))
+    top_apart e c.requires.clean c.in-Some.top (subst (λ r. Means e.source.now e.source.now.items.now r (top_use_of (Some (top_name e)) e.source.now)) c.in-Some.is (c.find_top.ensures e.source.now refl))
 
 pub returns : goal.returns
 returns c =

@@ -1,12 +1,14 @@
-use Rattle.std.proofs.Common.{◌≡◌, ◌∙◌, ◌∷◌, Some, ap, arith, length, map, refl, subst, sym}
+use Rattle.std.proofs.Common.{◌≡◌, ◌∙◌, ◌∷◌, Some, ap, arith, length, map, option_map, refl, subst, sym}
 use Rattle.std.proofs.lemmas.Option.{slice_get_read, slice_get_within}
 use Rattle.rdl_values.specs.Bodies.{around}
 use Rattle.rdl_values.specs.Chained.{chained}
 use Rattle.rdl_values.specs.Enums.{names_of}
-use Rattle.rdl_values.specs.Seen.{bound_of}
 use Rattle.rdl_failures.specs.Shown.{IsAlike}
 use Rattle.rdl_scopes.specs.Closed.{AreClosedOf}
+use Rattle.rdl_scopes.specs.Defaulted.{AreKnown}
+use Rattle.std.specs.Rc.{rc_value}
 use Rattle.rdl_bodies.specs.Kept.{HasItems}
+use Rattle.rdl_bodies.specs.Sited.{values_over}
 use Rattle.rdl_bodies.proofs.Adding.{is_opened, names_bound, names_opened, round_alike}
 use Rattle.rdl_bodies.proofs.bodies.Bodies.add_body.Goals as goal
 
@@ -19,6 +21,16 @@ names_of-requires-clause-closed c =
     let both : Some known.0 ≡ Some x = sym known.1 ∙ here in
     let same : known.0 ≡ x = cc in
     subst (λ is. AreClosedOf x.closed is c.args.failures.now) (ap (λ y. y.items.now) (sym same) ∙ known.2) (c.requires.kept.texts c.args.of x here).closed
+
+pub of-requires : goal.of-requires
+of-requires c =
+    let known = c.requires.known in
+    let texts = c.args.self.now.texts.items in
+    let x = c.index-2.result.now in
+    let here = slice_get_read texts (length texts) c.args.of x refl (slice_get_within texts c.args.of known.0 known.1) c.index-2.ensures in
+    let both : Some known.0 ≡ Some x = sym known.1 ∙ here in
+    let same : known.0 ≡ x = cc in
+    subst (λ o. AreKnown o c.args.text.now.items.now) (sym c.in_ok-known.ensures) (subst (AreKnown (option_map rc_value x.defaults)) (ap (λ y. y.items.now) (sym same) ∙ known.2) (c.requires.kept.texts c.args.of x here).defaults)
 
 pub returns-clause-opened : goal.returns-clause-opened
 returns-clause-opened c = λ b h.
@@ -43,8 +55,8 @@ returns-clause-opened c = λ b h.
       kind_is = c.in_ok-body.ensures.kind_is;
       numbers_are = c.in_ok-body.ensures.numbers_are;
       uptos_are = c.in_ok-body.ensures.uptos_are;
-      names_are = λ ws a. names_opened r ws x o c.in_ok-body.ensures.bound_is c.in_ok-body.ensures.enums_are (c.in_ok-opened.ensures.opened.listed ws (subst (λ ts. IsAlike (chained ts x.outer.now) ws) (sym c.deref.ensures.value) a));
-      alike = λ ws a. subst (λ ts. IsAlike (o.table ∷ chained ts x.outer.now) (names_of ws (map bound_of x.bound.now) x.items.now ∷ ws)) c.deref.ensures.value (c.in_ok-opened.ensures.opened.alike ws (subst (λ ts. IsAlike (chained ts x.outer.now) ws) (sym c.deref.ensures.value) a));
+      names_are = λ ws a. names_opened r ws x o c.in_ok-body.ensures.params_are c.in_ok-body.ensures.touched_are c.in_ok-body.ensures.enums_are (c.in_ok-opened.ensures.opened.listed ws (subst (λ ts. IsAlike (chained ts x.outer.now) ws) (sym c.deref.ensures.value) a));
+      alike = λ ws a. subst (λ ts. IsAlike (o.table ∷ chained ts x.outer.now) (names_of ws (values_over x.params.now x.touched.now) x.items.now ∷ ws)) c.deref.ensures.value (c.in_ok-opened.ensures.opened.alike ws (subst (λ ts. IsAlike (chained ts x.outer.now) ws) (sym c.deref.ensures.value) a));
     }) c.args.failures.now c.names_of.new.failures c.requires.kept c.requires.in_order c.requires.below c.requires.some
-    (λ v g. c.in_ok-opened.ensures.noted v g.items_are (ap (λ n. n.bound) g.names_are ∙ names_bound (around v.outer) (map bound_of x.bound.now) x.items.now) (subst (λ ts. IsAlike (chained ts x.outer.now) (around v.outer)) (sym c.deref.ensures.value) (round_alike t x.outer.now x.uptos.now v.outer g.round.shown)))
+    (λ v g. c.in_ok-opened.ensures.noted v g.items_are (ap (λ n. n.bound) g.names_are ∙ names_bound (around v.outer) (values_over x.params.now x.touched.now) x.items.now) (subst (λ ts. IsAlike (chained ts x.outer.now) (around v.outer)) (sym c.deref.ensures.value) (round_alike t x.outer.now x.uptos.now v.outer g.round.shown)))
     c.requires.of_site b h

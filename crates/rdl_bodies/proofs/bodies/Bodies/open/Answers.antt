@@ -15,8 +15,11 @@ add-requires-clause-placed c =
     let of = c.in-Some-site.of in
     placed_if c.args.self.now c.args.failures.now of c.text_place-place.result c.requires.kept (c.requires.kept.sites c.args.site of (sym c.site.ensures ∙ c.in-Some-site.is)) c.text_place-place.ensures
 
-pub add-requires-clause-distinct : goal.add-requires-clause-distinct
-add-requires-clause-distinct c = (c.requires.kept.sites c.args.site c.in-Some-site.of (sym c.site.ensures ∙ c.in-Some-site.is)).distinct
+pub defaults_for-requires-clause-defined : goal.defaults_for-requires-clause-defined
+defaults_for-requires-clause-defined c = (c.requires.kept.sites c.args.site c.in-Some-site.of (sym c.site.ensures ∙ c.in-Some-site.is)).defined
+
+pub add-requires-clause-apart : goal.add-requires-clause-apart
+add-requires-clause-apart c = (c.requires.kept.sites c.args.site c.in-Some-site.of (sym c.site.ensures ∙ c.in-Some-site.is)).apart
 
 pub add-requires-clause-in_order : goal.add-requires-clause-in_order
 add-requires-clause-in_order c =

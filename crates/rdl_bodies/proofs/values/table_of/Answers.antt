@@ -1,6 +1,6 @@
 use Rattle.std.proofs.Common.{◌∙◌}
 use Rattle.rdl_bodies.proofs.Distinct.{added_more}
-use Rattle.rdl_bodies.proofs.opening.table_of.Goals as goal
+use Rattle.rdl_bodies.proofs.values.table_of.Goals as goal
 
 pub loop-parameter-preserved : goal.loop-parameter-preserved
 loop-parameter-preserved c = (
