@@ -4,21 +4,22 @@ ghost use Rattle.std.specs.Prelude.{◌≡◌, ℕ, ◌+◌, ◌-◌, ◌<◌, �
 ghost use Rattle.rdl_props.specs.declared.prop.Prop.TheVariants as props_;
 ghost use Rattle.rdl_values.specs.Elaborated.{nodes_of};
 ghost use Rattle.rdl_values.specs.Instances.{Instance};
-ghost use Rattle.rdl_values.specs.Tabled.{around_in};
 ghost use Rattle.rdl_layers.specs.Phase4.{first_or};
 ghost use Rattle.rdl_layers.specs.Settings.{given, setting};
-ghost use Rattle.rdl_values.specs.Values.{number_of};
+ghost use Rattle.rdl_values.specs.Values.{Around, number_of};
+ghost use Rattle.rdl_failures.specs.Shown.{IsShown};
 ghost use Rattle.rdl_layout.specs.Fields as fields;
 ghost use Rattle.rdl_addr.specs.TextReadings.{numbers_in};
 ghost use Rattle.rdl_addr.specs.Fields.{side_of as side_by};
 ghost use Rattle.rdl_bits.specs.Widths as widths;
 
 use rdl_base::Keyword;
+use rdl_failures::number_seen;
 use rdl_layers::{Props, Setting};
 use rdl_layout::{Field, Side};
 use rdl_props::Prop;
 use rdl_tree::Expr;
-use rdl_values::{Visible, number_of_in};
+use rdl_values::Chain;
 
 /// What software does with a field, by its setting of `sw`.
 pub(crate) fn side_of(props: &Props<'_>, node: u32) -> Side
@@ -33,18 +34,22 @@ pub(crate) fn side_of(props: &Props<'_>, node: u32) -> Side
 }
 
 /// The number of an expression, or else that of those behind it.
-fn number_or<'a>(expr: &Expr<'a>, visible: &Visible<'_, 'a>, behind: Option<u64>) -> Option<u64>
-    ensures { (d : ℕ) → unwrap_or result d ≡ first_or (given (number_of (around_in visible.now) expr.now)) (unwrap_or behind d) }
+fn number_or<'a>(
+    expr: &Expr<'a>,
+    visible: &Chain<'_, '_, '_, 'a>,
+    behind: Option<u64>,
+) -> Option<u64>
+    ensures { (around : Around) → IsShown visible.now around → (d : ℕ) → unwrap_or result d ≡ first_or (given (number_of around expr.now)) (unwrap_or behind d) }
 {
-    match number_of_in(expr, visible) {
+    match number_seen(expr, visible) {
         Ok(number) => Some(number),
         Err(_) => behind,
     }
 }
 
 /// The first of some numbers.
-pub(crate) fn first_number<'a>(exprs: &[Expr<'a>], visible: &Visible<'_, 'a>) -> Option<u64>
-    ensures { (d : ℕ) → first_or (numbers_in (around_in visible.now) exprs.now) d ≡ unwrap_or result d }
+pub(crate) fn first_number<'a>(exprs: &[Expr<'a>], visible: &Chain<'_, '_, '_, 'a>) -> Option<u64>
+    ensures { (around : Around) → IsShown visible.now around → (d : ℕ) → first_or (numbers_in around exprs.now) d ≡ unwrap_or result d }
 {
     let mut first = None;
     for at in (0..exprs.len()).rev() {

@@ -30,10 +30,10 @@ pub struct BitTable {
 }
 
 /// Takes up the fields of a register.
-fn add_register(
+fn add_register<'a>(
     alloc: Global,
-    props: &Props<'_>,
-    node: &Node<'_>,
+    props: &Props<'a>,
+    node: &Node<'a>,
     table: &mut BitTable,
 ) -> Result<(), NoMemory>
     requires clean { IsClean props.now }
@@ -42,7 +42,8 @@ fn add_register(
     requires before { AreBitsTo props.now (out-Node node.now).id table.old }
     ensures { OnOk result (AreBitsTo props.now ((out-Node node.now).id + 1) table.new) }
 {
-    let fields = fields_in(alloc, props, node)?;
+    let visible = props.visible_in(node.id);
+    let fields = fields_in(alloc, props, node, &visible)?;
     let bits = bits_of(alloc, &fields)?;
     if !are_spans(&bits) {
         return Err(NoMemory);
@@ -54,10 +55,10 @@ fn add_register(
 }
 
 /// Takes up a node.
-fn add_row(
+fn add_row<'a>(
     alloc: Global,
-    props: &Props<'_>,
-    row: &Row<'_>,
+    props: &Props<'a>,
+    row: &Row<'a>,
     table: &mut BitTable,
 ) -> Result<(), NoMemory>
     requires clean { IsClean props.now }
@@ -73,7 +74,11 @@ fn add_row(
 
 /// The bits of the fields of a tree, of which these are the rows, and the failures of B1 and B2 (SystemRDL 2.0, 9.1). The only
 /// error is want of memory, or a number at or above 2^128.
-pub fn bit_table(alloc: Global, props: &Props<'_>, rows: &[Row<'_>]) -> Result<BitTable, NoMemory>
+pub fn bit_table<'a>(
+    alloc: Global,
+    props: &Props<'a>,
+    rows: &[Row<'a>],
+) -> Result<BitTable, NoMemory>
     requires clean { IsClean props.now }
     requires rows { AreRows props.now rows.now }
     ensures { IfOk result (λ t. AreBits props.now t) }

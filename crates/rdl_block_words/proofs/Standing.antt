@@ -123,4 +123,4 @@ shape-fits s p h address whole part = record {
 
 -- its fields stand in its body
 pub body-of : (e : Elab) (x : Row) (l : Lineage) → IsRegisterRow e x l → IsBodyOf e x.node.now l
-body-of e x l h = record { number = (out-Node x.node.now).id; here = h.here; inside = h.row.inside; env_ = h.row.says.env }
+body-of e x l h = record { number = (out-Node x.node.now).id; here = h.here; inside = h.row.inside }

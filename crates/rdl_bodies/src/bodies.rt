@@ -137,6 +137,13 @@ impl<'s, 'a> Bodies<'s, 'a> {
         self.sites.get(number).copied()
     }
 
+    /// The tables of the bodies by their numbers, without anything else.
+    pub fn into_tables(self) -> Vec<Table<'a>>
+        ensures { result ≡ self.entry.tables }
+    {
+        self.tables
+    }
+
     /// The same bodies and sites, without the keys by which they are found again, and without what is kept of their texts: for readers, after the last body was opened.
     pub fn without_keys(self, alloc: Global) -> Self
         ensures tables { result.tables ≡ self.entry.tables }

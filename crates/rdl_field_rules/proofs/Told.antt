@@ -35,7 +35,7 @@ use Rattle.rdl_field_rules.specs.Judged.{of_alias_of, of_field, own_failures}
 use Rattle.rdl_field_rules.proofs.Agreeing.{alias-parts}
 
 pub body-of-row : (e : Elab) (k : ℕ) (x : Row) (l : Lineage) → slice_get (lineages_of e) k ≡ Some l → IsRow e (lineages_of e) k x l → IsBodyOf e x.node.now l
-body-of-row e k x l at row = record { number = k; here = at; inside = row.inside; env_ = row.says.env }
+body-of-row e k x l at row = record { number = k; here = at; inside = row.inside }
 
 pub within-rows : (e : Elab) (rows : List Row) → AreRows e rows → (k : ℕ) (n : Instance) → slice_get (nodes_of e) k ≡ Some n → k < length rows
 within-rows e rows h k n at = let low = get-within (nodes_of e) k n at in let m = nodes-many e in let r = rows-many e rows h in omega (arith, low, m, r)

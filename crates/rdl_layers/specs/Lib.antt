@@ -6,6 +6,7 @@ pub mod Forms
 pub mod Judged
 pub mod Meanings
 pub mod Nested
+pub mod NodeNames
 pub mod Phase4
 pub mod Ranks
 pub mod Says

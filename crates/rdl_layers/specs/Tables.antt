@@ -12,6 +12,7 @@ use Rattle.rdl_layers.specs.declared.setting.Setting.TheVariants as set
 use Rattle.rdl_layers.specs.declared.props.PropSetting.{PropSetting}
 use Rattle.rdl_layers.specs.declared.props.Props.TheInside.{Inside}
 use Rattle.rdl_layers.specs.Answers.{SaysAt}
+use Rattle.rdl_layers.specs.NodeNames.{AreNamesOf}
 use Rattle.rdl_layers.specs.Ranks.{is_related}
 
 -- a default of the table, as the code has it
@@ -57,5 +58,7 @@ pub record AreTablesOf (e : Elab) (vs : List (Vec PropSetting Global)) : Type 0 
   pub all_nodes : length vs ≡ e.count
   pub settings : (k : ℕ) (p : Prop) → k < e.count → SaysAt e k p (setting_in p (entries_at vs k))
 
-abbrev pub AreTables : Inside → Type 0
-AreTables a = AreTablesOf a.elab a.entries.items
+-- The settings are those of the tree, and so are the names.
+pub record AreTables (a : Inside) : Type 0 where
+  pub settings_ : AreTablesOf a.elab a.entries.items
+  pub names_ : AreNamesOf a.elab a.names

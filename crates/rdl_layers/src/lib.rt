@@ -4,6 +4,7 @@
 mod above;
 mod candidate;
 mod laws;
+mod names;
 mod props;
 mod rank;
 mod related;
@@ -13,6 +14,7 @@ mod setting;
 pub use above::assigned_from_above;
 pub use candidate::{Candidate, deciding};
 pub use laws::{first_related_decides, references_stand_where_taken, settings_have_forms};
+pub use names::NodeNames;
 pub use props::{PropSetting, Props, setting_of};
 pub use rank::Rank;
 pub use related::is_related;

@@ -1,14 +1,18 @@
 //! The settings of a tree.
 
 ghost use Rattle.std.specs.Prelude.{◌≡◌, ◌<◌};
+ghost use Rattle.rdl_failures.specs.Shown.{IsShown};
 ghost use Rattle.rdl_layers.specs.Answers.{SaysAt};
+ghost use Rattle.rdl_layers.specs.NodeNames.{AreNamesOf, around_at};
 ghost use Rattle.rdl_layers.specs.Tables.{AreTablesOf, decided_in, default_in, is_false_set, setting_in, settled_by};
 
+use crate::names::NodeNames;
 use crate::related::is_related;
 use crate::setting::Setting;
 use rdl_base::Keyword;
 use rdl_props::{Prop, group};
 use rdl_tree::Elab;
+use rdl_values::Chain;
 use std::marker::Model;
 
 /// What an assignment that applies to a node gives its property.
@@ -18,12 +22,13 @@ pub struct PropSetting<'a> {
     pub setting: Setting<'a>,
 }
 
-/// The settings of all properties of all nodes of a tree, which they are seen as.
+/// The settings of all properties of all nodes of a tree, and what is visible in the bodies of these. They are seen as the tree.
 #[derive(Drop)]
 pub struct Props<'a> {
     elab: Elab<'a>,
     /// For each node what decides its properties, the first one of a group before the others.
     entries: Vec<Vec<PropSetting<'a>>>,
+    names: NodeNames<'a>,
 }
 
 impl<'a> Model for Props<'a> {
@@ -114,12 +119,17 @@ pub fn setting_of<'a>(entries: &[PropSetting<'a>], prop: Prop) -> Setting<'a>
 }
 
 impl<'a> Props<'a> {
-    /// The settings of a tree, from what decides the properties of each node.
-    pub fn of(elab: Elab<'a>, entries: Vec<Vec<PropSetting<'a>>>) -> Self
-        requires { AreTablesOf elab entries.items }
+    /// The settings of a tree, from what decides the properties of each node, and from what is visible in the body of each.
+    pub fn of(elab: Elab<'a>, entries: Vec<Vec<PropSetting<'a>>>, names: NodeNames<'a>) -> Self
+        requires settings { AreTablesOf elab entries.items }
+        requires names { AreNamesOf elab names }
         ensures { result ≡ elab.entry }
     {
-        Props { elab, entries }
+        Props {
+            elab,
+            entries,
+            names,
+        }
     }
 
     /// What the property of the node of this number is set to (SystemRDL 2.0, 5.1.3). It takes no memory.
@@ -128,5 +138,13 @@ impl<'a> Props<'a> {
         ensures { SaysAt self.now node prop result }
     {
         setting_of(&self.entries[node as usize], prop)
+    }
+
+    /// What the expressions in the body of the node of this number see, or in the root's body, where it is the count of nodes
+    /// (SystemRDL 2.0, 5.1.4). It takes no memory.
+    pub fn visible_in(&self, body: u32) -> Chain<'_, '_, '_, 'a>
+        ensures { IsShown result (around_at self.now body) }
+    {
+        self.names.visible_in(body)
     }
 }

@@ -35,7 +35,11 @@ fn add_all(faults: &mut Vec<Fault>, more: &[Fault]) -> Result<(), NoMemory>
 }
 
 /// What is known of a tree. The only error is want of memory, or a number at or above 2^128.
-pub(crate) fn lay_out(alloc: Global, elab: &Elab<'_>, props: &Props<'_>) -> Result<Laid, NoMemory>
+pub(crate) fn lay_out<'a>(
+    alloc: Global,
+    elab: &Elab<'a>,
+    props: &Props<'a>,
+) -> Result<Laid, NoMemory>
     requires clean { IsClean elab.now }
     requires settled { IsSettled elab.now }
     requires tree { props.now ≡ elab.now }

@@ -22,6 +22,7 @@ use Rattle.rdl_values.specs.Uses.{Seen, Use, parent_of, seen, uses}
 use Rattle.rdl_values.specs.Values.{Around, Names}
 use Rattle.rdl_values.proofs.Given.{each-map, given-all}
 use Rattle.plain_lemmas.proofs.Lists.{each-flat_map, each-imp}
+use Rattle.rdl_failures.specs.Shown.{IsShown}
 use Rattle.rdl_layers.specs.Says.{IsBodyNumber, IsScopeNumber}
 use Rattle.rdl_layers.specs.Settings.{reference, setting}
 use Rattle.rdl_nodes.proofs.Members.{In, each-in, in-flat, in-place, in-right, place-in}
@@ -34,7 +35,8 @@ use Rattle.rdl_members.proofs.Standing.{one-by-path}
 use Rattle.rdl_layers.specs.Scoped.{IsScoped, IsWithin, bodies_of}
 use Rattle.rdl_resolve.specs.Outward.{IsChain, IsSeen, outer_at}
 use Rattle.rdl_resolve.specs.declared.leading.Viewpoint.{Viewpoint}
-use Rattle.rdl_resolve.specs.Outers.{AreOuters, around_at, around_if}
+use Rattle.rdl_layers.specs.NodeNames.{around_at, around_if}
+use Rattle.rdl_resolve.specs.Outers.{AreOuters}
 
 -- The bodies above a node are those of nodes.
 
@@ -142,9 +144,9 @@ in-some e outers are n among b before k (inr h) own = by (among-either n.above (
     by (inr (inr q)) = absurd q
 
 pub seen-from : (e : Elab) (v : Viewpoint) (k : ℕ) (outers : List ℕ) → AreOuters e outers → (n : Instance) (scope : Scope) → In (nodes_of e) n → IsWithin (root e.source.now ∷ n.above ++ (body n ∷ [])) scope → IsScopeNumber (nodes_of e) scope k
-    → v.body ≡ k → v.outers.now ≡ outers → v.root ≡ e.count → around_of v.env.now ≡ around_at e k → IsSeen e v scope
-seen-from e v k outers are n [] among within number body_is outers_are root_is env = absurd (within.0 refl)
-seen-from e v k outers are n (l ∷ outer) among within number body_is outers_are root_is env =
+    → v.body ≡ k → v.outers.now ≡ outers → v.root ≡ e.count → around_of v.env.now ≡ around_at e k → IsShown v.visible (around_at e k) → IsSeen e v scope
+seen-from e v k outers are n [] among within number body_is outers_are root_is env shown = absurd (within.0 refl)
+seen-from e v k outers are n (l ∷ outer) among within number body_is outers_are root_is env shown =
     let first = within.1.0 in
     let own : IsBodyNumber (nodes_of e) first.body.node k = subst (λ s. IsScopeNumber (nodes_of e) s k) first.same number in
     let both = in-some e outers are n among first.body l.before k first.among own in
@@ -152,6 +154,7 @@ seen-from e v k outers are n (l ∷ outer) among within number body_is outers_ar
     record {
       chain = subst (IsChain e v.outers.now (map (λ l. l.node) (l ∷ outer))) (sym body_is) (subst (λ os. IsChain e os (map (λ l. l.node) (l ∷ outer)) k) (sym outers_are) chain);
       visible = ap around first.same ∙ (both.1 ∙ sym env);
+      shown = subst (IsShown v.visible) (sym (ap around first.same ∙ both.1)) shown;
       root_ = root_is;
     }
 

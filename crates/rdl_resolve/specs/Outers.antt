@@ -3,10 +3,8 @@ use Rattle.std.specs.Prelude.{◌≡◌, ℕ, ◌+◌, ◌^◌, ◌<◌, ◌≤�
 use Rattle.rdl_tree.specs.declared.node.Elab.{Elab}
 use Rattle.rdl_tree.specs.declared.node.Node.{out-Node}
 use Rattle.rdl_values.specs.Bodies.{Path}
-use Rattle.rdl_values.specs.Elaborated.{around_body, nodes_of}
-use Rattle.rdl_values.specs.Instances.{Instance, root}
+use Rattle.rdl_values.specs.Elaborated.{nodes_of}
 use Rattle.rdl_values.specs.Seen.{around_of}
-use Rattle.rdl_values.specs.Values.{Around}
 use Rattle.rdl_values.specs.Lineages.{Lineage, lineages_of}
 use Rattle.rdl_layers.specs.Says.{IsBodyNumber}
 use Rattle.rdl_nodes.specs.declared.table.Row.{Row}
@@ -27,15 +25,6 @@ pub record AreOutersTo (e : Elab) (to : ℕ) (outers : List ℕ) : Type 0 where
 -- Of all.
 pub record AreOuters (e : Elab) (outers : List ℕ) : Type 0 where
   pub chains : (k : ℕ) (l : Lineage) → slice_get (lineages_of e) k ≡ Some l → IsChain e outers (bodies_of l.node.closure.scope) (outer_at e.count outers k)
-
--- what is visible in a body, where it is this node's, or the root's
-abbrev pub around_if : Elab → Option Instance → Around
-around_if e (Some n) = around_body n
-around_if e None = (root e.source.now).names ∷ []
-
--- what is visible in the body of a number
-abbrev pub around_at : Elab → ℕ → Around
-around_at e b = around_if e (slice_get (nodes_of e) b)
 
 -- a node stands in one in whose body as many bodies are seen as no number counts
 abbrev pub IsTooDeep : List Row → Row → Type 0

@@ -6,6 +6,7 @@ use Rattle.rdl_values.specs.Bodies.{Path, Scope, around}
 use Rattle.rdl_values.specs.Elaborated.{nodes_of}
 use Rattle.rdl_values.specs.Lineages.{Lineage, lineages_of}
 use Rattle.rdl_values.specs.Seen.{around_of}
+use Rattle.rdl_failures.specs.Shown.{IsShown}
 use Rattle.rdl_layers.specs.Says.{IsBodyNumber}
 use Rattle.rdl_refs.specs.Leads.{members_of}
 use Rattle.rdl_members.specs.Found.{is_named}
@@ -37,4 +38,5 @@ IsNearest e name ps r = IsNumberOf e (first_with (lineages_of e) name ps) r
 pub record IsSeen (e : Elab) (f : Viewpoint) (scope : Scope) : Type 0 where
   pub chain : IsChain e f.outers.now (map (λ l. l.node) scope) f.body
   pub visible : around scope ≡ around_of f.env.now
+  pub shown : IsShown f.visible (around scope)
   pub root_ : f.root ≡ e.count

@@ -28,7 +28,7 @@ use crate::leading::lead;
 use crate::view::view_from;
 use rb_base::{NoMemory, Place};
 use rdl_base::{Fault, Rule};
-use rdl_layers::Setting;
+use rdl_layers::{Props, Setting};
 use rdl_members::Members;
 use rdl_nodes::Row;
 use rdl_props::Prop;
@@ -138,10 +138,12 @@ pub struct NamedTree<'t, 'a> {
 pub fn aim_of<'a>(
     alloc: Global,
     known: NamedTree<'_, 'a>,
+    props: &Props<'a>,
     prop: Prop,
     setting: &Setting<'a>,
 ) -> Result<Aim, NoMemory>
-    requires { IsNamedTree known }
+    requires known { IsNamedTree known }
+    requires tree { props.now ≡ known.elab.now }
     ensures { IfOk result (λ a. (n : Instance) → Contains (nodes_of known.entry.elab.now) n → Says (nodes_of known.entry.elab.now) setting.now (settings.setting n prop) → IsAim known.entry.elab.now prop (settings.setting n prop) a) }
 {
     let Setting::Ref {
@@ -156,7 +158,7 @@ pub fn aim_of<'a>(
             fault: None,
         });
     };
-    let Some(view) = view_from(known.elab, known.rows, known.outers, scope) else {
+    let Some(view) = view_from(known.elab, props, known.rows, known.outers, scope) else {
         return Err(NoMemory);
     };
     let node = lead(alloc, known.members, view, path)?;

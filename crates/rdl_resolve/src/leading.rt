@@ -16,14 +16,16 @@ use crate::walk::{led_on, step_to};
 use rb_base::NoMemory;
 use rdl_members::Members;
 use rdl_tree::{Env, Path};
+use rdl_values::Chain;
 use std::alloc::Global;
 
-/// Where a reference stands: the number of the body, what it sees, and for each node the number of the body next round its
+/// Where a reference stands: the number of the body, the bodies that it sees, what is visible in them, and for each node the number of the body next round its
 /// definition's text. The root's number is the count of nodes.
 #[derive(Clone, Copy)]
 pub struct Viewpoint<'t, 'a> {
     pub body: u32,
     pub env: &'a Env<'a>,
+    pub visible: Chain<'t, 't, 't, 'a>,
     pub outers: &'t [u32],
     pub root: u32,
 }
@@ -54,6 +56,6 @@ pub fn lead<'a>(
     ) else {
         return Ok(None);
     };
-    let found = step_to(alloc, members, body, first, from.env)?;
-    led_on(alloc, members, found, rest, from.env)
+    let found = step_to(alloc, members, body, first, &from.visible)?;
+    led_on(alloc, members, found, rest, &from.visible)
 }

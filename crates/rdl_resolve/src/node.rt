@@ -58,7 +58,7 @@ pub(crate) fn add_node<'a>(
     let list = reference_props();
     for prop in &list {
         let setting = props.value(node, *prop);
-        let aim = aim_of(alloc, known, *prop, &setting)?;
+        let aim = aim_of(alloc, known, props, *prop, &setting)?;
         add_aim(*prop, aim, items, faults)?;
     }
     Ok(())

@@ -11,15 +11,16 @@ ghost use Rattle.rdl_values.specs.Elaboration.{IsClean};
 ghost use Rattle.rdl_values.specs.Instances.{Instance};
 ghost use Rattle.rdl_values.specs.Seen.{around_of};
 ghost use Rattle.rdl_values.specs.Values.{Around, Names};
+ghost use Rattle.rdl_layers.specs.NodeNames.{around_at};
 ghost use Rattle.rdl_layers.specs.Says.{IsScopeNumber};
 ghost use Rattle.rdl_layers.specs.Settings.{reference, setting};
 ghost use Rattle.rdl_nodes.specs.Rows.{AreRows};
 ghost use Rattle.rdl_resolve.specs.Outward.{IsSeen};
-ghost use Rattle.rdl_resolve.specs.Outers.{AreOuters, around_at};
+ghost use Rattle.rdl_resolve.specs.Outers.{AreOuters};
 
 use crate::leading::Viewpoint;
 use crate::table::row_of;
-use rdl_layers::{settings_in_bodies, texts_in_bodies};
+use rdl_layers::{Props, settings_in_bodies, texts_in_bodies};
 use rdl_nodes::Row;
 use rdl_tree::{Elab, Env};
 use rdl_values::scopes_are_bodies;
@@ -50,11 +51,13 @@ fn env_at<'a>(elab: &Elab<'a>, rows: &[Row<'a>], body: u32) -> Option<&'a Env<'a
 /// From where a reference is looked up whose text stands in the body of a number. It is always found.
 pub fn view_from<'t, 'a>(
     elab: &Elab<'a>,
+    props: &'t Props<'a>,
     rows: &[Row<'a>],
     outers: &'t [u32],
     body: u32,
 ) -> Option<Viewpoint<'t, 'a>>
     requires clean { IsClean elab.now }
+    requires tree { props.now ≡ elab.now }
     requires rows { AreRows elab.now rows.now }
     requires outers { AreOuters elab.now outers.now }
     ensures seen { IfSome result (λ v. (n : Instance) (p : Prop) (path : Path) (item : Option Name) (scope : Scope) (place : Place) → Contains (nodes_of elab.now) n → setting n p ≡ reference path item scope place → IsScopeNumber (nodes_of elab.now) scope body
@@ -66,6 +69,7 @@ pub fn view_from<'t, 'a>(
     Some(Viewpoint {
         body,
         env,
+        visible: props.visible_in(body),
         outers,
         root: elab.count,
     })

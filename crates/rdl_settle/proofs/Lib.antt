@@ -1,4 +1,5 @@
 mod Assigning
 mod Finishing
+mod Naming
 mod Quiet
 mod Reordered

@@ -4,6 +4,7 @@
 
 mod above;
 mod completing;
+mod names;
 mod settling;
 
 pub use settling::settle;

@@ -7,6 +7,7 @@ ghost use Rattle.rdl_settle.specs.Settled.{Settles};
 
 use crate::above::assign_all;
 use crate::completing::complete_all;
+use crate::names::names_of;
 use bumpalo::Bump;
 use rb_base::NoMemory;
 use rdl_encodings::encodings_of;
@@ -72,7 +73,8 @@ fn refused<'a>(alloc: Global, failures: Failures) -> PhaseError
 
 /// What every property of every node of a tree is set to, the facts of its fields and signals, and the enumerations by which its fields
 /// are encoded, or all failures of the phase: rules P1 to P11, and V rules in values and indices (SystemRDL 2.0, 5.1.3). The
-/// names and values of open bodies stay in the arena; lists of uses and of numbers of bodies go with the phase.
+/// names and values of open bodies stay in the arena, and so do the numbers of those that are seen in each; lists of uses go with the
+/// phase.
 pub fn settle<'a>(
     alloc: Global,
     arena: &'a Bump,
@@ -101,7 +103,10 @@ pub fn settle<'a>(
     let Ok(encodings) = encodings_of(alloc, &rows, &tree, &entries) else {
         return Err(PhaseError::NoMemory);
     };
-    let props = Props::of(*elab, entries);
+    let Ok(names) = names_of(alloc, arena, tree) else {
+        return Err(PhaseError::NoMemory);
+    };
+    let props = Props::of(*elab, entries, names);
     Ok(Settled {
         props,
         facts,

@@ -2,12 +2,15 @@
 use Rattle.std.proofs.Common.{◌≡◌, ◌∙◌, ℕ, zero, suc, ◌+◌, List, [], ◌∷◌, length, slice_get, Some, refl, sym, ap, subst, arith}
 use Rattle.plain_lemmas.proofs.Lists.{length-map as length-mapped}
 use Rattle.rdl_tree.specs.declared.node.Elab.{Elab}
-use Rattle.rdl_values.specs.Elaborated.{nodes_of, top_name}
+use Rattle.rdl_values.specs.declared.chain.Chain.{Chain}
+use Rattle.rdl_values.specs.Elaborated.{around_body, nodes_of, top_name}
 use Rattle.rdl_values.specs.Elaboration.{IsClean}
 use Rattle.rdl_values.specs.Instances.{Instance}
 use Rattle.rdl_values.specs.Lineages.{Lineage, lineages_of, nodes_in}
 use Rattle.rdl_values.proofs.Numbered.{counted}
 use Rattle.rdl_nodes.proofs.Lineages.{all_nodes}
+use Rattle.rdl_failures.specs.Shown.{IsShown}
+use Rattle.rdl_layers.specs.NodeNames.{around_at, around_if}
 use Rattle.rdl_nodes.specs.declared.table.Row.{Row}
 use Rattle.rdl_nodes.specs.Rows.{AreRows, AreRowsFrom, IsRow}
 use Rattle.rdl_nodes.proofs.Members.{get-map}
@@ -30,6 +33,10 @@ lineage-at e k n h = go (lineages_of e) k (subst (λ ns. slice_get ns k ≡ Some
     go [] k h = cc h
     go (l ∷ ls) zero h = (l, refl, cc h)
     go (l ∷ ls) (suc k) h = go ls k h
+
+-- what is visible by its number is what its body shows
+pub shown-at : (e : Elab) (k : ℕ) (l : Lineage) (v : Chain) → slice_get (lineages_of e) k ≡ Some l → IsShown v (around_at e k) → IsShown v (around_body l.node)
+shown-at e k l v h shown = subst (IsShown v) (ap (around_if e) (node-at e k l h)) shown
 
 module _ (e : Elab) (all : List Lineage) where
   rows-long : (k : ℕ) (xs : List Row) (ls : List Lineage) → AreRowsFrom e all k xs ls → length xs ≡ length ls

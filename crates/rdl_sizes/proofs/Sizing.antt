@@ -88,7 +88,7 @@ module _ (e : Elab) (clean : IsClean e) (settled : IsSettled e) (x : Row) (l : L
   all = lineages_of e
 
   pub body : IsBodyOf e x.node.now l
-  body = record { number = (out-Node x.node.now).id; here = here; inside = row.inside; env_ = row.says.env }
+  body = record { number = (out-Node x.node.now).id; here = here; inside = row.inside }
 
   pub within : (n : ℕ) → n ≡ length (lineages_of e) → All (λ r. (out-Node r).id < n) (out-Node x.node.now).children.now
   within n q = all-within (lineages_of e) (l.node ∷ l.ancestors) rs rs (children l.node) row.inside n (sym q)

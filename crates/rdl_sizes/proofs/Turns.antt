@@ -7,7 +7,9 @@ use Rattle.rdl_values.specs.Bodies.{Step, below_top}
 use Rattle.rdl_values.specs.Elaborated.{Says, around_body, top_name}
 use Rattle.rdl_values.specs.Instances.{Instance, children, seen_in}
 use Rattle.rdl_values.specs.Lineages.{Lineage, child_of, lineages_of}
-use Rattle.rdl_values.specs.Seen.{around_of}
+use Rattle.rdl_values.specs.Values.{Around}
+use Rattle.rdl_values.specs.declared.chain.Chain.{Chain}
+use Rattle.rdl_failures.specs.Shown.{IsShown}
 use Rattle.rdl_nodes.specs.Rows.{AreInside, IsInside}
 use Rattle.rdl_addr.specs.Layout.{grouped, has_address, instances}
 use Rattle.rdl_addr.proofs.Using.{children-texts}
@@ -73,28 +75,27 @@ module _ (e : Elab) (node : Node) (n : Lineage) (body : IsBodyOf e node n) (ms :
   rs : List Node
   rs = (out-Node node).children.now
 
-  pub turn : (i : ℕ) (r : Node) → slice_get (out-Node node).children.now i ≡ Some r → (m : Measure) → slice_get ms (out-Node r).id ≡ Some m → (run after : Run) (old new : List Lot)
-      → ((size access : Instance → ℕ) (beside : List Node) (c : Instance) (gs : Runs) → Says beside r c → HasText (around_of (out-Node node).env.now) c → (has_address c ≡ true → (m.size ≡ size c) × (m.access ≡ access c)) → IsGathered size access run old gs
+  pub turn : (v : Chain) → IsShown v (around_body n.node) → (i : ℕ) (r : Node) → slice_get (out-Node node).children.now i ≡ Some r → (m : Measure) → slice_get ms (out-Node r).id ≡ Some m → (run after : Run) (old new : List Lot)
+      → ((size access : Instance → ℕ) (around : Around) (beside : List Node) (c : Instance) (gs : Runs) → IsShown v around → Says beside r c → HasText around c → (has_address c ≡ true → (m.size ≡ size c) × (m.access ≡ access c)) → IsGathered size access run old gs
       → IsGathered size access after new (with_one (has_address c) (is_first c) c gs))
       → IsGathered sizes widths run old (runs (drop (suc i) (children n.node))) → IsGathered sizes widths after new (runs (drop i (children n.node)))
-  turn i r at m read run after old new gather before =
+  turn v shown i r at m read run after old new gather before =
       let is = inside-at (lineages_of e) (n.node ∷ n.ancestors) (out-Node node).children.now (out-Node node).children.now (children n.node) body.inside i r at in
       let c = is.0 in
       let text = each-in (HasText (around_body n.node)) (children n.node) c (children-texts n.node) (place-in (children n.node) i c is.1) in
-      let seen : HasText (around_of (out-Node node).env.now) c = subst (λ env. HasText env c) (sym body.env_) text in
       let size : has_address c ≡ true → (m.size ≡ sizes c) × (m.access ≡ widths c) =
       λ a. let q = known (out-Node r).id c is.2.here a in
       let same = get-read ms (out-Node r).id (record { size = 0; access = 1 }) m read in
       (ap (λ x. x.size) (sym same) ∙ q.size_, ap (λ x. x.access) (sym same) ∙ q.access_) in
-      subst (λ ns. IsGathered sizes widths after new (runs ns)) (sym (drop-at (children n.node) i c is.1)) (gather sizes widths (out-Node node).children.now c (runs (drop (suc i) (children n.node))) is.2.says seen size before)
+      subst (λ ns. IsGathered sizes widths after new (runs ns)) (sym (drop-at (children n.node) i c is.1)) (gather sizes widths (around_body n.node) (out-Node node).children.now c (runs (drop (suc i) (children n.node))) shown is.2.says text size before)
 
-  pub turn-read : (i : ℕ) (r : Node) → i < length (out-Node node).children.now → r ≡ get_or (out-Node node).children.now i r → All (λ x. (out-Node x).id < length ms) (out-Node node).children.now → (d : Measure) → (run after : Run) (old new : List Lot)
-      → ((size access : Instance → ℕ) (beside : List Node) (c : Instance) (gs : Runs) → Says beside r c → HasText (around_of (out-Node node).env.now) c → (has_address c ≡ true → ((get_or ms (out-Node r).id d).size ≡ size c) × ((get_or ms (out-Node r).id d).access ≡ access c)) → IsGathered size access run old gs
+  pub turn-read : (v : Chain) → IsShown v (around_body n.node) → (i : ℕ) (r : Node) → i < length (out-Node node).children.now → r ≡ get_or (out-Node node).children.now i r → All (λ x. (out-Node x).id < length ms) (out-Node node).children.now → (d : Measure) → (run after : Run) (old new : List Lot)
+      → ((size access : Instance → ℕ) (around : Around) (beside : List Node) (c : Instance) (gs : Runs) → IsShown v around → Says beside r c → HasText around c → (has_address c ≡ true → ((get_or ms (out-Node r).id d).size ≡ size c) × ((get_or ms (out-Node r).id d).access ≡ access c)) → IsGathered size access run old gs
       → IsGathered size access after new (with_one (has_address c) (is_first c) c gs))
       → IsGathered sizes widths run old (runs (drop (suc i) (children n.node))) → IsGathered sizes widths after new (runs (drop i (children n.node)))
-  turn-read i r l at within d run after old new gather before =
+  turn-read v shown i r l at within d run after old new gather before =
       let low : (out-Node r).id < length ms = subst (λ x. (out-Node x).id < length ms) (sym at) (within i r l) in
-      turn i r (read-at (out-Node node).children.now i r l at) (get_or ms (out-Node r).id d) (get-made ms (out-Node r).id d (get_or ms (out-Node r).id d) low refl) run after old new gather before
+      turn v shown i r (read-at (out-Node node).children.now i r l at) (get_or ms (out-Node r).id d) (get-made ms (out-Node r).id d (get_or ms (out-Node r).id d) low refl) run after old new gather before
 
   same-groups : grouped sizes widths (instances n.node) ≡ groups_at n
   unfolding size_at access_at groups_at mode_under

@@ -5,10 +5,9 @@ use Rattle.rdl_tree.specs.declared.item.Kind.{Kind}
 use Rattle.rdl_tree.specs.declared.item.Kind.TheVariants as kind
 use Rattle.rdl_tree.specs.declared.node.Elab.{Elab}
 use Rattle.rdl_tree.specs.declared.node.Node.{Node, out-Node}
-use Rattle.rdl_values.specs.Elaborated.{around_body, index_of}
+use Rattle.rdl_values.specs.Elaborated.{index_of}
 use Rattle.rdl_values.specs.Instances.{Instance, children}
 use Rattle.rdl_values.specs.Lineages.{Lineage, lineages_of}
-use Rattle.rdl_values.specs.Seen.{around_of}
 use Rattle.rdl_values.specs.Values.{Around}
 use Rattle.rdl_nodes.specs.Rows.{AreInside}
 use Rattle.rdl_addr.specs.Layout.{greatest, grouped, has_address}
@@ -57,9 +56,8 @@ pub record IsGathered (size access : Instance → ℕ) (run : Run) (lots : List 
 abbrev pub HasText : Around → Instance → Type 0
 HasText env n = (i : Inst) × (n.use_.inst ≡ Some i) × IsText i env n
 
--- The nodes in a node are those in the body of one of the source, and its environment is what they see.
+-- The nodes in a node are those in the body of one of the source.
 pub record IsBodyOf (e : Elab) (r : Node) (l : Lineage) : Type 0 where
   pub number : ℕ
   pub here : slice_get (lineages_of e) number ≡ Some l
   pub inside : AreInside (lineages_of e) (l.node ∷ l.ancestors) (out-Node r).children.now (out-Node r).children.now (children l.node)
-  pub env_ : around_of (out-Node r).env.now ≡ around_body l.node

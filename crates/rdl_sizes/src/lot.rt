@@ -4,15 +4,16 @@ ghost use Rattle.std.specs.Prelude.{◌≡◌, ◌+◌, ◌<◌, ◌≤◌, ◌^
 ghost use Rattle.std.specs.Option.{option_copied};
 ghost use Rattle.rdl_tree.specs.declared.item.Inst.{Inst as AnyInst};
 ghost use Rattle.rdl_tree.specs.declared.node.Node.{out-Node};
-ghost use Rattle.rdl_values.specs.Seen.{around_of};
+ghost use Rattle.rdl_values.specs.Values.{Around};
+ghost use Rattle.rdl_failures.specs.Shown.{IsShown};
 ghost use Rattle.rdl_addr.specs.TextReadings.{IsGiven};
 
 use crate::known::Measure;
 use rb_base::Place;
 use rdl_addr::part;
 use rdl_layout::Part;
-use rdl_tree::{Env, Inst, Node};
-use rdl_values::Visible;
+use rdl_tree::{Inst, Node};
+use rdl_values::Chain;
 
 /// The elements of one instance, as numbers, and the instance's place.
 #[derive(Clone, Copy, Debug)]
@@ -73,41 +74,32 @@ fn bare(others: u64, size: u128, access: u128) -> Part
     }
 }
 
-/// The part that an instance's text gives, which sees this.
-fn part_of<'a>(inst: Option<&Inst<'a>>, env: &Env<'a>, run: Run) -> Part
+/// The part that an instance's text gives, where this is visible.
+fn part_of<'a>(inst: Option<&Inst<'a>>, visible: &Chain<'_, '_, '_, 'a>, run: Run) -> Part
     requires { 0 < run.count }
     ensures count { result.others + 1 ≡ run.count }
     ensures bytes { result.size ≡ run.size }
     ensures width { result.access ≡ run.access }
-    ensures text { (i : AnyInst) → option_copied inst.entry ≡ Some i → IsGiven result (around_of env.now) i }
+    ensures text { (around : Around) (i : AnyInst) → IsShown visible.now around → option_copied inst.entry ≡ Some i → IsGiven result around i }
 {
     let others = run.count - 1;
     match inst {
-        Some(inst) => part(
-            inst,
-            &Visible {
-                tables: &[],
-                listed: Some(env),
-            },
-            others,
-            run.size,
-            run.access,
-        ),
+        Some(inst) => part(inst, visible, others, run.size, run.access),
         None => bare(others, run.size, run.access),
     }
 }
 
 /// The instance whose first element this is, and whose elements are these.
-pub(crate) fn lot_of<'a>(first: &Node<'a>, env: &Env<'a>, run: Run) -> Lot
+pub(crate) fn lot_of<'a>(first: &Node<'a>, visible: &Chain<'_, '_, '_, 'a>, run: Run) -> Lot
     requires { 0 < run.count }
     ensures place { result.place ≡ (out-Node first.now).place }
     ensures count { result.part.others + 1 ≡ run.count }
     ensures bytes { result.part.size ≡ run.size }
     ensures width { result.part.access ≡ run.access }
-    ensures text { (i : AnyInst) → option_copied (out-Node first.now).inst ≡ Some i → IsGiven result.part (around_of env.now) i }
+    ensures text { (around : Around) (i : AnyInst) → IsShown visible.now around → option_copied (out-Node first.now).inst ≡ Some i → IsGiven result.part around i }
 {
     Lot {
         place: first.place,
-        part: part_of(first.inst, env, run),
+        part: part_of(first.inst, visible, run),
     }
 }

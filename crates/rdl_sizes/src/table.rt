@@ -45,10 +45,10 @@ fn measure(props: &Props<'_>, kind: Kind, node: u32, laid: &Laid) -> Measure
 }
 
 /// Takes up a node in whose body this mode is, and behind which all is known.
-fn add_row(
+fn add_row<'a>(
     alloc: Global,
-    props: &Props<'_>,
-    row: &Row<'_>,
+    props: &Props<'a>,
+    row: &Row<'a>,
     mode: Mode,
     sizes: &mut Sizes,
 ) -> Result<(), NoMemory>
@@ -60,7 +60,8 @@ fn add_row(
     ensures { OnOk result (AreSizesFrom props.now (out-Node row.now.node.now).id sizes.new) }
 {
     let node = row.node;
-    let lots = lots_of(alloc, node, &sizes.measures)?;
+    let visible = props.visible_in(node.id);
+    let lots = lots_of(alloc, node, &visible, &sizes.measures)?;
     add_faults(&mut sizes.faults, mode, &lots)?;
     let laid = lay_out(alloc, mode, &lots)?;
     write_offsets(&mut sizes.offsets, node.children, &laid.starts);
@@ -81,7 +82,7 @@ fn unknown(alloc: Global, count: usize) -> Result<Sizes, NoMemory>
 
 /// The sizes of the nodes of a tree, of which these are the rows, where each stands in the one that it is in, and the failures of
 /// A1 and A2 (SystemRDL 2.0, 5.1.2.2). The only error is want of memory, or a number at or above 2^128.
-pub fn sizes(alloc: Global, props: &Props<'_>, rows: &[Row<'_>]) -> Result<Sizes, NoMemory>
+pub fn sizes<'a>(alloc: Global, props: &Props<'a>, rows: &[Row<'a>]) -> Result<Sizes, NoMemory>
     requires clean { IsClean props.now }
     requires settled { IsSettled props.now }
     requires rows { AreRows props.now rows.now }

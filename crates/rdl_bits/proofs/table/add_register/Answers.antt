@@ -5,10 +5,8 @@ use Rattle.std.proofs.lemmas.List.{with_items_is}
 use Rattle.rdl_tree.specs.declared.item.Kind.TheVariants as kinds
 use Rattle.rdl_tree.specs.declared.node.Node.{out-Node}
 use Rattle.rdl_tree.specs.Kinds.{same_kind}
-use Rattle.rdl_values.specs.Elaborated.{around_body}
 use Rattle.rdl_values.specs.Instances.{children}
 use Rattle.rdl_values.specs.Lineages.{lineages_of}
-use Rattle.rdl_values.specs.Seen.{around_of}
 use Rattle.rdl_layers.specs.Fields.{fields_of, is_a}
 use Rattle.rdl_layout.specs.Fields as fields
 use Rattle.rdl_nodes.specs.Rows.{AreInside}
@@ -16,7 +14,7 @@ use Rattle.rdl_addr.specs.Fields.{AreFieldsOf}
 use Rattle.rdl_addr.specs.Areas.{bits_at}
 use Rattle.rdl_nodes.proofs.Members.{get-within}
 use Rattle.rdl_sizes.specs.Bodies.{IsBodyOf}
-use Rattle.rdl_sizes.proofs.Facts.{count-is, node-at}
+use Rattle.rdl_sizes.proofs.Facts.{count-is, node-at, shown-at}
 use Rattle.rdl_bits.specs.declared.table.BitTable.{BitTable}
 use Rattle.rdl_bits.proofs.Registers.{many, taken-up, within}
 use Rattle.rdl_bits.proofs.table.add_register.Goals as goal
@@ -53,8 +51,8 @@ write_bits-requires-clause-many c =
     let node = c.args.node.now in
     let inside = subst (λ y. AreInside (lineages_of e) (r.0.node ∷ r.0.ancestors) (out-Node y).children.now (out-Node y).children.now (children r.0.node)) r.2 r.4.inside in
     let reg : is_a kinds.Reg r.0.node ≡ true = ap (same_kind kinds.Reg) (sym (ap (λ y. (out-Node y).kind) (sym r.2) ∙ r.4.says.kind)) ∙ c.requires.register in
-    let body : IsBodyOf e node r.0 = record { number = (out-Node node).id; here = r.3; inside = inside; env_ = subst (λ y. around_of (out-Node y).env.now ≡ around_body r.0.node) r.2 r.4.says.env } in
-    let are = subst (λ fs. AreFieldsOf fs (fields_of r.0.node)) (sym c.deref.ensures.value) (c.in_ok-fields.ensures.fields r.0 body) in
+    let body : IsBodyOf e node r.0 = record { number = (out-Node node).id; here = r.3; inside = inside } in
+    let are = subst (λ fs. AreFieldsOf fs (fields_of r.0.node)) (sym c.deref.ensures.value) (c.in_ok-fields.ensures.fields r.0 body (shown-at e (out-Node node).id r.0 c.visible_in-visible.result r.3 c.visible_in-visible.ensures)) in
     many e (out-Node node).id r.0 r.3 c.args.table.now c.requires.before node refl inside reg c.deref.result.now are c.deref-5.result.now (c.deref-5.ensures.value ∙ c.in_ok-bits.ensures)
 
 pub returns : goal.returns
@@ -65,8 +63,8 @@ returns c =
     let old = c.args.table.now in
     let inside = subst (λ y. AreInside (lineages_of e) (r.0.node ∷ r.0.ancestors) (out-Node y).children.now (out-Node y).children.now (children r.0.node)) r.2 r.4.inside in
     let reg : is_a kinds.Reg r.0.node ≡ true = ap (same_kind kinds.Reg) (sym (ap (λ y. (out-Node y).kind) (sym r.2) ∙ r.4.says.kind)) ∙ c.requires.register in
-    let body : IsBodyOf e node r.0 = record { number = (out-Node node).id; here = r.3; inside = inside; env_ = subst (λ y. around_of (out-Node y).env.now ≡ around_body r.0.node) r.2 r.4.says.env } in
-    let are = subst (λ fs. AreFieldsOf fs (fields_of r.0.node)) (sym c.deref.ensures.value) (c.in_ok-fields.ensures.fields r.0 body) in
+    let body : IsBodyOf e node r.0 = record { number = (out-Node node).id; here = r.3; inside = inside } in
+    let are = subst (λ fs. AreFieldsOf fs (fields_of r.0.node)) (sym c.deref.ensures.value) (c.in_ok-fields.ensures.fields r.0 body (shown-at e (out-Node node).id r.0 c.visible_in-visible.result r.3 c.visible_in-visible.ensures)) in
     let cs = c.deref-5.result.now in
     let spans = subst (All fields.IsSpan) (c.deref-2.ensures.value ∙ sym c.deref-5.ensures.value) (c.are_spans.ensures.0 c.if-not-are_spans.false) in
     let width = c.number.ensures r.0.node (node-at e (out-Node node).id r.0 r.3) in

@@ -1,9 +1,9 @@
 use Rattle.std.proofs.Common.{◌∙◌, map, sym, ap, subst}
 use Rattle.plain_lemmas.proofs.Results.{if_ok-map as if-ok}
 use Rattle.rdl_tree.specs.declared.expr.Path.{out-Path}
-use Rattle.rdl_values.specs.Lineages.{children_in, lineages_of}
+use Rattle.rdl_values.specs.Bodies.{around}
+use Rattle.rdl_values.specs.Lineages.{lineages_of}
 use Rattle.rdl_values.specs.Seen.{around_of}
-use Rattle.rdl_layers.specs.Assignments.{led_down}
 use Rattle.rdl_assignments.proofs.Steps.{steps_of_code}
 use Rattle.rdl_sizes.proofs.Facts.{count-is}
 use Rattle.rdl_members.specs.Found.{members_at}
@@ -32,8 +32,8 @@ returns c =
     let near = subst (IsNearest e _ ps) c.in-Some-nearest.is (c.nearest.ensures e ps clean are seen.root_ many seen.chain) in
     let there = led-there e c.args.path.now scope (out-Path c.args.path.now).steps.now _ c.in-Some-nearest.body (steps_of_code c.args.path.now) c.in-len1-up.len_at_least near in
     let low = body-low e (count-is e clean) there.0 c.in-Some-nearest.body there.1 in
-    let first = c.in_ok-found.ensures e are low in
-    let all = first-led (is_exactly (around_of c.args.from.env.now)) (members_at (lineages_of e) c.in-Some-nearest.body) (out-Path c.args.path.now).steps.now _ c.in-len1-up.len_at_least in
+    let first = c.in_ok-found.ensures e (around scope) are low seen.shown in
+    let all = first-led (is_exactly (around scope)) (members_at (lineages_of e) c.in-Some-nearest.body) (out-Path c.args.path.now).steps.now _ c.in-len1-up.len_at_least in
     subst (IsLed e r)
-    (all ∙ (ap (λ env. led_down children_in (is_exactly env) (members_at (lineages_of e) c.in-Some-nearest.body) (out-Path c.args.path.now).steps.now) (sym seen.visible) ∙ sym there.2))
-    (h e _ clean are first)) c.led_on.ensures
+    (all ∙ sym there.2)
+    (h e (around scope) _ clean are seen.shown first)) c.led_on.ensures

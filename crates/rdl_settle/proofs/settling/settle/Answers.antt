@@ -23,8 +23,11 @@ encodings_of-requires c =
     let e = c.args.elab.now in
     ap length c.deref-3.ensures.value ∙ rows_count e c.in-Ok.gathered.rows.items c.requires c.in-Ok.ensures.rows_ ∙ sym c.in-Ok.ensures.all.all_nodes ∙ sym (ap length c.deref-4.ensures.value)
 
-pub of-props-requires : goal.of-props-requires
-of-props-requires c =
+pub of-props-requires-clause-names : goal.of-props-requires-clause-names
+of-props-requires-clause-names c = c.in-Ok-names_of.ensures c.args.elab.now c.in-Ok.ensures.open_
+
+pub of-props-requires-clause-settings : goal.of-props-requires-clause-settings
+of-props-requires-clause-settings c =
     let e = c.args.elab.now in
     let found = subst (λ fs. IsGathered e c.in-Ok.gathered fs c.gather.new.failures) c.new-failures.ensures c.in-Ok.ensures in
     tables e c.in-Ok.gathered.entries.items [] c.gather.new.failures c.requires found.all (λ n xs h p. c.entries_say.ensures.settings (nodes_of e) n xs h p)

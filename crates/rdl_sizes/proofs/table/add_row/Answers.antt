@@ -5,7 +5,7 @@ use Rattle.std.proofs.lemmas.List.{with_items_is}
 use Rattle.rdl_sizes.specs.declared.known.Sizes.{Sizes}
 use Rattle.rdl_sizes.specs.Lots.{lot_faults}
 use Rattle.rdl_sizes.specs.Sized.{offset_at}
-use Rattle.rdl_sizes.proofs.Facts.{count-is, node-at}
+use Rattle.rdl_sizes.proofs.Facts.{count-is, node-at, shown-at}
 use Rattle.rdl_sizes.proofs.Sizing.{IsLaid, body, known, low, many, sized, within}
 use Rattle.rdl_sizes.proofs.Turns.{AreKnown}
 use Rattle.rdl_sizes.proofs.table.add_row.Goals as goal
@@ -27,7 +27,8 @@ write_offsets-requires-clause-many c =
     let old = c.args.sizes.now in
     let knows = known e c.requires.clean c.requires.settled c.args.row.now r.0 r.1 r.2 c.args.mode r.3 old c.requires.behind in
     let is = body e c.requires.clean c.requires.settled c.args.row.now r.0 r.1 r.2 c.args.mode r.3 old c.requires.behind in
-    let are = c.in_ok-lots.ensures.groups e r.0 is (subst (AreKnown e r.0) (sym c.deref.ensures.value) knows) in
+    let seen = shown-at e (out-Node c.args.row.now.node.now).id r.0 c.visible_in-visible.result r.1 c.visible_in-visible.ensures in
+    let are = c.in_ok-lots.ensures.groups e r.0 is seen (subst (AreKnown e r.0) (sym c.deref.ensures.value) knows) in
     let raw : IsLaid c.args.mode c.deref-3.result.now c.in_ok-laid.laid.end c.in_ok-laid.laid.access c.deref-4.result.now =
     record { end_ = c.in_ok-laid.ensures.end; access_ = c.in_ok-laid.ensures.access; starts_ = c.deref-4.ensures.value ∙ c.in_ok-laid.ensures.starts } in
     many e c.requires.clean c.requires.settled c.args.row.now r.0 r.1 r.2 c.args.mode r.3 old c.requires.behind c.in_ok-lots.lots.items are c.in_ok-laid.laid.end c.in_ok-laid.laid.access c.deref-4.result.now
@@ -56,7 +57,8 @@ returns c =
     let old = c.args.sizes.now in
     let knows = known e c.requires.clean c.requires.settled c.args.row.now r.0 r.1 r.2 c.args.mode r.3 old c.requires.behind in
     let is = body e c.requires.clean c.requires.settled c.args.row.now r.0 r.1 r.2 c.args.mode r.3 old c.requires.behind in
-    let are = c.in_ok-lots.ensures.groups e r.0 is (subst (AreKnown e r.0) (sym c.deref.ensures.value) knows) in
+    let seen = shown-at e (out-Node c.args.row.now.node.now).id r.0 c.visible_in-visible.result r.1 c.visible_in-visible.ensures in
+    let are = c.in_ok-lots.ensures.groups e r.0 is seen (subst (AreKnown e r.0) (sym c.deref.ensures.value) knows) in
     let raw : IsLaid c.args.mode c.deref-3.result.now c.in_ok-laid.laid.end c.in_ok-laid.laid.access c.deref-4.result.now =
     record { end_ = c.in_ok-laid.ensures.end; access_ = c.in_ok-laid.ensures.access; starts_ = c.deref-4.ensures.value ∙ c.in_ok-laid.ensures.starts } in
     let laid = subst (λ ls. IsLaid c.args.mode ls c.in_ok-laid.laid.end c.in_ok-laid.laid.access c.deref-4.result.now) c.deref-3.ensures.value raw in

@@ -6,7 +6,7 @@ use Rattle.rdl_layers.proofs.props.Props.value.Goals as goal
 
 pub returns : goal.returns
 returns c =
-    let tables = c.self.invariant in
+    let tables = c.self.invariant.settings_ in
     let es = c.self.inside.entries.items in
     let count = ap (λ e. e.count) c.self.view_is in
     let node = c.args.node in
