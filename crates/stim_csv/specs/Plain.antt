@@ -52,11 +52,42 @@ pub record IsRow (widths : List ℕ) (text rest : List ℕ) (numbers : List ℕ)
   pub sound : (row : ℕ) → cells_problem widths row cells ≡ None
   pub numbers_are : numbers ≡ map number_of cells
 
--- the numbers of such a row were added
-pub record AddsRow (widths : List ℕ) (text rest : List ℕ) (old new : List ℕ) : Type 0 where
+-- so many bytes are a cell of this number, which fits so many bits, and this byte
+pub record IsCellWith (separator width number : ℕ) (bytes : List ℕ) : Type 0 where
+  pub cell : List ℕ
+  pub bytes_are : bytes ≡ cell ++ separator ∷ []
+  pub value : cell_value cell ≡ Some number
+  pub fitting : fits width number ≡ true
+  pub plain : AllByRecursion (λ c. is_plain c ≡ true) cell
+
+-- the byte behind a cell that has cells of these widths behind it
+abbrev pub separator_before : List ℕ → ℕ
+separator_before [] = 10
+separator_before (w ∷ ws) = 44
+
+-- a text is cells of these widths, lengths and numbers, and the rest: a length counts the byte behind the cell too
+abbrev pub AreCellsOf : (widths lengths numbers text rest : List ℕ) → Type 0
+AreCellsOf [] [] [] text rest = text ≡ rest
+AreCellsOf [] [] (n ∷ ns) text rest = ⊥
+AreCellsOf [] (l ∷ ls) ns text rest = ⊥
+AreCellsOf (w ∷ ws) [] ns text rest = ⊥
+AreCellsOf (w ∷ ws) (l ∷ ls) [] text rest = ⊥
+AreCellsOf (w ∷ ws) (l ∷ ls) (n ∷ ns) text rest = (l ≤ length text) × IsCellWith (separator_before ws) w n (take l text) × AreCellsOf ws ls ns (drop l text) rest
+
+-- the cells of a row from a column on were read: their lengths stand in the places of their columns, and their numbers were added
+pub record AddsCells (widths : List ℕ) (first : ℕ) (text rest lengths lengths' old new : List ℕ) : Type 0 where
+  pub measured : List ℕ
   pub numbers : List ℕ
+  pub lengths_are : lengths' ≡ take first lengths ++ measured
   pub added : new ≡ old ++ numbers
-  pub row : IsRow widths text rest numbers
+  pub cells : AreCellsOf (drop first widths) measured numbers text rest
+
+-- the last of these numbers are of the cells of a row
+pub record HasRow (widths text rest lengths all : List ℕ) : Type 0 where
+  pub earlier : List ℕ
+  pub numbers : List ℕ
+  pub all_are : all ≡ earlier ++ numbers
+  pub cells : AreCellsOf widths lengths numbers text rest
 
 -- the records of a text from the beginning of one on
 abbrev pub rows_at : List ℕ → ℕ → List Cells

@@ -64,6 +64,7 @@ fn one_digit(text: &[u8], at: usize, separator: u8, width: u8) -> Option<u64>
 fn long_cell_before(text: &[u8], at: usize, separator: u8, width: u8) -> Option<(u64, usize)>
     requires { at ≤ length text.now }
     ensures within { IfSome result (λ r. r.1 ≤ length text.now) }
+    ensures past { IfSome result (λ r. at < r.1) }
     ensures cell { IfSome result (λ r. IsCellBefore separator width (drop at text.now) (drop r.1 text.now) r.0) }
 {
     let (number, count) = cell_ahead(&text[at..])?;
@@ -80,6 +81,7 @@ fn long_cell_before(text: &[u8], at: usize, separator: u8, width: u8) -> Option<
 pub(crate) fn cell_before(text: &[u8], at: usize, separator: u8, width: u8) -> Option<(u64, usize)>
     requires { at ≤ length text.now }
     ensures within { IfSome result (λ r. r.1 ≤ length text.now) }
+    ensures past { IfSome result (λ r. at < r.1) }
     ensures cell { IfSome result (λ r. IsCellBefore separator width (drop at text.now) (drop r.1 text.now) r.0) }
 {
     match one_digit(text, at, separator, width) {

@@ -1,6 +1,7 @@
 //! Pin tables: the numbers of input pins, one row for each rising edge of the clock, as comma-separated text.
 #![tactic(auto)]
 
+mod alike;
 mod cells;
 mod error;
 mod header;

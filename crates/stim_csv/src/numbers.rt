@@ -129,6 +129,22 @@ impl Numbers {
         Ok(())
     }
 
+    /// How many numbers there are.
+    pub(crate) fn len(&self) -> usize
+        ensures { result ≡ length self.now }
+    {
+        self.cells.len()
+    }
+
+    /// Adds so many of the numbers from a place on once more.
+    pub(crate) fn repeat(&mut self, from: usize, count: usize) -> Result<(), AllocError>
+        requires { from + count ≤ length self.old }
+        ensures { OnOk result (self.new ≡ self.old ++ take count (drop from self.old)) }
+    {
+        self.cells.extend_from_within(from..from + count)?;
+        Ok(())
+    }
+
     /// The number in a row, where rows have so many numbers.
     pub fn get(&self, row: u64, width: usize, at: usize) -> u128
         requires { row * width + at < length self.now }

@@ -103,16 +103,19 @@ fn read_plain_rows(
     ensures refused { IfErr result (λ e. e ≡ StimError.NoMemory) }
 {
     let mut numbers = Numbers::new(alloc);
+    let mut lengths = vec![in alloc; 0; widths.len()]?;
+    let mut before = start;
     let mut at = start;
     let mut row = 0;
     while at < text.len() {
         if is_past_the_end(row, outputs) {
             return Ok(None);
         }
-        let found = row_at(widths, text, at, &mut numbers)?;
+        let found = row_at(widths, text, before, at, &mut lengths, &mut numbers)?;
         let Some(end) = found else {
             return Ok(None);
         };
+        before = at;
         at = end;
         row += 1;
     }

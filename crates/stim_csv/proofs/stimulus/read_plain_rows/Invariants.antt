@@ -1,7 +1,7 @@
-use Rattle.std.proofs.Common.{◌≡◌, ◌≤◌, ◌*◌, ◌-◌, ◌++◌, map, length}
+use Rattle.std.proofs.Common.{◌≡◌, ◌≢◌, ◌≤◌, ◌*◌, ◌-◌, ◌++◌, map, drop, length}
 use Rattle.stim_csv.specs.PinTable.{first_problem, row_problem}
 use Rattle.stim_csv.specs.Columns.{numbers_in, picked}
-use Rattle.stim_csv.specs.Plain.{rows_at}
+use Rattle.stim_csv.specs.Plain.{HasRow, rows_at}
 use Rattle.stim_csv.specs.Vectors.{cut}
 use Rattle.stim_csv.proofs.stimulus.read_plain_rows.Given as goal
 
@@ -12,6 +12,9 @@ invariant-loop-at l = record {
   whole : length l.numbers ≡ l.row * length l.widths;
   inside : l.at ≤ length l.text;
   within : l.row ≤ 1000000;
+  long : length l.lengths.items ≡ length l.widths;
+  passed : l.before ≤ length l.text;
+  last : l.before ≢ l.at → HasRow l.widths (drop l.before l.text) (drop l.at l.text) l.lengths.items l.numbers;
 }
 
 abbrev pub decreases-loop-at : goal.decreases-loop-at
