@@ -11,7 +11,7 @@ ghost use Rattle.machine_run.specs.Runs.{output_pins, zeros};
 use rb_base::{NoMemory, Pin};
 use rb_machine::Machine;
 use rb_model::Block;
-use report_text::{push_names, push_numbers};
+use report_text::{RowPrinter, push_names};
 use std::alloc::Global;
 use stim_csv::Stimulus;
 
@@ -31,12 +31,13 @@ pub(crate) fn machine_text(
     let mut machine = Machine::new(alloc, block)?;
     let mut pins = vec![in alloc; 0u128; table.width()]?;
     let mut outs = vec![in alloc; 0u128; outputs.len()]?;
+    let mut rows = RowPrinter::new(alloc, &outs)?;
     let mut text = Vec::new(alloc);
     push_names(&mut text, outputs)?;
     for at in 0..table.rows() {
         table.row_into(at, &mut pins);
         machine.step(&pins, &mut outs);
-        push_numbers(&mut text, &outs)?;
+        rows.push(&mut text, &outs)?;
     }
     Ok(text)
 }

@@ -1,6 +1,6 @@
 -- Hexadecimal digits, from the first to the last.
 use Rattle.std.specs.Fmt.{digits, digits_onto, digit_glyph}
-use Rattle.std.proofs.Common.{zero, suc, ◌≡◌, ℕ, ◌+◌, ◌-◌, ◌*◌, ◌/◌, ◌%◌, ◌^◌, ◌<◌, ◌≤◌, ◌==◌, Bool, true, false, if◌then◌else◌, List, [], ◌∷◌, ◌++◌, append_assoc, refl, ap, sym, ◌∙◌, arith}
+use Rattle.std.proofs.Common.{zero, suc, ◌≡◌, ℕ, ◌+◌, ◌-◌, ◌*◌, ◌/◌, ◌%◌, ◌^◌, ◌<◌, ◌≤◌, ◌==◌, Bool, true, false, if◌then◌else◌, List, [], ◌∷◌, ◌++◌, length, append_assoc, refl, ap, sym, ◌∙◌, arith}
 use Rattle.std.proofs.lemmas.Bool.Decides.{nat_tests}
 use Rattle.std.proofs.lemmas.Nat.{pow-add, pow_pos, shr-shr, shr_le}
 use Rattle.std.proofs.Math.Nat.{pow-le-pow_right, div-lt_iff_lt-mul}
@@ -91,3 +91,17 @@ started old text text' text'' text''' ds g e f h i d =
 -- the text after one more digit
 pub continued : (old text text' ds ds' : List ℕ) (g : ℕ) → text ≡ old ++ 48 ∷ 120 ∷ ds → text' ≡ text ++ g ∷ [] → ds' ≡ ds ++ g ∷ [] → text' ≡ old ++ 48 ∷ 120 ∷ ds'
 continued old text text' ds ds' g e f d = rw (f, e, d) (append_assoc old (48 ∷ 120 ∷ ds) (g ∷ []))
+
+onto_length : (k n : ℕ) (acc : List ℕ) → length (digits_onto k 16 false n acc) ≤ k + length acc
+onto_length zero n acc = omega arith
+onto_length (suc k) n acc = either (n / 16 == 0) (onto_length k (n / 16) (digit_glyph false (n % 16) ∷ acc))
+  where
+    either : (b : Bool) → length (digits_onto k 16 false (n / 16) (digit_glyph false (n % 16) ∷ acc)) ≤ k + length (digit_glyph false (n % 16) ∷ acc)
+        → length (if b then digit_glyph false (n % 16) ∷ acc else digits_onto k 16 false (n / 16) (digit_glyph false (n % 16) ∷ acc)) ≤ suc k + length acc
+    either true ih = omega arith
+    either false ih = omega (arith, ih)
+
+-- no number has more digits than these
+pub few_digits : (n : ℕ) → length (digits 16 false n) ≤ 64
+unfolding digits
+few_digits n = let few = onto_length 64 n [] in omega (arith, few)

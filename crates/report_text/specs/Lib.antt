@@ -1,3 +1,4 @@
+pub mod KeptRow
 pub mod Lines
 pub mod Printed
 pub mod Problems

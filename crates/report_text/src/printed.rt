@@ -135,7 +135,7 @@ fn push_next_two_digits(text: &mut Vec<u8>, number: u64) -> Result<(), NoMemory>
 }
 
 /// Adds a number as a cell behind a comma.
-fn push_next(text: &mut Vec<u8>, number: u128) -> Result<(), NoMemory>
+pub(crate) fn push_next(text: &mut Vec<u8>, number: u128) -> Result<(), NoMemory>
     ensures { OnOk result (text.new.items ≡ text.old.items ++ 44 ∷ cell number) }
 {
     if number < 16 {

@@ -9,7 +9,7 @@ ghost use Rattle.sim_run.specs.Simulated.{IsRunText};
 
 use cyc_sim::Sim;
 use rb_base::NoMemory;
-use report_text::{push_names, push_numbers};
+use report_text::{RowPrinter, push_names};
 use std::alloc::Global;
 use stim_csv::Stimulus;
 use v_design::Design;
@@ -28,12 +28,13 @@ pub(crate) fn module_run(
     let mut sim = Sim::new(alloc, design, &start)?;
     let mut pins = vec![in alloc; 0u128; table.width()]?;
     let mut outs = vec![in alloc; 0u128; design.outputs().len()]?;
+    let mut rows = RowPrinter::new(alloc, &outs)?;
     let mut text = Vec::new(alloc);
     push_names(&mut text, design.outputs())?;
     for at in 0..table.rows() {
         table.row_into(at, &mut pins);
         sim.step(&pins, &mut outs);
-        push_numbers(&mut text, &outs)?;
+        rows.push(&mut text, &outs)?;
     }
     Ok(text)
 }

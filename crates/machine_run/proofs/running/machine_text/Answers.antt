@@ -21,21 +21,21 @@ row_into-requires-clause-room c = c.deref_mut.ensures.len ∙ sym (c.loop-at.inv
 
 pub step-requires-clause-pins : goal.step-requires-clause-pins
 step-requires-clause-pins c =
-    let vector = c.deref.ensures.value ∙ (with_items_is c.loop-at.pins c.row_into.new.into (c.row_into.auto.into ∙ c.deref_mut.ensures.len) ∙ c.row_into.ensures) in
+    let vector = c.deref-in-loop-at.ensures.value ∙ (with_items_is c.loop-at.pins c.row_into.new.into (c.row_into.auto.into ∙ c.deref_mut.ensures.len) ∙ c.row_into.ensures) in
     let fits = vector_fits (input_pins c.args.block.now) c.args.table.now c.loop-at.at c.requires.fit (omega (arith, c.loop-at-test.true, c.rows-at-end.ensures)) in
-    subst (λ z. FitsPins (input_pins z) c.deref.result.now) (sym c.loop-at.invariant.runs.of) (subst (FitsPins (input_pins c.args.block.now)) (sym vector) fits)
+    subst (λ z. FitsPins (input_pins z) c.deref-in-loop-at.result.now) (sym c.loop-at.invariant.runs.of) (subst (FitsPins (input_pins c.args.block.now)) (sym vector) fits)
 
 pub step-requires-clause-outs : goal.step-requires-clause-outs
 step-requires-clause-outs c = c.deref_mut-in-loop-at.ensures.len ∙ (c.loop-at.invariant.room ∙ sym (ap (λ z. length (output_pins z)) c.loop-at.invariant.runs.of))
 
 pub loop-at-preserved : goal.loop-at-preserved
 loop-at-preserved c =
-    let vector = c.deref.ensures.value ∙ (with_items_is c.loop-at.pins c.row_into.new.into (c.row_into.auto.into ∙ c.deref_mut.ensures.len) ∙ c.row_into.ensures) in
+    let vector = c.deref-in-loop-at.ensures.value ∙ (with_items_is c.loop-at.pins c.row_into.new.into (c.row_into.auto.into ∙ c.deref_mut.ensures.len) ∙ c.row_into.ensures) in
     let shown = with_items_is c.loop-at.outs c.step.new.outs (c.step.auto.outs ∙ c.deref_mut-in-loop-at.ensures.len) in
     record {
-      runs = goes_on c.args.block.now c.args.table.now c.loop-at.at c.loop-at.machine c.step.new.self c.deref.result.now c.step.new.outs c.loop-at.text.items c.push_numbers.new.text.items
+      runs = goes_on c.args.block.now c.args.table.now c.loop-at.at c.loop-at.machine c.step.new.self c.deref-in-loop-at.result.now c.step.new.outs c.loop-at.text.items c.push.new.text.items
           (omega (arith, c.loop-at-test.true, c.rows-at-end.ensures)) vector c.loop-at.invariant.runs c.step.ensures.edge c.step.ensures.ready (ap (λ r. r.now) c.step.ensures.block)
-          (c.in_ok-push_numbers.ensures ∙ ap (λ xs. c.loop-at.text.items ++ line (map cell xs)) (c.deref-in-loop-at.ensures.value ∙ shown));
+          (c.in_ok-push.ensures ∙ ap (λ xs. c.loop-at.text.items ++ line (map cell xs)) (c.deref-in-loop-at-2.ensures.value ∙ shown));
       vector = c.loop-at.invariant.vector;
       room = c.loop-at.invariant.room;
     }

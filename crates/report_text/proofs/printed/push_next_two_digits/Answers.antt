@@ -1,4 +1,4 @@
-use Rattle.std.proofs.Common.{◌≡◌, ◌/◌, ◌%◌, [], ◌∷◌, ◌++◌, ◌∙◌, sym, ap, arith, false}
+use Rattle.std.proofs.Common.{◌≡◌, ◌/◌, [], ◌∷◌, ◌++◌, ◌∙◌, sym, ap, arith, false}
 use Rattle.std.specs.Fmt.{digits}
 use Rattle.report_text.proofs.Digits.{last_digit, one}
 use Rattle.report_text.proofs.printed.push_next_two_digits.Goals as goal

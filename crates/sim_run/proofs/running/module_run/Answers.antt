@@ -44,9 +44,9 @@ loop-at-preserved c =
     let m = module_seen c.args.design.now in
     let vector = c.deref-in-loop-at.ensures.value ∙ (with_items_is c.loop-at.pins c.row_into.new.into (c.row_into.auto.into ∙ c.deref_mut.ensures.len) ∙ c.row_into.ensures) in
     record {
-      runs = goes_on m c.args.table.now c.loop-at.at c.loop-at.sim c.step.new.self c.deref-in-loop-at.result.now c.step.new.outs c.loop-at.text.items c.push_numbers.new.text.items c.requires.fit
+      runs = goes_on m c.args.table.now c.loop-at.at c.loop-at.sim c.step.new.self c.deref-in-loop-at.result.now c.step.new.outs c.loop-at.text.items c.push.new.text.items c.requires.fit
           (omega (arith, c.loop-at-test.true, c.rows-at-end.ensures)) vector c.loop-at.invariant.runs c.step.ensures.edge
-          (c.in_ok-push_numbers.ensures ∙ ap (λ xs. c.loop-at.text.items ++ line (map cell xs)) (c.deref-in-loop-at-2.ensures.value ∙ with_items_is c.loop-at.outs c.step.new.outs (c.step.auto.outs ∙ c.deref_mut-in-loop-at.ensures.len)));
+          (c.in_ok-push.ensures ∙ ap (λ xs. c.loop-at.text.items ++ line (map cell xs)) (c.deref-in-loop-at-2.ensures.value ∙ with_items_is c.loop-at.outs c.step.new.outs (c.step.auto.outs ∙ c.deref_mut-in-loop-at.ensures.len)));
       vector = c.loop-at.invariant.vector;
       room = c.loop-at.invariant.room;
     }
