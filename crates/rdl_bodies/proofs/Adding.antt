@@ -1,16 +1,18 @@
 -- What holds where one body more is open, or one site more is listed.
-use Rattle.std.proofs.Common.{◌≡◌, ◌∙◌, ℕ, ◌+◌, ◌<◌, ◌≤◌, List, [], ◌∷◌, ◌++◌, length, map, take, slice_get, Option, None, Some, option_to_list, refl, sym, ap, subst, arith, append-nil, ◌⊎◌, inl, inr}
+use Rattle.std.proofs.Common.{◌≡◌, ◌∙◌, ℕ, ◌+◌, ◌<◌, ◌≤◌, true, List, [], ◌∷◌, ◌++◌, length, map, take, slice_get, Option, None, Some, option_to_list, refl, sym, ap, subst, arith, append-nil, ◌⊎◌, inl, inr}
 use Rattle.std.proofs.lemmas.List.{length-append}
 use Rattle.std.proofs.lemmas.Option.{slice_get_within}
 use Rattle.plain_lemmas.proofs.Lists.{get-last as get_next}
 use Rattle.rdl_base.specs.declared.fault.Fault.{Fault}
 use Rattle.rdl_tree.specs.InOrder.{IsInOrder}
 use Rattle.rdl_tree.specs.declared.item.Item.{Item}
+use Rattle.rdl_tree.specs.declared.item.Param.{Param}
 use Rattle.rdl_values.specs.Bodies as values
 use Rattle.rdl_values.specs.Bodies.{around, scope_at}
 use Rattle.rdl_values.specs.Chained.{chained}
 use Rattle.rdl_values.specs.Enums.{names_of, with_item, with_items}
 use Rattle.rdl_values.specs.Instances.{Instance, body}
+use Rattle.rdl_values.specs.Phase3.{twice_defined}
 use Rattle.rdl_values.specs.Seen.{listed_enum}
 use Rattle.rdl_values.specs.Values.{Around, EnumOf, Names, Val}
 use Rattle.rdl_values.specs.Views as view
@@ -24,9 +26,10 @@ use Rattle.rdl_scopes.specs.declared.components.Components.{Components}
 use Rattle.rdl_scopes.specs.declared.enums.Opened.{Opened}
 use Rattle.rdl_scopes.proofs.Closing.{closed_stays}
 use Rattle.rdl_scopes.specs.Scopes.{AreOpen, Shows, items_at, items_in}
-use Rattle.rdl_bodies.specs.Kept.{AreBelow, AreKept, Begins, Grows, HasItems, IsBody, IsOpenFor, IsPlacedIn, IsSite, IsTextIn, of_names}
+use Rattle.rdl_bodies.specs.Kept.{AreBelow, AreKept, Begins, Grows, IsBody, IsOpenFor, IsPlacedIn, IsSite, IsTextIn, IsTextOf, StandsIn, of_names}
 use Rattle.rdl_bodies.specs.Opened.{IsOpened, IsText, IsTextFor}
-use Rattle.rdl_bodies.specs.Sited.{HaveNames, IsAt, IsOpenAs, own_names, values_over}
+use Rattle.rdl_bodies.specs.Sited.{AreValued, HaveNames, IsAt, IsOpenAs, own_names, values_over}
+use Rattle.rdl_bodies.specs.Steady.{AreFixed}
 use Rattle.rdl_bodies.specs.declared.bodies.Bodies.{Bodies}
 use Rattle.rdl_bodies.specs.declared.bodies.Body.{Body}
 use Rattle.rdl_bodies.specs.declared.bodies.Site.{Site}
@@ -34,6 +37,7 @@ use Rattle.rdl_bodies.specs.declared.bodies.Text.{Text}
 use Rattle.rdl_bodies.specs.declared.bodies.TextPlace.{TextPlace}
 use Rattle.rdl_bodies.specs.declared.opening.BodyText.{BodyText}
 use Rattle.rdl_bodies.proofs.Growing.{AllSame, at_same, begins_get, begins_length, begins_same, chained_same, below_more, def_same, get_either, get_front, grows_on, grows_same, open_same, round_same, same_below, names_same, shows_same, turned}
+use Rattle.rdl_bodies.proofs.Fixed.{fixed_enums}
 
 -- The names of a body.
 
@@ -66,15 +70,18 @@ round_alike t (k ∷ ks) (p ∷ ps) (l ∷ ls) h = h.1
 
 -- Texts that were there stay what they are.
 
-pub has_items : (these those : List Text) → Begins these those → (k : ℕ) (items : List Item) → HasItems these k items → HasItems those k items
-has_items these those more k items h = (h.0, begins_get these those k h.0 more h.1, h.2)
+stands-on : (these those : List Body) → Begins these those → (ks : List ℕ) (o : Option TextPlace) → StandsIn these ks o → StandsIn those ks o
+stands-on these those more [] None h = tt
+stands-on these those more [] (Some p) h = absurd h
+stands-on these those more (k ∷ ks) None h = absurd h
+stands-on these those more (k ∷ ks) (Some p) h = (h.0, begins_get these those k h.0 more h.1, h.2)
 
-placed-stays : (these those : List Text) → Begins these those → (o : Option TextPlace) (items : List Item) → IsPlacedIn these o items → IsPlacedIn those o items
-placed-stays these those more None items h = tt
-placed-stays these those more (Some p) items h = (h.0, begins_get these those p.outer h.0 more h.1, h.2)
+pub placed_stays : (these those : List Text) → Begins these those → (o : Option TextPlace) (items : List Item) (params : List Param) → IsPlacedIn these o items params → IsPlacedIn those o items params
+placed_stays these those more None items params h = tt
+placed_stays these those more (Some p) items params h = (h.0, begins_get these those p.outer h.0 more h.1, h.2)
 
 pub text_stays : (these those : List Text) → Begins these those → (held gs : List Fault) (x : Text) → IsTextIn these held x → IsTextIn those (with_all gs held) x
-text_stays these those more held gs x h = record { closed = closed_stays x.closed x.items.now gs held h.closed; defaults = h.defaults; placed = placed-stays these those more x.place x.items.now h.placed }
+text_stays these those more held gs x h = record { closed = closed_stays x.closed x.items.now gs held h.closed; components = h.components; twice = λ b e. kept (twice_defined b) gs held (h.twice b e); placed = placed_stays these those more x.place x.items.now x.params.now h.placed; steady = h.steady }
 
 -- Bodies and sites that were there stay what they are.
 module _ (t u : Bodies) (grown : Grows t u) (texts : Begins t.texts.items u.texts.items) (before gs : List Fault) (inv : AreKept t before) where
@@ -92,6 +99,7 @@ module _ (t u : Bodies) (grown : Grows t u) (texts : Begins t.texts.items u.text
     below = below_more (length t.tables.items) (length u.tables.items) s.outer.now longer h.below;
     defined = sym (def_same t u s.outer.now s.uptos.now (here s.outer.now h.below)) ∙ h.defined;
     apart = h.apart;
+    valued = h.valued;
   }
 
   open-for : (x : Body) (o : Option ℕ) → AreBelow (length t.tables.items) x.numbers.now → IsOpenFor t before x o → IsOpenFor u after x o
@@ -115,7 +123,17 @@ module _ (t u : Bodies) (grown : Grows t u) (texts : Begins t.texts.items u.text
         items_are = ap (λ cs. items_at cs k) grown.components.1 ∙ ap items_in (get_front t.components.items grown.components.0 k low) ∙ old.items_are;
         in_order = old.in_order;
         of_site = open-for x x.site old.below old.of_site;
-        text_is = has_items t.texts.items u.texts.items texts x.text x.items.now old.text_is;
+        valued = old.valued;
+        outer = old.outer;
+        numbers_are = old.numbers_are;
+        text_is = record {
+          text = old.text_is.text;
+          here = begins_get t.texts.items u.texts.items x.text old.text_is.text texts old.text_is.here;
+          stands = stands-on t.list.items u.list.items grown.list old.outer old.text_is.text.place old.text_is.stands;
+          items_are = old.text_is.items_are;
+          params_are = old.text_is.params_are;
+        };
+        enums_are = old.enums_are;
       }
 
   pub texts_stay : (k : ℕ) (x : Text) → slice_get t.texts.items k ≡ Some x → IsTextIn u.texts.items after x
@@ -141,10 +159,12 @@ pub record IsNext (t u : Bodies) (number : ℕ) (x : BodyText) (r : Body) : Type
   pub list : u.list.items ≡ t.list.items ++ (r ∷ [])
   pub sites : u.sites.items ≡ t.sites.items
   pub texts : u.texts.items ≡ t.texts.items
-  pub text_is : HasItems t.texts.items r.text x.items.now
+  pub text_is : IsTextOf t.list.items t.texts.items r.text x.outer.now x.items.now x.params.now
   pub is_of : AreComponents component x.items.now
   pub site_is : r.site ≡ x.site
   pub items_are : r.items.now ≡ x.items.now
+  pub params_are : r.params.now ≡ x.params.now
+  pub valued : AreValued r.params.now r.touched.now
   pub kind_is : r.kind ≡ x.kind
   pub numbers_are : r.numbers.now ≡ number ∷ x.outer.now
   pub uptos_are : r.uptos.now ≡ x.uptos.now
@@ -226,13 +246,30 @@ module _ (t u : Bodies) (number : ℕ) (x : BodyText) (r : Body) (new : IsNext t
     one-more : length u.tables.items ≡ length t.tables.items + 1
     one-more = ap length new.tables ∙ length-append t.tables.items (new.table ∷ [])
 
+    -- the names are those that it has in any bodies round it
+    own-enums : new.text_is.text.steady ≡ true → map listed_enum r.enums.now ≡ (names_of [] [] r.items.now).enums
+    own-enums s =
+        let round = chained t.tables.items x.outer.now in
+        let fixed : AreFixed x.items.now = subst AreFixed new.text_is.items_are ((inv.texts r.text new.text_is.text new.text_is.here).steady s) in
+        ap (λ n. n.enums) (new.names_are round (alike_same round)) ∙ fixed_enums round [] (values_over x.params.now x.touched.now) [] x.items.now fixed ∙ ap (λ is. (names_of [] [] is).enums) (sym new.items_are)
+
     new-body : IsBody u after number r
     new-body = record {
       below = subst (AreBelow (length u.tables.items)) (sym new.numbers_are) (let n = new.numbered in omega (arith, n, one-more), below_more (length t.tables.items) (length u.tables.items) x.outer.now (omega (arith, one-more)) below);
       items_are = own-items inv.components inv.list below ∙ sym new.items_are;
       in_order = subst IsInOrder (sym new.items_are) in_order;
       of_site = subst (IsOpenFor u after r) (sym new.site_is) (new-for x.site of_site);
-      text_is = subst (HasItems u.texts.items r.text) (sym new.items_are) (subst (λ xs. HasItems xs r.text x.items.now) (sym new.texts) new.text_is);
+      valued = new.valued;
+      outer = x.outer.now;
+      numbers_are = new.numbers_are;
+      text_is = record {
+        text = new.text_is.text;
+        here = ap (λ xs. slice_get xs r.text) new.texts ∙ new.text_is.here;
+        stands = stands-on t.list.items u.list.items (r ∷ [], new.list) x.outer.now new.text_is.text.place new.text_is.stands;
+        items_are = new.text_is.items_are ∙ sym new.items_are;
+        params_are = new.text_is.params_are ∙ sym new.params_are;
+      };
+      enums_are = own-enums;
     }
 
     texts-begin : Begins t.texts.items u.texts.items
@@ -345,9 +382,12 @@ module _ (u v : Bodies) (tables : v.tables ≡ u.tables) (components : v.compone
     texts = texts;
   }
 
+  pub kept_as : v.texts ≡ u.texts → (held : List Fault) → AreKept u held → AreKept v held
+  kept_as texts held inv = kept_same held [] (begins_same u.texts.items v.texts.items (ap (λ x. x.items) texts)) (λ j x e. subst (λ xs. IsTextIn xs held x) (sym (ap (λ ts. ts.items) texts)) (inv.texts j x (sym (ap (λ ts. slice_get ts.items j) texts) ∙ e))) inv
+
   pub opened_same : v.texts ≡ u.texts → (t : Bodies) (before after : List Fault) (k : ℕ) (b : values.Body) → IsOpened t u before after k b → IsOpened t v before after k b
   opened_same texts t before after k b h = record {
-    kept = kept_same after [] (begins_same u.texts.items v.texts.items (ap (λ x. x.items) texts)) (λ j x e. subst (λ xs. IsTextIn xs after x) (sym (ap (λ ts. ts.items) texts)) (h.kept.texts j x (sym (ap (λ ts. slice_get ts.items j) texts) ∙ e))) h.kept;
+    kept = kept_as texts after h.kept;
     grown = grows_on t u v h.grown grown_same;
     noted = h.noted;
     body = h.body;

@@ -151,12 +151,14 @@ listed_at t held number s outer uptos d bs b c inv here same defined def round b
 
 -- a new site is that of the definition
 pub listed_new : (t u : Bodies) (held : List Fault) (number : ℕ) (s : Site) (outer uptos : List ℕ) (d : Def) (bs b : Bound) (c : Closure) → AreKept t held → u.tables ≡ t.tables → u.components ≡ t.components → u.list ≡ t.list → u.sites.items ≡ t.sites.items ++ (s ∷ []) → u.texts ≡ t.texts
-    → number ≡ length t.sites.items → s.def.now ≡ d → IsSame s outer uptos bs → AreBelow (length t.tables.items) outer → def_at t.components.items outer uptos ≡ Some d → AreApart (plain_of d.params.now) → c.def ≡ d → AreRound t outer uptos c.scope → b ≡ overlaid (plain_of d.params.now) bs → IsListed t u held number c b
-listed_new t u held number s outer uptos d bs b c inv tables components list sites texts at of same below defined apart def round bound =
+    → number ≡ length t.sites.items → s.def.now ≡ d → IsSame s outer uptos bs → AreBelow (length t.tables.items) outer → def_at t.components.items outer uptos ≡ Some d → AreApart (plain_of d.params.now) → map (λ x. x.0) (plain_of d.params.now) ≡ map (λ x. x.0) (overlaid (plain_of d.params.now) bs)
+    → c.def ≡ d → AreRound t outer uptos c.scope → b ≡ overlaid (plain_of d.params.now) bs → IsListed t u held number c b
+listed_new t u held number s outer uptos d bs b c inv tables components list sites texts at of same below defined apart valued def round bound =
     let site : IsSite t s = record {
       below = subst (AreBelow (length t.tables.items)) (sym same.outer_is) below;
       defined = ap (λ ks. def_at t.components.items ks s.uptos.now) same.outer_is ∙ ap (λ ps. def_at t.components.items outer ps) same.uptos_are ∙ defined ∙ ap Some (sym of);
       apart = subst (λ e. AreApart (plain_of e.params.now)) (sym of) apart;
+      valued = ap (λ e. map (λ x. x.0) (plain_of e.params.now)) of ∙ valued ∙ ap (map (λ x. x.0)) (put s d bs (sym of) same.touched_are);
     } in
     let grown = grown_listed t u s tables components list sites texts in
     let all = same_below t u outer inv.components inv.list grown below in

@@ -1,4 +1,6 @@
+pub mod Alike
 pub mod Kept
 pub mod Opened
 pub mod Sited
+pub mod Steady
 pub mod Texts

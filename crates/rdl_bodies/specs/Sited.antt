@@ -26,6 +26,10 @@ AreBelow n ks = AllByRecursion (λ k. k < n) ks
 abbrev pub values_over : List Param → List BoundParameter → Bound
 values_over ps touched = overlaid (plain_of ps) (map bound_of touched)
 
+-- each parameter has a value
+abbrev pub AreValued : List Param → List BoundParameter → Type 0
+AreValued ps touched = map (λ x. x.0) (plain_of ps) ≡ map (λ b. b.0) (values_over ps touched)
+
 -- the parameters and the enumerations of an open body
 abbrev pub own_names : Body → Names
 own_names x = record { bound = values_over x.params.now x.touched.now; enums = map listed_enum x.enums.now }

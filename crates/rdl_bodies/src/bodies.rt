@@ -4,12 +4,11 @@ ghost use Rattle.std.specs.Prelude.{◌≡◌};
 
 use crate::hints::Hints;
 use bumpalo::Bump;
-use rdl_scopes::{ClosedEnums, Components, TextDefaults};
+use rdl_scopes::{ClosedEnums, Components};
 use rdl_tree::{Bound, Def, EnumValues, Item, Kind, Param};
 use rdl_values::Table;
 use std::alloc::Global;
 use std::collections::BTreeMap;
-use std::rc::Rc;
 
 /// A definition in the bodies round its text, with the values of its parameters: those that the text has at all uses, with the touched
 /// ones put over them.
@@ -81,9 +80,13 @@ pub(crate) struct Text<'a> {
     /// The root's stands at none.
     pub place: Option<TextPlace>,
     pub items: &'a [Item<'a>],
+    /// The parameters of its definition; the root's has none.
+    pub params: &'a [Param<'a>],
+    /// Whether no entry's value of its enumerations names anything: then they are the same in all bodies.
+    pub steady: bool,
     pub closed: ClosedEnums<'a>,
-    /// What the parameters of its definitions have at all uses; nothing where none of them has parameters.
-    pub defaults: Option<Rc<TextDefaults<'a>>>,
+    /// Its definitions by their names, with what their parameters have at all uses.
+    pub components: Components<'a>,
 }
 
 /// The bodies of a source that are open, and the sites of those that may be. Their lists of numbers stand in an arena of their own.
@@ -144,15 +147,15 @@ impl<'s, 'a> Bodies<'s, 'a> {
         self.tables
     }
 
-    /// The same bodies and sites, without the keys by which they are found again, and without what is kept of their texts: for readers, after the last body was opened.
+    /// The same bodies, sites and texts, without the keys by which they are found again: for readers, after the last body was opened.
     pub fn without_keys(self, alloc: Global) -> Self
         ensures tables { result.tables ≡ self.entry.tables }
         ensures components { result.components ≡ self.entry.components }
         ensures list { result.list ≡ self.entry.list }
         ensures sites { result.sites ≡ self.entry.sites }
+        ensures texts { result.texts ≡ self.entry.texts }
     {
         Bodies {
-            texts: Vec::new(alloc),
             plain: Hints::new(alloc),
             known: BTreeMap::new(alloc),
             opened: Vec::new(alloc),

@@ -9,6 +9,7 @@ mod root;
 mod same;
 mod sites;
 mod sparing;
+mod steady;
 mod texts;
 mod values;
 

@@ -6,7 +6,8 @@ ghost use Rattle.rdl_values.specs.Bodies.{Body as BodyOf, around};
 ghost use Rattle.rdl_values.specs.Chained.{chained};
 ghost use Rattle.rdl_values.specs.Kept.{AreDefaultsOf};
 ghost use Rattle.rdl_values.specs.Overlaid.{AreApart, plain_of};
-ghost use Rattle.rdl_failures.specs.Noted.{with_all};
+ghost use Rattle.rdl_values.specs.Phase3.{twice_defined};
+ghost use Rattle.rdl_failures.specs.Noted.{Holds, with_all};
 ghost use Rattle.rdl_failures.specs.Shown.{IsAlike};
 ghost use Rattle.rdl_scopes.specs.Closed.{AreClosedOf};
 ghost use Rattle.rdl_scopes.specs.Opened as names;
@@ -20,10 +21,7 @@ use bumpalo::Bump;
 use bumpalo::collections::into_bump_slice;
 use rb_base::NoMemory;
 use rdl_failures::Failures;
-use rdl_scopes::{
-    ClosedEnums, Components, Found, Opened, Outer, defaults_of, judge_names, open_names,
-    shared_defaults,
-};
+use rdl_scopes::{ClosedEnums, Components, Found, Opened, Outer, defaults_of, open_names};
 use rdl_tree::{Bound, Item, Kind, Param};
 use rdl_values::{Defaults, Parameters, Table};
 use std::alloc::Global;
@@ -59,7 +57,7 @@ fn table_over<'a>(
     Table::over(alloc, parameters)
 }
 
-// The names of a body, the failures of which are put in.
+// The names of a body, the failures of which are put in. Those of names that are defined twice are held.
 fn names_of<'a>(
     alloc: Global,
     arena: &'a Bump,
@@ -73,11 +71,11 @@ fn names_of<'a>(
     requires apart { AreApart (plain_of text.now.params.now) }
     requires in_order { IsInOrder text.now.items.now }
     requires closed { AreClosedOf closed.now text.now.items.now failures.old }
+    requires twice { (b : BodyOf) → b.items ≡ text.now.items.now → Holds failures.old (twice_defined b) }
     ensures opened { IfOk result (names.IsOpened (values_over text.now.params.now text.now.touched.now) text.now.items.now (record { tables = tables.entry; numbers = text.now.outer })) }
     ensures noted { OnOk result ((b : BodyOf) → b.items ≡ text.now.items.now → b.names.bound ≡ values_over text.now.params.now text.now.touched.now → IsAlike (chained tables.now text.now.outer.now) (around b.outer)
         → failures.new ≡ with_all (of_names b) failures.old) }
 {
-    judge_names(alloc, text.items, failures)?;
     let table = table_over(alloc, text.params, defaults, text.touched)?;
     let outer = Outer {
         tables,
@@ -143,9 +141,9 @@ impl<'s, 'a> Bodies<'s, 'a> {
     ghost use Rattle.rdl_values.specs.Kept.{AreDefaultsOf};
     ghost use Rattle.rdl_values.specs.Overlaid.{AreApart, plain_of};
     ghost use Rattle.rdl_scopes.specs.Scopes.{AreOpen};
-    ghost use Rattle.rdl_bodies.specs.Kept.{AreBelow, AreKept, HasItems};
+    ghost use Rattle.rdl_bodies.specs.Kept.{AreBelow, AreKept, IsTextOf, StandsIn};
     ghost use Rattle.rdl_bodies.specs.Opened.{CanOpen, IsOpened, IsText, IsTextFor};
-    ghost use Rattle.rdl_bodies.specs.Sited.{IsAt, def_at};
+    ghost use Rattle.rdl_bodies.specs.Sited.{AreValued, IsAt, def_at};
     ghost use Rattle.rdl_bodies.specs.Texts.{IsPlaced};
     ghost use Rattle.rdl_bodies.specs.declared.bodies.Body.{Body as OpenBody};
     ghost use Rattle.rdl_bodies.specs.declared.bodies.Site.{Site as SiteOf};
@@ -180,9 +178,10 @@ impl<'s, 'a> Bodies<'s, 'a> {
         failures: &mut Failures,
     ) -> Result<usize, NoMemory>
         requires kept { AreKept self.old failures.old }
-        requires known { HasItems self.old.texts.items of text.now.items.now }
+        requires known { IsTextOf self.old.list.items self.old.texts.items of text.now.outer.now text.now.items.now text.now.params.now }
         requires defaults { AreDefaultsOf defaults.now.value text.now.params.now }
         requires apart { AreApart (plain_of text.now.params.now) }
+        requires valued { AreValued text.now.params.now text.now.touched.now }
         requires in_order { IsInOrder text.now.items.now }
         requires below { AreBelow (length self.old.tables.items) text.now.outer.now }
         requires of_site { IsTextFor self.old text.now text.now.site }
@@ -194,8 +193,7 @@ impl<'s, 'a> Bodies<'s, 'a> {
         let opened = names_of(alloc, arena, &self.tables, text, defaults, closed, failures)?;
         let number = self.tables.len();
         let body = body_of(self.scratch, number, of, text, &opened)?;
-        let known = shared_defaults(&self.texts[of].defaults)?;
-        let components = Components::of(alloc, text.items, known)?;
+        let components = self.texts[of].components.again()?;
         self.push(opened.table, components, body)?;
         Ok(number)
     }
@@ -211,9 +209,11 @@ impl<'s, 'a> Bodies<'s, 'a> {
         failures: &mut Failures,
     ) -> Result<usize, NoMemory>
         requires kept { AreKept self.old failures.old }
-        requires placed { IsPlaced self.old place text.now.items.now }
+        requires placed { IsPlaced self.old place text.now.items.now text.now.params.now }
+        requires stands { StandsIn self.old.list.items text.now.outer.now place }
         requires defaults { AreDefaultsOf defaults.now.value text.now.params.now }
         requires apart { AreApart (plain_of text.now.params.now) }
+        requires valued { AreValued text.now.params.now text.now.touched.now }
         requires in_order { IsInOrder text.now.items.now }
         requires below { AreBelow (length self.old.tables.items) text.now.outer.now }
         requires of_site { IsTextFor self.old text.now text.now.site }
@@ -221,7 +221,7 @@ impl<'s, 'a> Bodies<'s, 'a> {
         ensures number { IfOk result (λ k. k ≡ length self.old.tables.items) }
         ensures opened { IfOk result (λ k. (b : BodyOf) → IsText self.old text.now b → IsOpened self.old self.new failures.old failures.new k b) }
     {
-        let of = self.text_at(alloc, arena, place, text.items, failures)?;
+        let of = self.text_at(alloc, arena, place, text.items, text.params, failures)?;
         self.add_body(alloc, arena, of, text, defaults, failures)
     }
 

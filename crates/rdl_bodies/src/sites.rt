@@ -77,7 +77,7 @@ impl<'s, 'a> Bodies<'s, 'a> {
     ghost use Rattle.rdl_values.specs.Overlaid.{AreApart, plain_of};
     ghost use Rattle.rdl_bodies.specs.Kept.{AreBelow, AreKept};
     ghost use Rattle.rdl_bodies.specs.Opened.{IsListed, IsSame};
-    ghost use Rattle.rdl_bodies.specs.Sited.{AreRound, def_at, values_over};
+    ghost use Rattle.rdl_bodies.specs.Sited.{AreRound, AreValued, def_at, values_over};
     ghost use Rattle.rdl_bodies.specs.declared.bodies.Site.{Site as SiteOf};
 
     // Which site to try.
@@ -152,6 +152,7 @@ impl<'s, 'a> Bodies<'s, 'a> {
         requires below { AreBelow (length self.old.tables.items) outer.now }
         requires defined { def_at self.old.components.items outer.now uptos.now ≡ Some def.now }
         requires apart { AreApart (plain_of def.now.params.now) }
+        requires valued { AreValued def.now.params.now touched.now }
         ensures { IfOk result (λ k. (held : List AnyFault) (c : Closure) (b : BoundOf) → AreKept self.old held → c.def ≡ def.now → AreRound self.old outer.now uptos.now c.scope → b ≡ values_over def.now.params.now touched.now → IsListed self.old self.new held k c b) }
     {
         let key = key_of(alloc, outer, uptos, touched)?;

@@ -5,11 +5,12 @@ ghost use Rattle.std.specs.Prelude.{◌≡◌, Some, true};
 use crate::bodies::{Bodies, Text, TextPlace};
 use crate::opening::first_of;
 use crate::sparing::push_sparing;
+use crate::steady::are_fixed;
 use bumpalo::Bump;
 use rb_base::NoMemory;
 use rdl_failures::Failures;
-use rdl_scopes::{ClosedEnums, defaults_among};
-use rdl_tree::Item;
+use rdl_scopes::{ClosedEnums, Components, defaults_among, judge_names};
+use rdl_tree::{Item, Param};
 use std::alloc::Global;
 
 // Whether a text stands at a place.
@@ -25,13 +26,13 @@ fn is_at(text: &Text<'_>, at: &TextPlace) -> bool
 impl<'s, 'a> Bodies<'s, 'a> {
     ghost use Rattle.std.specs.Prelude.{◌≡◌, ◌∷◌, ◌++◌, [], IfOk, IfSome, OnOk, Some, length, slice_get};
     ghost use Rattle.rdl_bodies.specs.Kept.{AreKept};
-    ghost use Rattle.rdl_bodies.specs.Texts.{HasText, IsPlace, IsPlaced};
+    ghost use Rattle.rdl_bodies.specs.Texts.{HasText, IsPlaced, place_in};
     ghost use Rattle.rdl_bodies.specs.declared.bodies.Text.{Text as AnyText};
     ghost use Rattle.rdl_bodies.specs.declared.bodies.TextPlace.{TextPlace as AnyPlace};
 
     /// Where the text of a definition stands that is in these bodies, behind so many items of each.
     pub(crate) fn text_place(&self, outer: &[usize], uptos: &[usize]) -> Option<TextPlace>
-        ensures { IfSome result (IsPlace self.now outer.now uptos.now) }
+        ensures { result ≡ place_in self.now outer.now uptos.now }
     {
         let Some(nearest) = first_of(outer) else {
             return None;
@@ -98,30 +99,35 @@ impl<'s, 'a> Bodies<'s, 'a> {
         Ok(number)
     }
 
-    /// The number of the text of these items at a place: one that is known, or else a new one, the closed enumerations of which are
-    /// judged, and the parameters of its definitions read.
+    /// The number of the text of a definition with these items and parameters at a place: one that is known, or else a new one, of which names
+    /// that are defined twice and closed enumerations are judged, and the definitions and their parameters read.
     pub(crate) fn text_at(
         &mut self,
         alloc: Global,
         arena: &'a Bump,
         place: Option<TextPlace>,
         items: &'a [Item<'a>],
+        params: &'a [Param<'a>],
         failures: &mut Failures,
     ) -> Result<usize, NoMemory>
         requires kept { AreKept self.old failures.old }
-        requires placed { IsPlaced self.old place items.now }
-        ensures { IfOk result (HasText self.old self.new failures.old failures.new items.now) }
+        requires placed { IsPlaced self.old place items.now params.now }
+        ensures { IfOk result (HasText self.old self.new failures.old failures.new place items.now params.now) }
     {
         if let Some(number) = self.find_text_at(&place) {
             return Ok(number);
         }
+        judge_names(alloc, items, failures)?;
         let closed = ClosedEnums::of(alloc, arena, items, failures)?;
         let defaults = defaults_among(alloc, items)?;
+        let components = Components::of(alloc, items, defaults)?;
         self.push_text(Text {
             place,
             items,
+            params,
+            steady: are_fixed(items),
             closed,
-            defaults,
+            components,
         })
     }
 }

@@ -4,6 +4,7 @@ use Rattle.std.specs.List.{AllByRecursion}
 use Rattle.std.proofs.lemmas.List.{at_drop_all, at_drop_more, map-append, take_all, take_more}
 use Rattle.rdl_base.specs.declared.fault.Fault.{Fault}
 use Rattle.rdl_tree.specs.declared.expr.Name.{Name}
+use Rattle.rdl_tree.specs.declared.item.Def.{Def}
 use Rattle.rdl_tree.specs.declared.item.Inst.{Inst}
 use Rattle.rdl_values.specs.Bodies as values
 use Rattle.rdl_values.specs.Bodies.{Closure}
@@ -26,7 +27,7 @@ use Rattle.rdl_uses.specs.declared.instances.SizedInst.{SizedInst}
 use Rattle.rdl_children.specs.declared.item.ItemUses.{ItemUses}
 use Rattle.rdl_bodies.specs.Kept.{AreBelow, AreKept}
 use Rattle.rdl_bodies.specs.Opened.{IsListed}
-use Rattle.rdl_bodies.specs.Sited.{AreRound, IsOpenAs, def_at, values_over}
+use Rattle.rdl_bodies.specs.Sited.{AreRound, AreValued, IsOpenAs, def_at, values_over}
 use Rattle.rdl_bodies.specs.declared.bodies.Bodies.{Bodies}
 use Rattle.rdl_bodies.specs.declared.bodies.Body.{Body}
 use Rattle.rdl_bodies.proofs.Adding.{kept_more}
@@ -34,6 +35,7 @@ use Rattle.rdl_bodies.proofs.Growing.{begins_length, below_more, grows_on, grows
 use Rattle.rdl_children.specs.Children.{AddsGiven, AddsOne, AreChildren, CanJudge, IsJudged, pair_in}
 use Rattle.rdl_children.specs.Items.{AddsUses, AreItems, CanAdd, CanList, Extends, Gives, IsItem, Lists, outer_of, uptos_at}
 use Rattle.rdl_children.specs.declared.child.Child.{Child}
+use Rattle.rdl_children.proofs.Bounds.{bound_names}
 use Rattle.rdl_children.proofs.Flat.{IsShared, all_children, none_bound, none_given, none_given_in}
 use Rattle.rdl_children.proofs.Itemized.{children_append, children_stay, items_stay}
 use Rattle.rdl_children.proofs.Reached.{below_drop}
@@ -93,6 +95,16 @@ apart_values t y r us all i p some e = go i.list refl
     go : (list : List Inst) → i.list ≡ list → AreApart (plain_of r.found.def.now.params.now)
     go [] q = absurd (some q)
     go (j ∷ js) q = apart-of r.found.def.now.params.now (parameters.bound_of (use_by i.type j) i.type.closure) r.uses.parameters p (i.values some j) e
+
+pub valued_values : (t : Bodies) (y : Body) (r : ItemUses) (us : List Use) (all : List Seen) (i : IsItem t y r us all) (p : Parameters) (touched : List Bound) → i.list ≢ [] → r.uses.parameters ≡ Some p → ArePut p touched → AreValued r.found.def.now.params.now touched
+valued_values t y r us all i p touched some e put = go i.list refl
+  where
+    of : Def → Type 0
+    of d = map (λ x. x.0) (plain_of d.params.now) ≡ map (λ b. b.0) (values_over r.found.def.now.params.now touched)
+
+    go : (list : List Inst) → i.list ≡ list → AreValued r.found.def.now.params.now touched
+    go [] q = absurd (some q)
+    go (j ∷ js) q = subst of (i.placed some).def (bound_names (use_by i.type j) i.type.closure (values_over r.found.def.now.params.now touched) (all_values t y r us all i p touched some e put j))
 
 pub extends_same : (t : Bodies) → Extends t t
 extends_same t = record { grown = grows_same t t refl refl refl ([], sym (append-nil t.sites.items)); kept = λ held k. k }
@@ -232,6 +244,9 @@ module _ (t : Bodies) (y : Body) (r : ItemUses) (can : CanAdd t y r) (some : r.u
 
 pub can_apart : (t : Bodies) (y : Body) (r : ItemUses) (can : CanAdd t y r) (p : Parameters) → r.uses.given.items ≢ [] → r.uses.parameters ≡ Some p → AreApart (plain_of r.found.def.now.params.now)
 can_apart t y r can p some e = apart_values t y r can.us can.all can.item p (some_list t y r can.us can.all can.item some) e
+
+pub can_valued : (t : Bodies) (y : Body) (r : ItemUses) (can : CanAdd t y r) (p : Parameters) (touched : List Bound) → r.uses.given.items ≢ [] → r.uses.parameters ≡ Some p → ArePut p touched → AreValued r.found.def.now.params.now touched
+can_valued t y r can p touched some e put = valued_values t y r can.us can.all can.item p touched (some_list t y r can.us can.all can.item some) e put
 
 -- A whole body.
 module _ (t : Bodies) (before after : List Fault) (number : ℕ) (y : Body) (parent : Parent) (rs : List ItemUses) (inv : AreKept t before) (here : slice_get t.list.items number ≡ Some y)

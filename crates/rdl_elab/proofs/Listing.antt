@@ -7,6 +7,7 @@ use Rattle.rdl_tree.specs.declared.item.Def.{Def}
 use Rattle.rdl_tree.specs.declared.item.Item.{Item}
 use Rattle.rdl_tree.specs.declared.item.Param.{Param}
 use Rattle.rdl_tree.specs.declared.item.Source.{Source}
+use Rattle.rdl_tree.specs.declared.value.Bound.{Bound as BoundParameter}
 use Rattle.rdl_values.specs.Bodies.{Closure, Scope, Layer, around, scope_at}
 use Rattle.rdl_values.specs.Chained.{chained}
 use Rattle.rdl_values.specs.Faults.{failures}
@@ -28,12 +29,12 @@ use Rattle.rdl_uses.specs.Binding.{AreValues}
 use Rattle.rdl_top.specs.declared.top.Top.{Top}
 use Rattle.rdl_bodies.specs.Kept.{AreKept}
 use Rattle.rdl_bodies.specs.Opened.{IsListed}
-use Rattle.rdl_bodies.specs.Sited.{AreRound, IsOpenAs, def_at}
+use Rattle.rdl_bodies.specs.Sited.{AreRound, AreValued, IsOpenAs, def_at, values_over}
 use Rattle.rdl_bodies.specs.declared.bodies.Bodies.{Bodies}
 use Rattle.rdl_bodies.specs.declared.bodies.Body.{Body}
 use Rattle.rdl_bodies.proofs.Adding.{kept_more, round_alike}
 use Rattle.rdl_bodies.proofs.Growing.{grows_same}
-use Rattle.rdl_children.proofs.Bounds.{bound_apart}
+use Rattle.rdl_children.proofs.Bounds.{bound_apart, bound_names}
 use Rattle.rdl_children.proofs.Reached.{Holds, here, found_at}
 use Rattle.rdl_elab.specs.Topped.{IsRootAt, IsTopBound, IsTopListed}
 use Rattle.rdl_elab.proofs.TopUses.{closure_at, node_at, top_given, top_held, top_not_given, top_use_fails, tops_fail, tops_given, use_at}
@@ -123,6 +124,9 @@ module _ (t : Bodies) (w : Option (List ℕ)) (s : Source) (top : Top) (y : Body
 
   pub apart : (b : Bound) → parameters.bound_of use_of closure_of ≡ Ok b → AreApart (plain_of top.def.now.params.now)
   apart b e = bound_apart use_of closure_of b e
+
+  pub valued : (b : Bound) (touched : List BoundParameter) → parameters.bound_of use_of closure_of ≡ Ok b → b ≡ values_over top.def.now.params.now touched → AreValued top.def.now.params.now touched
+  valued b touched e is = bound_names use_of closure_of b e ∙ ap (map (λ x. x.0)) is
 
   module _ (before after : List Fault) (r : Option Parameters) (bound : IsTopBound use_of closure_of r before after) where
     put : after ≡ with_all (flat_map of_use (map top_seen (option_to_list (top_use_of w s)))) before

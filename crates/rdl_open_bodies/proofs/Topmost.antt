@@ -37,13 +37,13 @@ use Rattle.rdl_values.proofs.Numbered.{At, Deep, bottom}
 use Rattle.rdl_uses.specs.Parts.{StandsAt}
 use Rattle.rdl_bodies.specs.Kept.{AreKept}
 use Rattle.rdl_bodies.specs.Opened.{IsListed}
-use Rattle.rdl_bodies.specs.Sited.{AreRound, HaveNames, IsOpenAs, def_at, values_over}
+use Rattle.rdl_bodies.specs.Sited.{AreRound, AreValued, HaveNames, IsOpenAs, def_at, values_over}
 use Rattle.rdl_bodies.specs.declared.bodies.Bodies.{Bodies}
 use Rattle.rdl_bodies.specs.declared.bodies.Body.{Body}
 use Rattle.rdl_bodies.proofs.Adding.{names_bound}
 use Rattle.rdl_children.specs.Children.{AreChildren}
 use Rattle.rdl_children.specs.declared.child.Child.{Child}
-use Rattle.rdl_children.proofs.Bounds.{bound_apart}
+use Rattle.rdl_children.proofs.Bounds.{bound_apart, bound_names}
 use Rattle.rdl_children.proofs.Reached.{Reached, found_at, here}
 use Rattle.rdl_top.specs.declared.top.Top.{Top}
 use Rattle.rdl_scopes.specs.Scopes.{Shows}
@@ -291,6 +291,9 @@ module _ (e : Elab) (clean : IsClean e) (t : Top) (means : top_use_of (Some (top
 
   pub top_apart : AreApart (plain_of t.def.now.params.now)
   top_apart = subst (λ c. AreApart (plain_of c.def.params.now)) (sym closure_is) (bound_apart (top_seen u).use_ n.closure n.bound given.bound_is)
+
+  pub top_valued : AreValued t.def.now.params.now (out-Env (out-Node e.top.now).env.now).bound.now
+  top_valued = ap (λ c. map (λ x. x.0) (plain_of c.def.params.now)) closure_is ∙ bound_names (top_seen u).use_ n.closure n.bound given.bound_is ∙ ap (map (λ b. b.0)) values_are
 
   module _ (b : Bodies) (x : Body) (open_ : IsOpenAs b x (root e.source.now)) (uptos : List ℕ) (ups : uptos ≡ t.position ∷ x.uptos.now) where
     shown-all : Shows b.tables.items b.components.items x.numbers.now (length x.items.now ∷ x.uptos.now) (scope_at (root e.source.now) e.source.now.items.now)

@@ -12,6 +12,7 @@ use Rattle.rdl_values.specs.Top.{root}
 use Rattle.rdl_values.specs.Uses.{form_of}
 use Rattle.rdl_values.specs.Values.{Around}
 use Rattle.rdl_failures.specs.Shown.{IsAlike}
+use Rattle.rdl_bodies.specs.Alike.{ShareTexts}
 use Rattle.rdl_bodies.specs.Sited.{IsOpenAs}
 use Rattle.rdl_bodies.specs.declared.bodies.Bodies.{Bodies}
 use Rattle.rdl_bodies.specs.declared.bodies.Body.{Body}
@@ -60,8 +61,9 @@ AreSpots e t [] [] = Unit {0}
 AreSpots e t (o ∷ os) (n ∷ ns) = IsSpot e t o n × AreSpots e t os ns
 AreSpots e t _ _ = ⊥
 
--- The root's body is open, and so is that of each node, in order. The items of each stand in order.
+-- The root's body is open, and so is that of each node, in order. The items of each stand in order, and those of one text are alike.
 pub record IsOpenTree (e : Elab) (x : OpenTree) : Type 0 where
+  pub texts : ShareTexts x.bodies
   pub in_order : (k : ℕ) (b : Body) → slice_get x.bodies.list.items k ≡ Some b → IsInOrder b.items.now
   pub root_ : IsOpenAt x.bodies 0 (root e.source.now)
   pub nodes_ : AreSpots e x.bodies x.spots.items (nodes_of e)

@@ -47,5 +47,5 @@ pub record Knows (t : Firsts) (items : List Item) : Type 0 where
 -- the components are those among these items, with what their parameters have at all uses
 pub record AreComponents (c : Components) (items : List Item) : Type 0 where
   pub same : c.items.now ≡ items
-  pub known : Knows c.firsts items
+  pub known : Knows c.firsts.value items
   pub defaults : AreKnown (option_map rc_value c.defaults) items

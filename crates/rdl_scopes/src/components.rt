@@ -9,7 +9,7 @@ ghost use Rattle.rdl_values.specs.Views.{item_is};
 ghost use Rattle.rdl_failures.specs.Noted.{IsNoted};
 ghost use Rattle.rdl_scopes.specs.Named.{AreComponents, Knows, component_named, fails_twice};
 
-use crate::text_defaults::TextDefaults;
+use crate::text_defaults::{TextDefaults, shared_defaults};
 use rb_base::NoMemory;
 use rdl_base::Rule;
 use rdl_failures::Failures;
@@ -72,7 +72,7 @@ pub fn judge_names(
 #[derive(Drop)]
 pub struct Components<'a> {
     items: &'a [Item<'a>],
-    firsts: Firsts<'a>,
+    firsts: Rc<Firsts<'a>>,
     defaults: Option<Rc<TextDefaults<'a>>>,
 }
 
@@ -120,7 +120,7 @@ fn component_in<'a>(item: &'a Item<'a>, name: &[u8]) -> Option<&'a Def<'a>>
 }
 
 impl<'a> Components<'a> {
-    ghost use Rattle.std.specs.Prelude.{◌≡◌, IfSome, Some, option_map, slice_get};
+    ghost use Rattle.std.specs.Prelude.{◌≡◌, List, IfSome, Some, option_map, slice_get};
     ghost use Rattle.rdl_tree.specs.declared.item.Item.{Item as AnyItem};
     ghost use Rattle.rdl_values.specs.Kept.{AreDefaultsOf};
     ghost use Rattle.rdl_values.specs.Views as view;
@@ -139,8 +139,19 @@ impl<'a> Components<'a> {
         let firsts = firsts_of(alloc, items)?;
         Ok(Components {
             items,
-            firsts,
+            firsts: Rc::new(alloc, firsts)?,
             defaults,
+        })
+    }
+
+    /// The same once more: all bodies of a text have the same definitions.
+    pub fn again(&self) -> Result<Self, NoMemory>
+        ensures { IfOk result (λ c. (items : List AnyItem) → AreComponents self.now items → AreComponents c items) }
+    {
+        Ok(Components {
+            items: self.items,
+            firsts: self.firsts.clone()?,
+            defaults: shared_defaults(&self.defaults)?,
         })
     }
 

@@ -1,6 +1,6 @@
 use Rattle.std.proofs.Common.{◌∙◌, subst, sym}
 use Rattle.rdl_children.specs.Children.{AddsGiven}
-use Rattle.rdl_children.proofs.Sharing.{can_apart, can_below, can_defined, uses_added}
+use Rattle.rdl_children.proofs.Sharing.{can_apart, can_below, can_defined, can_valued, uses_added}
 use Rattle.rdl_children.proofs.given.add_bound.Goals as goal
 
 pub list-requires-clause-below : goal.list-requires-clause-below
@@ -11,6 +11,9 @@ list-requires-clause-defined c = can_defined c.args.bodies.now c.args.body.now c
 
 pub list-requires-clause-apart : goal.list-requires-clause-apart
 list-requires-clause-apart c = can_apart c.args.bodies.now c.args.body.now c.args.item.now c.requires.can c.args.parameters.now c.requires.given c.requires.values
+
+pub list-requires-clause-valued : goal.list-requires-clause-valued
+list-requires-clause-valued c = can_valued c.args.bodies.now c.args.body.now c.args.item.now c.requires.can c.args.parameters.now c.touched-touched.result.now c.requires.given c.requires.values c.touched-touched.ensures
 
 pub returns : goal.returns
 returns c =

@@ -1,6 +1,6 @@
 use Rattle.std.proofs.Common.{◌∙◌, ap, refl, sym}
 use Rattle.rdl_values.specs.Overlaid.{overlaid, plain_of}
-use Rattle.rdl_elab.proofs.Listing.{alike, apart, bound_fails, bound_is, closure_of, defined, kept_put, none_listed, one_listed, root_is, round, use_of}
+use Rattle.rdl_elab.proofs.Listing.{alike, apart, bound_fails, bound_is, closure_of, defined, kept_put, none_listed, one_listed, root_is, round, use_of, valued}
 use Rattle.rdl_elab.proofs.tops.list_top.Goals as goal
 
 pub returns-in_default-2 : goal.returns-in_default-2
@@ -35,6 +35,21 @@ list-requires-clause-apart c =
     let same = alike t w s top y open_ can.means in
     let bound = c.in_ok-parameters.ensures (use_of t w s top y open_ can.means) (closure_of t w s top y open_ can.means) refl refl refl same same in
     apart t w s top y open_ can.means _ (bound_is top.def.now.params.now _ c.in_ok-parameters.field-0 c.in-Some-2.parameters bound.values c.in-Some-2.is).2
+
+pub list-requires-clause-valued : goal.list-requires-clause-valued
+list-requires-clause-valued c =
+    let t = c.args.bodies.now in
+    let can = c.requires.some in
+    let w = can.wanted in
+    let s = can.source in
+    let top = c.args.top.now in
+    let y = c.in-Some.root in
+    let open_ = root_is t s y (sym c.body.ensures ∙ c.in-Some.is) can.root_ in
+    let same = alike t w s top y open_ can.means in
+    let plain = plain_of top.def.now.params.now in
+    let bound = c.in_ok-parameters.ensures (use_of t w s top y open_ can.means) (closure_of t w s top y open_ can.means) refl refl refl same same in
+    let values = bound_is top.def.now.params.now _ c.in_ok-parameters.field-0 c.in-Some-2.parameters bound.values c.in-Some-2.is in
+    valued t w s top y open_ can.means (overlaid plain values.0) c.touched-touched.result.now values.2 (ap (overlaid plain) (sym (c.touched-touched.ensures _ _ values.0 values.1)))
 
 pub returns : goal.returns
 returns c = λ w s r means.

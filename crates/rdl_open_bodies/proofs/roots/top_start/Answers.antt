@@ -3,7 +3,7 @@ use Rattle.rdl_values.specs.Elaborated.{top_name}
 use Rattle.rdl_values.specs.Top.{top_use_of}
 use Rattle.rdl_top.specs.Topped.{Means}
 use Rattle.rdl_walk.specs.declared.walk.Walk.{Walk}
-use Rattle.rdl_open_bodies.proofs.Topmost.{root_is, top_apart, top_defined, top_found, top_started}
+use Rattle.rdl_open_bodies.proofs.Topmost.{root_is, top_apart, top_defined, top_found, top_started, top_valued}
 use Rattle.rdl_open_bodies.proofs.roots.top_start.Goals as goal
 
 pub returns-in_default : goal.returns-in_default
@@ -24,6 +24,11 @@ pub list-requires-clause-apart : goal.list-requires-clause-apart
 list-requires-clause-apart c =
     let e = c.args.elab.now in
     top_apart e c.requires.clean c.in-Some.top (subst (λ r. Means e.source.now e.source.now.items.now r (top_use_of (Some (top_name e)) e.source.now)) c.in-Some.is (c.find_top.ensures e.source.now refl))
+
+pub list-requires-clause-valued : goal.list-requires-clause-valued
+list-requires-clause-valued c =
+    let e = c.args.elab.now in
+    top_valued e c.requires.clean c.in-Some.top (subst (λ r. Means e.source.now e.source.now.items.now r (top_use_of (Some (top_name e)) e.source.now)) c.in-Some.is (c.find_top.ensures e.source.now refl))
 
 pub returns : goal.returns
 returns c =

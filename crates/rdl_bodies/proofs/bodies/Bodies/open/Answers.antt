@@ -2,7 +2,7 @@ use Rattle.std.proofs.Common.{◌∙◌, sym}
 use Rattle.rdl_values.specs.Instances.{body}
 use Rattle.rdl_bodies.proofs.Adding.{open_again, opened_same}
 use Rattle.rdl_bodies.proofs.Places.{found_text, site_in_order}
-use Rattle.rdl_bodies.proofs.Finding.{placed_if}
+use Rattle.rdl_bodies.proofs.Finding.{placed_at, stands_at}
 use Rattle.rdl_bodies.proofs.bodies.Bodies.open.Goals as goal
 
 pub returns-in-Some : goal.returns-in-Some
@@ -13,7 +13,15 @@ returns-in-Some c = λ s n here at.
 pub add-requires-clause-placed : goal.add-requires-clause-placed
 add-requires-clause-placed c =
     let of = c.in-Some-site.of in
-    placed_if c.args.self.now c.args.failures.now of c.text_place-place.result c.requires.kept (c.requires.kept.sites c.args.site of (sym c.site.ensures ∙ c.in-Some-site.is)) c.text_place-place.ensures
+    placed_at c.args.self.now c.args.failures.now of c.text_place-place.result c.requires.kept (c.requires.kept.sites c.args.site of (sym c.site.ensures ∙ c.in-Some-site.is)) c.text_place-place.ensures
+
+pub add-requires-clause-stands : goal.add-requires-clause-stands
+add-requires-clause-stands c =
+    let of = c.in-Some-site.of in
+    stands_at c.args.self.now c.args.failures.now of c.text_place-place.result c.requires.kept (c.requires.kept.sites c.args.site of (sym c.site.ensures ∙ c.in-Some-site.is)) c.text_place-place.ensures
+
+pub add-requires-clause-valued : goal.add-requires-clause-valued
+add-requires-clause-valued c = (c.requires.kept.sites c.args.site c.in-Some-site.of (sym c.site.ensures ∙ c.in-Some-site.is)).valued
 
 pub defaults_for-requires-clause-defined : goal.defaults_for-requires-clause-defined
 defaults_for-requires-clause-defined c = (c.requires.kept.sites c.args.site c.in-Some-site.of (sym c.site.ensures ∙ c.in-Some-site.is)).defined
