@@ -16,7 +16,7 @@ standing_from-append before [] ys = ap (λ b. standing_from b ys) (sym (append-n
 standing_from-append before (x ∷ xs) ys = ap (λ zs. (before, x) ∷ zs) (standing_from-append (before ++ (x ∷ [])) xs ys ∙ ap (λ b. standing_from (before ++ (x ∷ [])) xs ++ standing_from b ys) (append_assoc before (x ∷ []) xs))
 
 -- the sound ones of the first are the first of the sound ones
-sound-append : (f : List Assignment × Assignment → List Fault) (xs ys : List Assignment) → sound f (xs ++ ys) ≡ sound f xs ++ map (λ (x : List Assignment × Assignment). x.1) (filter (λ x. is_empty (f x)) (standing_from xs ys))
+pub sound-append : (f : List Assignment × Assignment → List Fault) (xs ys : List Assignment) → sound f (xs ++ ys) ≡ sound f xs ++ map (λ (x : List Assignment × Assignment). x.1) (filter (λ x. is_empty (f x)) (standing_from xs ys))
 sound-append f xs ys =
     ap (λ zs. map (λ (x : List Assignment × Assignment). x.1) (filter (λ x. is_empty (f x)) zs)) (standing_from-append [] xs ys)
     ∙ ap (map (λ (x : List Assignment × Assignment). x.1)) (filter-append (λ x. is_empty (f x)) (standing xs) (standing_from xs ys))

@@ -36,7 +36,7 @@ in_scope scope ss = map (λ s. record { set_ = s; scope = scope }) ss
 pub failures-push : (f : List Assignment × Assignment → List Fault) (as' : List Assignment) (a : Assignment) → all_failures f (as' ++ (a ∷ [])) ≡ all_failures f as' ++ f (as', a)
 failures-push f as' a = ap (flat_map f) (standing-push as' a) ∙ flat_map-append f (standing as') ((as', a) ∷ []) ∙ ap (λ fs. all_failures f as' ++ fs) (append-nil (f (as', a)))
 
-sound-push : (f : List Assignment × Assignment → List Fault) (as' : List Assignment) (a : Assignment) → sound f (as' ++ (a ∷ [])) ≡ sound f as' ++ cond (is_empty (f (as', a))) (a ∷ []) []
+pub sound-push : (f : List Assignment × Assignment → List Fault) (as' : List Assignment) (a : Assignment) → sound f (as' ++ (a ∷ [])) ≡ sound f as' ++ cond (is_empty (f (as', a))) (a ∷ []) []
 sound-push f as' a =
     ap (λ xs. map (λ (x : List Assignment × Assignment). x.1) (filter (λ x. is_empty (f x)) xs)) (standing-push as' a)
     ∙ ap (map (λ (x : List Assignment × Assignment). x.1)) (filter-append (λ x. is_empty (f x)) (standing as') ((as', a) ∷ []))

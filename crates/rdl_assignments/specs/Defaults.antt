@@ -1,5 +1,5 @@
 -- Defaults by the place from which they are seen.
-use Rattle.std.specs.Prelude.{ℕ, ◌≤◌, List, length, take, slice_index_or}
+use Rattle.std.specs.Prelude.{ℕ, ◌≤◌, List, filter, length, nat_lt, take}
 use Rattle.rdl_values.specs.Bodies.{Body, Layer}
 use Rattle.rdl_layers.specs.Assignments.{defaults_before}
 use Rattle.rdl_layers.specs.Judged.{anywhere, failures_of, sound}
@@ -7,9 +7,13 @@ use Rattle.rdl_assignments.specs.Layers.{AreGiven}
 use Rattle.rdl_assignments.specs.declared.set.ValidAssignment.{ValidAssignment}
 use Rattle.rdl_assignments.specs.declared.defaults.Defaults.{Defaults}
 
+-- how many of these positions lie before one
+abbrev pub count_before : List ℕ → ℕ → ℕ
+count_before positions p = length (filter (λ k. nat_lt k p) positions)
+
 -- those before the item of a position
 abbrev pub before_in : Defaults → ℕ → List ValidAssignment
-before_in d p = take (slice_index_or d.counts.items p 0) d.given.items
+before_in d p = take (count_before d.positions.items p) d.given.items
 
 -- a body as it is seen from behind all of its items
 abbrev pub whole : Body → Layer

@@ -32,8 +32,8 @@ impl AssignedProps {
         }
     }
 
-    // Whether the property is one of them.
-    fn has(&self, prop: Prop) -> bool
+    /// Whether the property is one of them.
+    pub(crate) fn has(&self, prop: Prop) -> bool
         ensures { result ≡ list_any (same_prop prop) self.now.props.items }
     {
         self.props.iter().any(|other| prop == *other)

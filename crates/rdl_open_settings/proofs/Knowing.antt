@@ -194,7 +194,7 @@ found_again e tree x y before after same h =
 -- Bodies that can be judged.
 
 pub root_judged : (e : Elab) (tree : OpenTree) → IsOpenTree e tree → CanJudge tree.bodies 0
-root_judged e tree open_ = record { in_order = open_.in_order; shown = root e.source.now; open_ = open_.root_; distinct = subst (AreDistinct []) (sym (names_bound [] [] e.source.now.items.now)) tt }
+root_judged e tree open_ = record { in_order = open_.in_order; texts = open_.texts; shown = root e.source.now; open_ = open_.root_; distinct = subst (AreDistinct []) (sym (names_bound [] [] e.source.now.items.now)) tt }
 
 node-distinct : (n : Instance) → bound_of n.use_ n.closure ≡ Ok n.bound → AreDistinct [] (body n).names.bound
 node-distinct n h = subst (AreDistinct []) (sym (names_bound (around n.closure.scope) n.bound n.closure.def.items.now)) (bound_distinct n.use_ n.closure n.bound h)
@@ -228,13 +228,13 @@ nth-bound e t (o ∷ os) (n ∷ ns) (suc i) d l h g = nth-bound e t os ns i d (o
 pub node_judged : (e : Elab) (tree : OpenTree) (os : List Spot) (i : ℕ) (d : Spot) → IsOpenTree e tree → os ≡ tree.spots.items → i < length os → CanJudge tree.bodies (get_or os i d).body
 node_judged e tree os i d open_ same l =
     let h = nth-bound e tree.bodies os (nodes_of e) i d l (subst (λ ps. AreSpots e tree.bodies ps (nodes_of e)) (sym same) open_.nodes_) (all-bound _ e.source.now) in
-    record { in_order = open_.in_order; shown = body h.0; open_ = h.1; distinct = node-distinct h.0 h.2 }
+    record { in_order = open_.in_order; texts = open_.texts; shown = body h.0; open_ = h.1; distinct = node-distinct h.0 h.2 }
 
 pub can_read : (t : Bodies) (k : ℕ) (x : Body) → CanJudge t k → slice_get t.list.items k ≡ Some x → CanRead t x
 can_read t k x can at =
     let both : Some can.open_.open_ ≡ Some x = sym can.open_.here ∙ at in
     let same : can.open_.open_ ≡ x = cc in
-    record { in_order = can.in_order k x at; shown = can.shown; open_ = subst (λ y. IsOpenAs t y can.shown) same can.open_.is; distinct = can.distinct }
+    record { in_order = can.in_order k x at; texts = can.texts; number = k; listed = at; shown = can.shown; open_ = subst (λ y. IsOpenAs t y can.shown) same can.open_.is; distinct = can.distinct }
 
 -- The names of a body, and those round it.
 

@@ -1,3 +1,4 @@
+mod Further
 mod Knowing
 mod Numbered
 mod Own

@@ -23,6 +23,7 @@ use Rattle.rdl_bodies.specs.Kept.{AreDistinct}
 use Rattle.rdl_bodies.specs.Sited.{IsOpenAs}
 use Rattle.rdl_bodies.specs.declared.bodies.Bodies.{Bodies}
 use Rattle.rdl_bodies.specs.declared.bodies.Body.{Body}
+use Rattle.rdl_bodies.specs.Alike.{ShareTexts}
 use Rattle.rdl_open_bodies.specs.Spots.{IsOpenAt}
 use Rattle.rdl_open_bodies.specs.declared.spots.OpenTree.{OpenTree}
 use Rattle.rdl_open_settings.specs.declared.layers.Layers.{Layers}
@@ -40,6 +41,7 @@ of_layers b = of_kind b.kind b ++ all_failures (failures_of anywhere) (defaults 
 -- Bodies of this number, whose parameters have different names, are open.
 pub record CanJudge (t : Bodies) (k : ℕ) : Type 0 where
   pub in_order : (j : ℕ) (x : Body) → slice_get t.list.items j ≡ Some x → IsInOrder x.items.now
+  pub texts : ShareTexts t
   pub shown : values.Body
   pub open_ : IsOpenAt t k shown
   pub distinct : AreDistinct [] shown.names.bound
@@ -47,6 +49,9 @@ pub record CanJudge (t : Bodies) (k : ℕ) : Type 0 where
 -- So is this one.
 pub record CanRead (t : Bodies) (x : Body) : Type 0 where
   pub in_order : IsInOrder x.items.now
+  pub texts : ShareTexts t
+  pub number : ℕ
+  pub listed : slice_get t.list.items number ≡ Some x
   pub shown : values.Body
   pub open_ : IsOpenAs t x shown
   pub distinct : AreDistinct [] shown.names.bound
@@ -60,7 +65,7 @@ AreLocals (Some k) gs b = AreGiven 0 gs (sound (failures_of (λ p. is_legal p k)
 pub record IsLayersOf (l : Layers) (b : values.Body) : Type 0 where
   pub locals_are : AreLocals b.kind l.locals.items b
   pub defaults_are : AreDefaults l.defaults 0 b
-  pub dynamics_are : AreWritten l.dynamics.items b.items
+  pub dynamics_are : AreWritten l.dynamics.value.items b.items
 
 -- what is found under the number of a body
 abbrev pub layers_at : LayerTable → ℕ → Option Layers

@@ -1,2 +1,3 @@
 pub mod Completed
 pub mod Layered
+pub mod Texts

@@ -18,14 +18,27 @@ use rdl_scopes::Outer;
 use rdl_tree::{Item, Kind};
 use rdl_values::Chain;
 use std::alloc::Global;
+use std::rc::Rc;
 
 /// What the assignments of a body give that fail no rule: those to its nodes, in text order, and its defaults. Beside them the dynamic
-/// assignments among its items, as they are written.
+/// assignments among its items, as they are written, which all bodies of a text share.
 #[derive(Drop)]
 pub struct Layers<'a> {
     pub locals: Vec<ValidAssignment<'a>>,
     pub defaults: Defaults<'a>,
-    pub dynamics: Vec<Written<'a>>,
+    pub(crate) dynamics: Rc<Vec<Written<'a>>>,
+}
+
+impl<'a> Layers<'a> {
+    ghost use Rattle.std.specs.Prelude.{◌≡◌};
+
+    /// The dynamic assignments, in text order.
+    pub fn dynamics(&self) -> &[Written<'a>]
+        ensures { result.now ≡ self.now.dynamics.value.items }
+    {
+        let list = &*self.dynamics;
+        list.as_slice()
+    }
 }
 
 // The assignments of a body to its nodes, of which the root has none.
@@ -63,8 +76,8 @@ fn rest_of<'n>(numbers: &'n [usize]) -> &'n [usize]
     }
 }
 
-// The assignments to the entries of a body's enumerations.
-fn enums_of<'a>(
+/// Puts in the failures of the assignments to the entries of a body's enumerations.
+pub(crate) fn enums_of<'a>(
     alloc: Global,
     arena: &'a Bump,
     bodies: &Bodies<'_, 'a>,
@@ -111,7 +124,8 @@ pub(crate) fn layers_of<'a>(
     let locals = locals_of(alloc, body.items, body.kind, &visible, failures)?;
     let defaults = judge_defaults(alloc, body.items, 0, &visible, failures)?;
     enums_of(alloc, arena, bodies, body, failures)?;
-    let dynamics = written_among(alloc, body.items)?;
+    let written = written_among(alloc, body.items)?;
+    let dynamics = Rc::new(alloc, written)?;
     Ok(Layers {
         locals,
         defaults,

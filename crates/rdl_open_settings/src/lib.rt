@@ -2,9 +2,11 @@
 #![tactic(auto)]
 
 mod layers;
+mod live;
 mod node;
 mod rounds;
 mod table;
+mod texts;
 
 pub use layers::Layers;
 pub use node::complete_node;

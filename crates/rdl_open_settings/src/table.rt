@@ -5,7 +5,8 @@ ghost use Rattle.rdl_tree.specs.declared.node.Elab.{Elab};
 ghost use Rattle.rdl_open_bodies.specs.Spots.{IsOpenTree};
 ghost use Rattle.rdl_open_settings.specs.Layered.{AreLayersOf};
 
-use crate::layers::{Layers, layers_of};
+use crate::layers::Layers;
+use crate::texts::JudgedTexts;
 use bumpalo::Bump;
 use indexmap::IndexMap;
 use rb_base::NoMemory;
@@ -26,6 +27,7 @@ impl<'a> LayerTable<'a> {
     ghost use Rattle.rdl_values.specs.Bodies.{Body as BodyOf};
     ghost use Rattle.rdl_open_bodies.specs.Spots.{IsOpenAt};
     ghost use Rattle.rdl_open_settings.specs.Layered.{AreLayers, CanJudge, IsKnown, layers_at};
+    ghost use Rattle.rdl_open_settings.specs.Texts.{AreTexts};
 
     /// What the assignments of the body of a number give.
     pub fn find(&self, number: usize) -> Option<&Layers<'a>>
@@ -41,11 +43,14 @@ impl<'a> LayerTable<'a> {
         arena: &'a Bump,
         bodies: &Bodies<'_, 'a>,
         number: usize,
+        texts: &mut JudgedTexts<'a>,
         failures: &mut Failures,
     ) -> Result<(), NoMemory>
         requires kept { AreLayers bodies.now failures.old self.old }
+        requires texts { AreTexts bodies.now failures.old texts.old }
         requires some { CanJudge bodies.now number }
-        ensures { OnOk result ((b : BodyOf) → IsOpenAt bodies.now number b → IsKnown bodies.now self.old self.new failures.old failures.new number b) }
+        ensures texts { OnOk result (AreTexts bodies.now failures.new texts.new) }
+        ensures known { OnOk result ((b : BodyOf) → IsOpenAt bodies.now number b → IsKnown bodies.now self.old self.new failures.old failures.new number b) }
     {
         if self.find(number).is_some() {
             return Ok(());
@@ -53,7 +58,7 @@ impl<'a> LayerTable<'a> {
         let Some(body) = bodies.body(number) else {
             return Ok(());
         };
-        let layers = layers_of(alloc, arena, bodies, &body, failures)?;
+        let layers = texts.judge(alloc, arena, bodies, &body, failures)?;
         self.list.insert(number, layers)?;
         Ok(())
     }
@@ -81,9 +86,10 @@ pub fn judge_layers<'a>(
     let mut table = LayerTable {
         list: IndexMap::with_capacity(alloc, bodies.tables().len())?,
     };
-    table.judge(alloc, arena, bodies, 0, failures)?;
+    let mut texts = JudgedTexts::new(alloc);
+    table.judge(alloc, arena, bodies, 0, &mut texts, failures)?;
     for spot in &tree.spots {
-        table.judge(alloc, arena, bodies, spot.body, failures)?;
+        table.judge(alloc, arena, bodies, spot.body, &mut texts, failures)?;
     }
     table.fit();
     Ok(table)

@@ -199,7 +199,7 @@ pub own_is : (t : Bodies) (k : ℕ) (x : Body) (b : values.Body) → IsOpenAt t 
 own_is t k x b h at = let both : Some h.open_ ≡ Some x = sym h.here ∙ at in let same : h.open_ ≡ x = cc in subst (λ y. IsOpenAs t y b) same h.is
 
 -- The dynamic assignments of a body are found with its layers.
-pub written_found : (t : Bodies) (held : List Fault) (x : LayerTable) (k : ℕ) (l : Layers) (b : values.Body) → AreLayers t held x → layers_at x k ≡ Some l → IsOpenAt t k b → AreWritten l.dynamics.items b.items
+pub written_found : (t : Bodies) (held : List Fault) (x : LayerTable) (k : ℕ) (l : Layers) (b : values.Body) → AreLayers t held x → layers_at x k ≡ Some l → IsOpenAt t k b → AreWritten l.dynamics.value.items b.items
 written_found t held x k l b known here open_ = (known.known k l here b open_).1.dynamics_are
 
 pub no_layers : (x : LayerTable) (k : ℕ) → HasLayers x k → layers_at x k ≡ None → ⊥

@@ -90,7 +90,7 @@ all-quiet e t held x (o ∷ os) (n ∷ ns) known spots has none =
     let layers = has.0 in
     let own = left-false (has_dynamics (layers_at x o.body)) (list_any (λ p. has_dynamics (layers_at x p.body)) os) none in
     let rest = right-false (has_dynamics (layers_at x o.body)) (list_any (λ p. has_dynamics (layers_at x p.body)) os) none in (
-      none-written (body n) layers.0.dynamics.items (written_found t held x o.body layers.0 (body n) known layers.1 spots.0.own) (sym (ap has_dynamics layers.1) ∙ own),
+      none-written (body n) layers.0.dynamics.value.items (written_found t held x o.body layers.0 (body n) known layers.1 spots.0.own) (sym (ap has_dynamics layers.1) ∙ own),
       all-quiet e t held x os ns known spots.1 has.1 rest,
     )
 

@@ -39,7 +39,7 @@ of_dynamics n = all_failures (failures_of_dynamic (nested n)) (dynamics (body n)
 -- whether what the assignments of a body give has dynamic ones
 abbrev pub has_dynamics : Option Layers → Bool
 has_dynamics None = false
-has_dynamics (Some l) = not (length l.dynamics.items == 0)
+has_dynamics (Some l) = not (length l.dynamics.value.items == 0)
 
 -- The dynamic assignments in the body of a node were judged, and what they assign was put behind the entries of nodes.
 pub record IsAssigned (e : Elab) (n : Instance) (old new : List (Vec PropSetting Global)) (before after : List Fault) : Type 0 where

@@ -73,7 +73,7 @@ fn assign<'a>(
         rows,
         contents,
         row.node.id,
-        &found.dynamics,
+        found.dynamics(),
         &visible,
         entries,
         failures,
@@ -86,7 +86,7 @@ fn assigns_below(layers: &LayerTable, body: usize) -> bool
     ensures { result ≡ has_dynamics (layers_at layers.now body) }
 {
     match layers.find(body) {
-        Some(found) => !found.dynamics.is_empty(),
+        Some(found) => !found.dynamics().is_empty(),
         None => false,
     }
 }

@@ -1,36 +1,41 @@
-use Rattle.std.proofs.Common.{◌≡◌, ◌∙◌, ℕ, ◌≤◌, List, length, get_or, take, flat_map, sym, ap, subst, arith}
-use Rattle.rdl_tree.specs.declared.item.Item.{Item}
-use Rattle.rdl_values.specs.Bodies.{standing}
-use Rattle.rdl_layers.specs.Assignments.{default_in, defaults_before}
-use Rattle.rdl_layers.specs.Judged.{anywhere, failures_of, sound}
-use Rattle.rdl_assignments.specs.Defaults.{seen_behind, whole}
-use Rattle.rdl_assignments.specs.Layers.{AreGiven}
-use Rattle.rdl_assignments.proofs.Behind.{counted_more, counts_more, given-length, given_behind}
+use Rattle.std.proofs.Common.{◌≡◌, ◌∙◌, ◌+◌, ◌∷◌, length, take, flat_map, sym, subst, arith}
+use Rattle.std.proofs.lemmas.List.{take_all}
+use Rattle.rdl_values.specs.Bodies.{Body, around, standing}
+use Rattle.rdl_failures.specs.Shown.{IsShown}
+use Rattle.rdl_layers.specs.Assignments.{default_in}
+use Rattle.rdl_layers.specs.Judged.{anywhere, failures_of}
+use Rattle.rdl_assignments.specs.Defaults.{whole}
+use Rattle.rdl_assignments.specs.Layers.{IsLayer}
+use Rattle.rdl_assignments.proofs.Behind.{given-length}
+use Rattle.rdl_assignments.proofs.Counted.{AreCounted, counted_next, counted_none, given_before}
 use Rattle.rdl_assignments.proofs.Reading.{items_all, locals_more}
 use Rattle.rdl_assignments.proofs.defaults.judge_defaults.Goals as goal
 
-pub loop-item-init : goal.loop-item-init
-loop-item-init c = record {
-  listed = ap length c.in_ok-counts.ensures.items;
-  counted = λ b shown p l. absurd (omega (arith, l));
+pub loop-position-init : goal.loop-position-init
+loop-position-init c = record {
+  counted = λ b shown. counted_none (failures_of anywhere) (default_in (whole b) b.outer) c.new-positions.result.items c.new-positions.ensures.items;
   layer = λ b shown. c.in_ok-layer.ensures anywhere c.args.body c.args.failures.now;
 }
 
-pub loop-item-preserved : goal.loop-item-preserved
-loop-item-preserved c = record {
-  listed = counts_more c.loop-item.counts.items c.push.new.self.items c.len.result c.loop-item.item-index c.in_ok-push.ensures.items c.loop-item.invariant.listed;
-  counted = λ b shown. counted_more c.loop-item.counts.items c.push.new.self.items c.len.result c.loop-item.item-index (λ p. length (sound (failures_of anywhere) (flat_map (default_in (whole b) b.outer) (standing (take p c.args.items.now))))) c.in_ok-push.ensures.items c.loop-item.invariant.listed (c.loop-item.invariant.counted b shown) (let o = c.loop-item.layer.given.ok.0 in let e : c.len.result ≡ length c.loop-item.layer.given.items = omega (arith, o, c.len.ensures) in e ∙ given-length c.args.body c.loop-item.layer.given.items _ (c.loop-item.invariant.layer b shown).given);
-  layer = λ b shown. locals_more anywhere c.args.body c.read_default.new.layer c.args.failures.now c.read_default.new.failures (default_in (whole b) b.outer) c.args.items.now c.loop-item.item-index c.item-item.result c.loop-item-test.true c.item-item.is (c.in_ok-read_default.ensures c.args.failures.now _ (whole b) b.outer _ shown (c.loop-item.invariant.layer b shown));
-}
+pub loop-position-preserved : goal.loop-position-preserved
+loop-position-preserved c =
+    let k = c.loop-position.position in
+    let items = c.args.items.now in
+    let y = c.read_default.new.layer in
+    let layer : (b : Body) → IsShown c.args.visible.now (b.names ∷ around b.outer) → IsLayer anywhere c.args.body y c.args.failures.now c.read_default.new.failures (flat_map (default_in (whole b) b.outer) (standing (take (k + 1) items))) = λ b shown. locals_more anywhere c.args.body y c.args.failures.now c.read_default.new.failures (default_in (whole b) b.outer) items k c.index-items-position.result c.loop-position-test.true c.index-items-position.is (c.in_ok-read_default.ensures c.args.failures.now _ (whole b) b.outer _ shown (c.loop-position.invariant.layer b shown)) in
+    record {
+      counted = λ b shown. counted_next (failures_of anywhere) (default_in (whole b) b.outer) c.loop-position.positions.items c.fill.new.positions.items items k c.index-items-position.result c.len.result c.loop-position-test.true (c.loop-position.invariant.counted b shown)
+          (let o = y.given.ok.0 in let e : c.len.result ≡ length y.given.items = omega (arith, o, c.len.ensures) in e ∙ given-length c.args.body y.given.items _ (layer b shown).given) c.in_ok-fill.ensures;
+      layer = layer;
+    }
+
+pub returns-clause-noted : goal.returns-clause-noted
+returns-clause-noted c = λ b e shown. (items_all anywhere c.args.body c.loop-position.layer c.args.failures.now c.loop-position.failures (default_in (whole b) b.outer) c.args.items.now b.items c.loop-position.position c.loop-position-test.false e (c.loop-position.invariant.layer b shown)).noted
 
 pub returns-clause-given : goal.returns-clause-given
 returns-clause-given c = λ b e shown.
-    let gs = c.loop-item.layer.given.items in
-    let f = λ (xs : List Item) (p : ℕ). length (sound (failures_of anywhere) (flat_map (default_in (whole b) b.outer) (standing (take p xs)))) in
-    let at_end = items_all anywhere c.args.body c.loop-item.layer c.args.failures.now c.loop-item.failures (default_in (whole b) b.outer) c.args.items.now b.items c.loop-item.item-index c.loop-item-test.false e (c.loop-item.invariant.layer b shown) in
-    let counted = counted_more c.loop-item.counts.items c.push-2.new.self.items c.len-2.result c.loop-item.item-index (f c.args.items.now) c.in_ok-push-2.ensures.items c.loop-item.invariant.listed (c.loop-item.invariant.counted b shown) (let o = c.loop-item.layer.given.ok.0 in let e : c.len-2.result ≡ length c.loop-item.layer.given.items = omega (arith, o, c.len-2.ensures) in e ∙ given-length c.args.body c.loop-item.layer.given.items _ (c.loop-item.invariant.layer b shown).given) in
-    record {
-      seen = λ p l.
-          let below : p ≤ length c.args.items.now = subst (λ xs. p ≤ length xs) e l in
-          subst (λ hs. AreGiven c.args.body hs (sound (failures_of anywhere) (defaults_before (seen_behind b p) b.outer))) (sym (c.counted.ensures p)) (given_behind (failures_of anywhere) c.args.body gs (default_in (whole b) b.outer) b.items p (get_or c.push-2.new.self.items p 0) at_end.given (counted p (let k = c.loop-item-test.false in omega (arith, below, k)) ∙ ap (λ xs. f xs p) (sym e)));
-    }
+    let f = failures_of anywhere in
+    let g = default_in (whole b) b.outer in
+    let at_end = items_all anywhere c.args.body c.loop-position.layer c.args.failures.now c.loop-position.failures g c.args.items.now b.items c.loop-position.position c.loop-position-test.false e (c.loop-position.invariant.layer b shown) in
+    let counted = subst (AreCounted f g c.loop-position.positions.items) (take_all c.loop-position.position c.args.items.now c.loop-position-test.false ∙ sym e) (c.loop-position.invariant.counted b shown) in
+    record { seen = λ p l. given_before f g c.args.body c.loop-position.positions.items c.loop-position.layer.given.items b.items p counted at_end.given }

@@ -28,5 +28,5 @@ returns-clause-given c = λ b h.
     record {
       locals_are = subst (λ k. AreLocals k c.in_ok-locals.locals.items b) (sym h.kind_is) (c.in_ok-locals.ensures.given b h.items_are h.kind_is shown);
       defaults_are = c.in_ok-defaults.ensures.given b h.items_are shown;
-      dynamics_are = subst (AreWritten c.in_ok-dynamics.dynamics.items) (sym h.items_are) c.in_ok-dynamics.ensures;
+      dynamics_are = subst (λ ws. AreWritten ws b.items) (sym (ap (λ v. v.items) c.in_ok-dynamics.ensures.ok)) (subst (AreWritten c.in_ok-written.written.items) (sym h.items_are) c.in_ok-written.ensures);
     }

@@ -16,7 +16,7 @@ returns c = λ e n held rows contents known has at spot.
     let own = own_is t c.args.spot.now.body x (body n) spot.own (sym c.body.ensures ∙ c.in-Some.is) in
     let shown = subst (λ ts. IsAlike (chained ts x.numbers.now) (around_body n)) (sym c.tables.ensures) (open_alike t x (body n) own) in
     let listed = written_found t held c.args.layers.now c.args.spot.now.body c.in-Some-find.found.now (body n) known (sym c.find.ensures ∙ ap option_copied c.in-Some-find.is) spot.own in
-    let written = subst (λ ws. AreWritten ws (body n).items) (sym c.deref.ensures.value) listed in
+    let written = subst (λ ws. AreWritten ws (body n).items) (sym c.dynamics.ensures) listed in
     record {
       noted = c.in_ok-judge_dynamics.ensures.noted e n rows contents at written shown;
       pushed = c.in_ok-judge_dynamics.ensures.pushed e n rows contents at written shown;
